@@ -1,0 +1,5 @@
+pub mod FirstLaws
+pub mod FirstLemmas
+pub mod OutsideLemmas
+pub mod ReadFirst
+pub mod TextLemmas
