@@ -1,0 +1,11 @@
+-- Which command the words behind the program's name ask for.
+use Rattle.std.specs.Prelude.{List, [], ◌∷◌, ℕ, Option, Some, None, codes, if◌then◌else◌}
+use Rattle.std.specs.Str.{bytes_eq}
+use Rattle.anna_run.specs.declared.words.Command.{Command}
+use Rattle.anna_run.specs.declared.words.Command.TheVariants.{Run}
+
+-- the one word `run`
+abbrev pub command_of : List (List ℕ) → Option Command
+command_of [] = None
+command_of (word ∷ []) = if bytes_eq word (codes "run") then Some Run else None
+command_of (word ∷ next ∷ words) = None

@@ -1,0 +1,20 @@
+//! What is asked for by the words behind the program's name.
+ghost use Rattle.std.specs.Prelude.{◌≡◌, map, string_bytes};
+ghost use Rattle.anna_run.specs.Words.{command_of};
+
+/// What the program can be asked for.
+#[derive(Clone, Copy, Debug, PartialEq, Eq)]
+pub enum Command {
+    /// Run the script that comes in.
+    Run,
+}
+
+/// The command that the words name, where they are of an accepted form: `run`.
+pub fn read_words(words: &[String]) -> Option<Command>
+    ensures { result ≡ command_of (map string_bytes words.now) }
+{
+    match words {
+        [word] if word.as_str() == "run" => Some(Command::Run),
+        _ => None,
+    }
+}
