@@ -1,7 +1,7 @@
 -- The laws of the greater of two numbers.
 use Rattle.std.specs.Prelude.{◌<◌, ◌^◌, max, ⊤}
 use Rattle.std.proofs.Common.{arith}
-use Rattle.lattice_laws.specs.Lattice.{LatticeLaws}
+use Rattle.lattice_laws.specs.Lattice.{LatticeLaws, Associative}
 
 pub max_laws : LatticeLaws (λ n. n < 2 ^ 64) (λ _ _. ⊤) max
 max_laws = record {
@@ -12,3 +12,7 @@ max_laws = record {
   commutative = λ a b va vb h. omega arith;
   idempotent = λ a va. omega arith;
 }
+
+-- how the greatest of three is found does not matter
+pub max_associative : Associative (λ n. n < 2 ^ 64) (λ _ _. ⊤) max
+max_associative a b c va vb vc h i = omega arith

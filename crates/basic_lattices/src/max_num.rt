@@ -1,6 +1,6 @@
 //! The greatest number seen.
 ghost use Rattle.std.specs.Prelude.{◌<◌, ◌^◌, ℕ, max, ⊤};
-ghost use Rattle.basic_lattices.specs.MaxNumLaws.{max_laws};
+ghost use Rattle.basic_lattices.specs.MaxNumLaws.{max_laws, max_associative};
 
 use lattice_laws::{AllFit, Lattice, NoMemory};
 
@@ -38,6 +38,8 @@ impl Lattice for MaxNum {
     }
 
     ghost laws = { max_laws };
+
+    ghost associative = { max_associative };
 }
 
 impl AllFit for MaxNum {
@@ -47,7 +49,7 @@ impl AllFit for MaxNum {
 #[cfg(test)]
 mod tests {
     use super::*;
-    use lattice_laws::Maybe;
+    use lattice_laws::{Maybe, entries, join_all};
     use std::test::Fail;
 
     #[test]
@@ -75,5 +77,45 @@ mod tests {
             assert!(rt; matches!(&shown, Maybe::Is(number) if number.0 == greatest));
         }
         Ok(())
+    }
+
+    #[test]
+    fn joins_a_list(rt: HostRuntime) -> Result<(), Fail> {
+        let joined = join_all(&MaxNum(4), [MaxNum(9), MaxNum(2)].as_slice())?;
+        assert_eq!(rt; joined, MaxNum(9));
+        assert_eq!(rt; join_all(&MaxNum(4), &[])?, MaxNum(4));
+        Ok(())
+    }
+
+    #[test]
+    fn maps_of_numbers_join_key_by_key(rt: HostRuntime) -> Result<(), Fail> {
+        let mut mine = Vec::new(rt.alloc());
+        entries::raise_entry(&mut mine, 7, MaxNum(1))?;
+        entries::raise_entry(&mut mine, 2, MaxNum(5))?;
+        entries::raise_entry(&mut mine, 7, MaxNum(9))?;
+        entries::raise_entry(&mut mine, 4, MaxNum(4))?;
+        assert!(rt; shows(&mine, [(2, 5), (4, 4), (7, 9)].as_slice()));
+        let mut theirs = Vec::new(rt.alloc());
+        entries::raise_entry(&mut theirs, 9, MaxNum(3))?;
+        entries::raise_entry(&mut theirs, 4, MaxNum(6))?;
+        entries::raise_entry(&mut theirs, 7, MaxNum(8))?;
+        entries::raise_entry(&mut theirs, 1, MaxNum(1))?;
+        assert!(rt; !entries::at_most_entries(&mine, &theirs));
+        let joined = entries::join_entries(rt.alloc(), &mine, &theirs)?;
+        assert!(rt; shows(&joined, [(1, 1), (2, 5), (4, 6), (7, 9), (9, 3)].as_slice()));
+        assert!(rt; entries::at_most_entries(&mine, &joined));
+        assert!(rt; entries::at_most_entries(&theirs, &joined));
+        assert!(rt; !entries::at_most_entries(&joined, &mine));
+        let copies = entries::copy_entries(rt.alloc(), &joined)?;
+        assert!(rt; shows(&copies, [(1, 1), (2, 5), (4, 6), (7, 9), (9, 3)].as_slice()));
+        assert!(rt; matches!(entries::find_entry(&joined, &4), Some(number) if number.0 == 6));
+        assert!(rt; entries::find_entry(&joined, &5).is_none());
+        Ok(())
+    }
+
+    fn shows(entries: &[(u16, MaxNum)], wanted: &[(u16, u64)]) -> bool {
+        entries.len() == wanted.len()
+            && entries.iter().zip(wanted.iter()).all(|(entry, wanted)| entry.0 == wanted.0
+                && entry.1.0 == wanted.1)
     }
 }

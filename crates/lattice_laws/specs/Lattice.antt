@@ -13,3 +13,8 @@ pub record LatticeLaws {P : Type 0} (is_value : P → Type 0) (fits : P → P �
   pub commutative : (a b : P) → is_value a → is_value b → fits a b → joined a b ≡ joined b a
   -- what comes twice counts once
   pub idempotent : (a : P) → is_value a → joined a a ≡ a
+
+-- how merges are grouped does not matter
+abbrev pub Associative : {P : Type 0} → (P → Type 0) → (P → P → Type 0) → (P → P → P) → Type 0
+Associative {P} is_value fits joined =
+    (a b c : P) → is_value a → is_value b → is_value c → fits a b → fits b c → joined (joined a b) c ≡ joined a (joined b c)

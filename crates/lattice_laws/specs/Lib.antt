@@ -1,3 +1,11 @@
+pub mod Ascending
+pub mod Entries
+pub mod EntriesLaws
+pub mod Joins
+pub mod JoinsLaws
 pub mod Lattice
 pub mod Maybe
 pub mod MaybeLaws
+pub mod Merging
+pub mod Places
+pub mod Spelling

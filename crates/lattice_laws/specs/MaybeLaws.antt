@@ -1,7 +1,7 @@
 -- The laws of a lattice with a bottom added.
 use Rattle.std.specs.Prelude.{◌≡◌, Option, Some, None, ⊤, refl}
 use Rattle.std.proofs.Common.{ap}
-use Rattle.lattice_laws.specs.Lattice.{LatticeLaws}
+use Rattle.lattice_laws.specs.Lattice.{LatticeLaws, Associative}
 use Rattle.lattice_laws.specs.Maybe.{IsValue, joined_by}
 
 closed_by : {P : Type 0} {is_value : P → Type 0} {fits : P → P → Type 0} {joined : P → P → P} → LatticeLaws is_value fits joined → ((a b : P) → fits a b) → (a b : Option P) → IsValue is_value a → IsValue is_value b → IsValue is_value (joined_by joined a b)
@@ -29,3 +29,10 @@ maybe_laws laws all_fit = record {
   commutative = λ a b va vb h. commutes_by laws all_fit a b va vb;
   idempotent = λ a va. idempotent_by laws a va;
 }
+
+-- and how merges are grouped stays free
+pub maybe_associative : {P : Type 0} {is_value : P → Type 0} {fits : P → P → Type 0} (joined : P → P → P) → Associative is_value fits joined → ((a b : P) → fits a b) → Associative (IsValue is_value) (λ _ _. ⊤) (joined_by joined)
+maybe_associative joined associative all_fit None b c va vb vc h i = refl
+maybe_associative joined associative all_fit (Some a) None c va vb vc h i = refl
+maybe_associative joined associative all_fit (Some a) (Some b) None va vb vc h i = refl
+maybe_associative joined associative all_fit (Some a) (Some b) (Some c) va vb vc h i = ap Some (associative a b c va vb vc (all_fit a b) (all_fit b c))

@@ -1,6 +1,6 @@
 //! What a lattice is, and the one way in which a merge can fail.
 ghost use Rattle.std.specs.Prelude.{◌≡◌, ◌↔◌, IsTrue, OnOk, OnErr, IfOk};
-ghost use Rattle.lattice_laws.specs.Lattice.{LatticeLaws};
+ghost use Rattle.lattice_laws.specs.Lattice.{LatticeLaws, Associative};
 
 use std::alloc::{AllocError, AllocFailed};
 use std::fmt;
@@ -72,6 +72,10 @@ pub trait Lattice: Sized + Drop {
     /// `fits` is an equivalence among the values, the join of two values that fit is a value that
     /// fits both, and the join is commutative and idempotent.
     ghost laws: { LatticeLaws is_value fits joined };
+
+    /// How merges are grouped does not matter: a with b and then with c is a with what b and c
+    /// merge to.
+    ghost associative: { Associative is_value fits joined };
 }
 
 /// A lattice whose elements all merge with one another.

@@ -1,17 +1,33 @@
 //! The one idea that everything above rests on: values that merge.
 //!
 //! A value of the store is an element of a join semilattice. Replicas merge the values that they
-//! have, and because a merge is commutative and idempotent, which replica begins and how often the
-//! same update comes do not matter (Shapiro, Preguiça, Baquero, Zawirski 2011; Wu, Faleiro, Lin,
-//! Hellerstein 2018).
+//! have, and because a merge is commutative, idempotent and associative, which replica begins, how
+//! updates are grouped and how often the same one comes do not matter (Shapiro, Preguiça, Baquero,
+//! Zawirski 2011; Wu, Faleiro, Lin, Hellerstein 2018).
 //!
 //! [`Lattice`] says what a merge is and which laws it keeps. [`AllFit`] marks the lattices whose
-//! values all merge with one another, and [`Maybe`] adds a bottom to such a lattice. This crate
-//! stands on no other; it offers the words of `specs/Lattice.antt` to the layers above.
+//! values all merge with one another, and [`Maybe`] adds a bottom to such a lattice. [`join_all`]
+//! joins a list, and [`joins_by_members_alone`] says that neither order nor repetition changes what
+//! comes out. [`entries`] has maps from a [`MapKey`] to such values, joined key by key in one pass.
+//! [`Items`] is the list type of all fields that contracts see as lists, and [`test_spelling`] what
+//! names and words have in common.
+//!
+//! This crate stands on no other; it offers the words of `specs/Lattice.antt`, `specs/Joins.antt`
+//! and `specs/Entries.antt` to the layers above, with the laws that `specs/JoinsLaws.antt` and
+//! `specs/EntriesLaws.antt` prove of them.
 #![tactic(auto)]
 
+pub mod entries;
+mod items;
+mod joins;
 mod lattice;
+mod map_key;
 mod maybe;
+mod spelling;
 
+pub use items::Items;
+pub use joins::{join_all, joins_by_members_alone};
 pub use lattice::{AllFit, Lattice, NoMemory};
+pub use map_key::MapKey;
 pub use maybe::Maybe;
+pub use spelling::{Misspelled, is_spelling_byte, test_spelling};

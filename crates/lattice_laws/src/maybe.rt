@@ -1,7 +1,7 @@
 //! A lattice with a bottom added.
 ghost use Rattle.std.specs.Prelude.{Option, ⊤};
 ghost use Rattle.lattice_laws.specs.Maybe.{plain_of, IsValue, joined_by};
-ghost use Rattle.lattice_laws.specs.MaybeLaws.{maybe_laws};
+ghost use Rattle.lattice_laws.specs.MaybeLaws.{maybe_laws, maybe_associative};
 
 use crate::{AllFit, Lattice, NoMemory};
 
@@ -61,6 +61,8 @@ impl<L: AllFit> Lattice for Maybe<L> {
     }
 
     ghost laws = { maybe_laws L.laws L.all_fit };
+
+    ghost associative = { maybe_associative L.joined L.associative L.all_fit };
 }
 
 impl<L: AllFit> AllFit for Maybe<L> {

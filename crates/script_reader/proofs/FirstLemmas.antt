@@ -9,7 +9,9 @@ use Rattle.std.proofs.lemmas.List.Sums.{AllPass-from_list_all}
 use Rattle.std.proofs.lemmas.Bool.Decides.{nat_tests}
 use Rattle.std.proofs.lemmas.Str.Parse.{digit_at}
 use Rattle.std.proofs.lemmas.List.{length-append, get_or_default, append_cancel_left}
-use Rattle.script_reader.specs.Text.{words_of, is_blank, is_name_byte, IsName, IsNumber}
+use Rattle.script_reader.specs.Text.{words_of, is_blank, IsNumber}
+use Rattle.placement.specs.Name.{IsName}
+use Rattle.lattice_laws.specs.Spelling.{is_spelling_byte}
 use Rattle.script_reader.specs.FirstForm.{Script, IsLine, word, IsHeader, IsWorkers, IsKey, IsSession, IsEnd, IsCommand, AreCommands, MayFollow, IsTooMany, IsInOrder, IsAtFault}
 use Rattle.script_reader.specs.FirstDraft.{SaysCommands}
 use Rattle.script_reader.specs.declared.first.FirstLine.{FirstLine}
@@ -20,11 +22,11 @@ pub record IsWord (bytes : List ℕ) : Type 0 where
   pub some : 0 < length bytes
   pub whole : All (λ b. is_blank b ≡ false) bytes
 
-no_blank : (b : ℕ) → is_name_byte b ≡ true → is_blank b ≡ false
+no_blank : (b : ℕ) → is_spelling_byte b ≡ true → is_blank b ≡ false
 no_blank b h = grind (arith, nat_tests)
 
 pub name_is_word : (bytes : List ℕ) → IsName bytes → IsWord bytes
-name_is_word bytes name = record { some = omega (arith, name.some); whole = All-weaker _ _ no_blank bytes name.bytes }
+name_is_word bytes name = record { some = omega (arith, name.some); whole = All-weaker _ _ no_blank bytes name.allowed }
 
 digit_no_blank : (b : ℕ) → 48 ≤ b → is_blank b ≡ false
 digit_no_blank b h = grind (arith, nat_tests)

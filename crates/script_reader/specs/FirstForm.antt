@@ -1,7 +1,8 @@
 -- The form of a first script, over its lines, and what is refused.
 use Rattle.std.specs.Prelude.{◌≡◌, ℕ, ◌+◌, ◌<◌, ◌≤◌, ◌⊎◌, List, [], ◌∷◌, ◌++◌, Any, drop, length, slice_index_or, codes, Result, Ok, Err}
 use Rattle.std.specs.List.{join_with_byte}
-use Rattle.script_reader.specs.Text.{lines_of, words_of, IsName, IsNumber}
+use Rattle.script_reader.specs.Text.{lines_of, words_of, IsNumber}
+use Rattle.placement.specs.Name.{IsName}
 use Rattle.script_reader.specs.declared.first.FirstLine.{FirstLine}
 use Rattle.script_reader.specs.declared.first.FirstLine.TheVariants.{Put, Get}
 use Rattle.script_reader.specs.declared.first.FirstScript.{FirstScript}

@@ -1,7 +1,6 @@
 -- How bytes are read: lines, words, names and numbers.
 use Rattle.std.specs.Prelude.{◌≡◌, ℕ, ◌^◌, ◌<◌, ◌≤◌, Bool, ◌||◌, ◌==◌, nat_lt, if◌then◌else◌, List, [], ◌∷◌, filter, length}
-use Rattle.std.specs.List.{slice_split, onto_first, AllPass}
-use Rattle.std.specs.Char.{is_ascii_alphanumeric}
+use Rattle.std.specs.List.{slice_split, onto_first}
 use Rattle.std.specs.Str.Parse.{IsNumeral, digits_value}
 
 -- a line feed
@@ -20,16 +19,6 @@ is_blank b = (b == 32) || (b == 9)
 -- the words of a line: what stands between runs of spaces and tabs
 abbrev pub words_of : List ℕ → List (List ℕ)
 words_of line = filter (λ word. nat_lt 0 (length word)) (slice_split is_blank line)
-
--- the bytes of a name: A-Z a-z 0-9 _ . -
-abbrev pub is_name_byte : ℕ → Bool
-is_name_byte b = is_ascii_alphanumeric b || ((b == 95) || ((b == 46) || (b == 45)))
-
--- a name: 1 to 32 of these bytes
-pub record IsName (word : List ℕ) : Type 0 where
-  pub some : 1 ≤ length word
-  pub short : length word ≤ 32
-  pub bytes : AllPass is_name_byte word
 
 -- a number: one decimal digit or more, leading zeros among them, that say at most 18446744073709551615
 pub record IsNumber (word : List ℕ) (n : ℕ) : Type 0 where

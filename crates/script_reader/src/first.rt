@@ -1,6 +1,6 @@
 //! The first form of script: one worker, one session, one key of kind max.
 ghost use Rattle.std.specs.Prelude.{◌≡◌, ◌≢◌, ℕ, IfOk, IfErr, MatchOption, MatchResult};
-ghost use Rattle.script_reader.specs.Text.{IsName};
+ghost use Rattle.placement.specs.Name.{IsName};
 ghost use Rattle.script_reader.specs.FirstForm.{Script, seen, IsFirstScript, IsRefused, IsWhyNot, IsReadAs, IsRefusedAs, IsCommand};
 ghost use Rattle.script_reader.specs.declared.first.FirstLine.{FirstLine};
 ghost use Rattle.script_reader.specs.FirstDraft.{SaysNext, IsFaultBehind};

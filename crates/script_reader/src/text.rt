@@ -1,6 +1,9 @@
 //! Lines, words, names and numbers, as every form of script has them.
 ghost use Rattle.std.specs.Prelude.{◌≡◌, ◌≢◌, ◌<◌, ◌↔◌, ℕ, List, ◌∷◌, ◌++◌, IsTrue, MatchOption, length};
-ghost use Rattle.script_reader.specs.Text.{lines_of, IsName, IsNumber, is_name_byte as name_byte};
+ghost use Rattle.script_reader.specs.Text.{lines_of, IsNumber};
+ghost use Rattle.placement.specs.Name.{IsName};
+
+use lattice_laws::test_spelling;
 
 /// Cuts a text behind its first line: the line without its line feed, and the text after it.
 pub(crate) fn cut_line(text: &[u8]) -> (&[u8], &[u8])
@@ -18,13 +21,7 @@ pub(crate) fn cut_line(text: &[u8]) -> (&[u8], &[u8])
 pub(crate) fn is_name(word: &[u8]) -> bool
     ensures { IsTrue result ↔ IsName word.now }
 {
-    !word.is_empty() && word.len() <= 32 && word.iter().all(|b| is_name_byte(*b))
-}
-
-fn is_name_byte(b: u8) -> bool
-    ensures { result ≡ name_byte b }
-{
-    b.is_ascii_alphanumeric() || b == b'_' || b == b'.' || b == b'-'
+    test_spelling(word, 32).is_ok()
 }
 
 /// The number that a word writes, where it is one.

@@ -3,7 +3,7 @@ use Rattle.std.proofs.lemmas.Bool.Decides.{Decides-eqb}
 use Rattle.std.proofs.lemmas.List.{append_cancel_left, append_cancel_right}
 use Rattle.std.proofs.lemmas.Option.{MatchOption-at_none, MatchOption-at_some}
 use Rattle.std.proofs.lemmas.Slice.Eq.{strip_suffix_is}
-use Rattle.script_reader.specs.Text.{IsName}
+use Rattle.placement.specs.Name.{IsName}
 use Rattle.script_reader.proofs.text.name_between.Goals as goal
 
 pub returns-in_err-name : goal.returns-in_err-name

@@ -1,0 +1,5 @@
+pub mod ReplicaLemmas
+pub mod RingPoints
+pub mod RoundLemmas
+pub mod VectorCopies
+pub mod WorkersMet

@@ -1,0 +1,4 @@
+pub mod Config
+pub mod Hash
+pub mod Name
+pub mod Ring

@@ -1,0 +1,170 @@
+//! The placement of a config's keys.
+ghost use Rattle.std.specs.Prelude.{◌≡◌, ◌-◌, ◌≤◌, [], length, slice_index_or, IfOk, IsSorted};
+ghost use Rattle.placement.specs.Config.{IsValidConfig, IsPlacement, EachHasReplicas, replicas_on, home_of};
+ghost use Rattle.placement.specs.Ring.{point_cmp};
+
+use crate::ring::points_of_all;
+use crate::{Config, KeyPlace, Point, fnv1a64, walk};
+use lattice_laws::NoMemory;
+use std::alloc::Global;
+use std::marker::Model;
+
+/// Where each key of a config lives, worked out once. Contracts see the replicas of each key, in
+/// the order of the keys.
+#[derive(Debug, Drop)]
+pub struct Placement {
+    replicas: Vec<Vec<u16>>,
+}
+
+impl Model for Placement {
+    ghost use Rattle.std.specs.Prelude.{ℕ, ◌<◌, ◌≤◌, List, All, length, map};
+
+    ghost Value = { List (List ℕ) };
+
+    ghost view = { λ placement. map (λ replicas. replicas.items) placement.replicas.items };
+
+    ghost invariant = { λ placement. (length placement.replicas.items ≤ 128) × All (λ replicas. 0 < length replicas.items) placement.replicas.items };
+}
+
+impl Placement {
+    /// Works out where the keys of a valid config live.
+    pub fn build(alloc: Global, config: &Config) -> Result<Placement, NoMemory>
+        requires { IsValidConfig config.now }
+        ensures placed { IfOk result (IsPlacement config.now) }
+        ensures replicas { IfOk result (EachHasReplicas config.now config.now.keys) }
+        ensures keys { IfOk result (λ placement. length placement ≡ length config.now.keys) }
+    {
+        let ring = points_of_all(alloc, config.workers)?;
+        let mut replicas = Vec::new(alloc);
+        for key in config.keys.as_slice() {
+            replicas.push(replicas_of(alloc, &ring, config, key)?)?;
+        }
+        Ok(Placement { replicas })
+    }
+
+    /// The number of keys. Takes no memory.
+    pub fn keys(&self) -> u16
+        ensures keys { result ≡ length self.now }
+        ensures few { length self.now ≤ 128 }
+    {
+        self.replicas.len() as u16
+    }
+
+    /// The workers that hold a key, in order; the key is one of 1 to `keys()`. Takes no memory and
+    /// constant time.
+    pub fn replicas(&self, key: u16) -> &[u16]
+        requires some { 1 ≤ key }
+        requires known { key ≤ length self.now }
+        ensures replicas { result.now ≡ slice_index_or self.now (key - 1) [] }
+        ensures some { 1 ≤ length result.now }
+    {
+        &self.replicas[key as usize - 1]
+    }
+
+    /// The replica that takes a session's puts on a key: the replicas in turn, by the session's
+    /// number, which is at least 1. The key is one of 1 to `keys()`. Takes no memory and constant
+    /// time.
+    pub fn home(&self, session: u16, key: u16) -> u16
+        requires session_some { 1 ≤ session }
+        requires some { 1 ≤ key }
+        requires known { key ≤ length self.now }
+        ensures { result ≡ home_of (slice_index_or self.now (key - 1) []) session }
+    {
+        let replicas = &self.replicas[key as usize - 1];
+        replicas[(session as usize - 1) % replicas.len()]
+    }
+
+    /// An equal placement.
+    pub fn copy(&self) -> Result<Placement, NoMemory>
+        ensures { IfOk result (λ copy. copy ≡ self.now) }
+    {
+        let replicas = self.replicas.clone()?;
+        Ok(Placement { replicas })
+    }
+}
+
+/// The workers that hold a key: its pins, and where it has none the workers met from its hash
+/// onwards.
+fn replicas_of(
+    alloc: Global,
+    ring: &[Point],
+    config: &Config,
+    key: &KeyPlace,
+) -> Result<Vec<u16>, NoMemory>
+    requires { IsSorted point_cmp ring.now }
+    ensures { IfOk result (λ replicas. replicas.items ≡ replicas_on ring.now config.now key.now) }
+{
+    let pins = key.pins.as_slice();
+    if pins.is_empty() {
+        walk(alloc, ring, fnv1a64(key.name.as_bytes()), config.factor)
+    } else {
+        Ok(Vec::from_slice(alloc, pins)?)
+    }
+}
+
+#[cfg(test)]
+mod tests {
+    use super::*;
+    use crate::Name;
+    use lattice_laws::Items;
+    use std::test::Fail;
+
+    /// Two workers, and one key with pins.
+    fn pinned(alloc: Global) -> Result<Config, Fail>
+        ensures { IfOk result IsValidConfig }
+    {
+        let name = Name::of(alloc, b"a")?;
+        let pins = Items::new(vec![in alloc; 2, 1]?);
+        let keys = Items::new(vec![in alloc; KeyPlace { name, pins }]?);
+        Ok(Config {
+            workers: 2,
+            factor: 1,
+            keys,
+        })
+    }
+
+    /// A key without pins.
+    fn unpinned(alloc: Global, spelling: &[u8]) -> Result<KeyPlace, Fail>
+        ensures { IfOk result (λ key. key.pins ≡ []) }
+    {
+        let name = Name::of(alloc, spelling)?;
+        let pins = Items::new(Vec::new(alloc));
+        Ok(KeyPlace { name, pins })
+    }
+
+    /// Four workers, and three keys without pins.
+    fn all_unpinned(alloc: Global) -> Result<Config, Fail>
+        ensures { IfOk result IsValidConfig }
+    {
+        let first = unpinned(alloc, b"cart")?;
+        let second = unpinned(alloc, b"hits")?;
+        let third = unpinned(alloc, b"sale")?;
+        Ok(Config {
+            workers: 4,
+            factor: 3,
+            keys: Items::new(vec![in alloc; first, second, third]?),
+        })
+    }
+
+    #[test]
+    fn places_a_key_at_its_pins(rt: HostRuntime) -> Result<(), Fail> {
+        let placement = Placement::build(rt.alloc(), &pinned(rt.alloc())?)?.copy()?;
+        assert_eq!(rt; placement.keys(), 1);
+        assert_eq!(rt; placement.replicas(1), [2, 1].as_slice());
+        for (session, want) in [(1, 2), (2, 1), (3, 2)] {
+            assert_eq!(rt; placement.home(session, 1), want);
+        }
+        Ok(())
+    }
+
+    // The replicas were worked out apart from this code, from the published hash.
+    #[test]
+    fn places_keys_without_pins_by_the_ring(rt: HostRuntime) -> Result<(), Fail> {
+        let placement = Placement::build(rt.alloc(), &all_unpinned(rt.alloc())?)?;
+        assert_eq!(rt; placement.keys(), 3);
+        for (key, want) in [(1, [4, 1, 2]), (2, [3, 4, 1]), (3, [3, 4, 1])] {
+            assert_eq!(rt; placement.replicas(key), want.as_slice());
+        }
+        Ok(())
+    }
+}
