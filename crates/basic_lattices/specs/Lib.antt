@@ -1,1 +1,12 @@
+pub mod FlagLaws
+pub mod GreaterLaws
 pub mod MaxNumLaws
+pub mod MemberLaws
+pub mod PaperPair
+pub mod SeenPair
+pub mod Stamped
+pub mod StampedLaws
+pub mod TextSet
+pub mod TextSetLaws
+pub mod Word
+pub mod WordLaws

@@ -1,5 +1,5 @@
 -- Ends over memory: which calls of theirs fail.
-use Rattle.std.specs.Prelude.{ℕ, ◌+◌, ◌-◌, ◌^◌, min, List}
+use Rattle.std.specs.Prelude.{ℕ, ◌+◌, ◌-◌, ◌^◌, min, nat_le, if◌then◌else◌, List, ◌++◌, length, Option, Some, None}
 
 -- the number of the next call, from 1, at most 2 ^ 32 - 1
 abbrev pub next_call : ℕ → ℕ
@@ -13,6 +13,20 @@ raised faults = min (faults + 1) (2 ^ 64 - 1)
 pub record KeptBytes : Type 0 where
   pub bytes : List ℕ
   pub room : ℕ
+
+-- a sink that never fails: the bytes written, where it still tells them, and its room
+pub record BoundedSink : Type 0 where
+  pub written : Option (List ℕ)
+  pub room : ℕ
+
+-- From the first piece that does not fit nothing is told.
+abbrev pub told_within : ℕ → Option (List ℕ) → List ℕ → Option (List ℕ)
+told_within room None piece = None
+told_within room (Some bytes) piece = if nat_le (length bytes + length piece) room then Some (bytes ++ piece) else None
+
+-- the sink with one more piece
+abbrev pub with_piece : BoundedSink → List ℕ → BoundedSink
+with_piece sink piece = record { written = told_within sink.room sink.written piece; room = sink.room }
 
 -- the numbers of the calls that fail, how many calls there were, and how many faults
 pub record Faults : Type 0 where

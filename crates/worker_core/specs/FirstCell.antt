@@ -1,7 +1,6 @@
 -- What the cell of one key of kind max holds.
 use Rattle.std.specs.Prelude.{◌≡◌, ℕ, ◌≤◌, List, [], Option, Some, None, All, Contains, map, max, ◌⊎◌}
 use Rattle.lattice_laws.specs.Maybe.{joined_by}
-use Rattle.basic_lattices.specs.declared.max_num.MaxNum.{MaxNum}
 
 -- a put, with its number on the key, its Lamport number and its value
 pub record FirstPut : Type 0 where
@@ -14,9 +13,6 @@ pub record FirstCell : Type 0 where
   pub number : ℕ
   pub lamport : ℕ
   pub value : Option ℕ
-
-abbrev pub number_put : MaxNum → ℕ
-number_put number = number.0
 
 -- a cell with one more put: each part joined with the put's
 abbrev pub with_put : FirstCell → FirstPut → FirstCell

@@ -16,12 +16,12 @@ pub struct FirstWorker {
 }
 
 impl Model for FirstWorker {
-    ghost use Rattle.worker_core.specs.FirstCell.{FirstCell, number_put};
+    ghost use Rattle.worker_core.specs.FirstCell.{FirstCell};
     ghost use Rattle.lattice_laws.specs.Maybe.{plain_of};
 
     ghost Value = { FirstCell };
 
-    ghost view = { λ worker. record { number = worker.number.0; lamport = worker.lamport.0; value = plain_of number_put worker.value } };
+    ghost view = { λ worker. record { number = worker.number; lamport = worker.lamport; value = plain_of (λ n. n) worker.value } };
 }
 
 impl FirstWorker {

@@ -2,7 +2,7 @@
 //! their bytes, so a contract about them says what was read and written.
 ghost use Rattle.std.specs.Prelude.{◌≡◌, ◌≢◌, ℕ, ◌+◌, ◌-◌, ◌^◌, ◌<◌, ◌≤◌, ◌↔◌, ◌⊎◌, min, List, [], ◌++◌, Some, Ok, IsTrue, IsErr, IfOk, IfSome, OnOk, OnErr, MatchBool, Contains, take, drop, length, if◌then◌else◌, codes};
 ghost use Rattle.script_reader.specs.Outside.{Takes, Grew, HasCause, Rose};
-ghost use Rattle.script_reader.specs.Memory.{next_call, raised, new_plan};
+ghost use Rattle.script_reader.specs.Memory.{next_call, raised, new_plan, with_piece};
 
 use super::{Failed, Sink, Source};
 use lattice_laws::NoMemory;
@@ -63,7 +63,7 @@ impl Source for SureSource {
 }
 
 /// A sink that never fails, with room for so many bytes. From the first piece that does not fit it
-/// keeps no more, and no longer tells its bytes. Contracts see what it tells.
+/// keeps no more, and no longer tells its bytes. Contracts see what it tells, and its room.
 #[derive(Drop)]
 pub struct SureSink {
     kept: Kept,
@@ -71,17 +71,18 @@ pub struct SureSink {
 }
 
 impl Model for SureSink {
-    ghost use Rattle.std.specs.Prelude.{Option, Some, None, List, ℕ, if◌then◌else◌};
+    ghost use Rattle.std.specs.Prelude.{Some, None, if◌then◌else◌};
+    ghost use Rattle.script_reader.specs.Memory.{BoundedSink};
 
-    ghost Value = { Option (List ℕ) };
+    ghost Value = { BoundedSink };
 
-    ghost view = { λ sink. if sink.tells then Some sink.kept.bytes else None };
+    ghost view = { λ sink. record { written = if sink.tells then Some sink.kept.bytes else None; room = sink.kept.room } };
 }
 
 impl SureSink {
     /// Takes its room, in bytes, here and never again.
     pub fn new(alloc: Global, room: usize) -> Result<SureSink, NoMemory>
-        ensures { IfOk result (λ sink. sink ≡ Some []) }
+        ensures { IfOk result (λ sink. sink ≡ record { written = Some []; room = room }) }
     {
         Ok(SureSink {
             kept: Kept::new(alloc, room)?,
@@ -91,14 +92,14 @@ impl SureSink {
 
     /// The bytes that it keeps: all that was written, as long as it tells them. Takes no memory.
     pub fn written(&self) -> &[u8]
-        ensures { IfSome self.now (λ written. result.now ≡ written) }
+        ensures { IfSome self.now.written (λ written. result.now ≡ written) }
     {
         self.kept.bytes()
     }
 }
 
 impl Sink for SureSink {
-    ghost written = { λ sink. sink };
+    ghost written = { λ sink. sink.written };
 
     ghost faults = { λ _. 0 };
 
@@ -106,10 +107,11 @@ impl Sink for SureSink {
         requires { 0 < length piece.now }
         ensures some { IfOk result (λ n. 0 < n) }
         ensures bound { IfOk result (λ n. n ≤ length piece.now) }
-        ensures bytes { IfOk result (λ n. Grew self.old self.new (take n piece.now)) }
-        ensures nothing { OnErr result (Grew self.old self.new (take 0 piece.now)) }
+        ensures bytes { IfOk result (λ n. Grew self.old.written self.new.written (take n piece.now)) }
+        ensures nothing { OnErr result (Grew self.old.written self.new.written (take 0 piece.now)) }
         ensures cause { HasCause 0 0 result }
         ensures sure { result ≡ Ok (length piece.now) }
+        ensures kept { self.new ≡ with_piece self.old piece.now }
     {
         self.tells = self.tells && self.kept.keep(piece);
         Ok(piece.len())

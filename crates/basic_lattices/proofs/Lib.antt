@@ -1,0 +1,2 @@
+mod PaperPairs
+mod Sets

@@ -1,0 +1,11 @@
+use Rattle.std.proofs.Common.{ap, ◌∙◌}
+use Rattle.std.proofs.lemmas.Result.{on_ok_weaker}
+use Rattle.basic_lattices.specs.TextSet.{keys_of, united}
+use Rattle.basic_lattices.specs.TextSetLaws.{keys_of-as_map}
+use Rattle.basic_lattices.proofs.Sets.{joined_views}
+use Rattle.basic_lattices.proofs.text_set.TextSetLattice.join.Goals as goal
+
+pub returns-clause-ok : goal.returns-clause-ok
+returns-clause-ok c =
+    on_ok_weaker c.join.result (λ joined. ap keys_of (joined ∙ joined_views _ _ c.args.self.now c.args.other.now c.self.view_is c.other.view_is)
+    ∙ keys_of-as_map (united c.args.self.now c.args.other.now)) c.join.ensures.ok

@@ -1,0 +1,50 @@
+-- The order of stamped words is total, and only equal ones tie; so the greater of two is a lattice.
+use Rattle.std.specs.Prelude.{◌≡◌, ◌↔◌, IsTrue, true, false, ⊤, refl}
+use Rattle.std.specs.Cmp.{IsTotalOrder, nat_cmp_total}
+use Rattle.std.proofs.lemmas.Cmp.{on_total, then_total}
+use Rattle.std.specs.Ordering.{ord_max, nat_cmp, ordering_then, is_lt, is_le}
+use Rattle.std.specs.FinMap.{nat_cmp-IsAntisymmetric}
+use Rattle.std.specs.declared.cmp.Ordering.{Ordering}
+use Rattle.std.specs.declared.cmp.Ordering.TheVariants.{Less, Equal, Greater}
+use Rattle.lattice_laws.specs.Lattice.{LatticeLaws, Associative}
+use Rattle.basic_lattices.specs.GreaterLaws.{greater_laws, greater_associative, greater_unless_below, greater_if_below, greater_is_second}
+use Rattle.basic_lattices.specs.Stamped.{stamp_cmp, IsStamped}
+use Rattle.basic_lattices.specs.WordLaws.{word_total, word_exact}
+use Rattle.basic_lattices.specs.declared.stamped.Stamped.{Stamped}
+
+pub stamp_total : IsTotalOrder stamp_cmp
+stamp_total = then_total (on_total (λ s. s.number) nat_cmp_total) (then_total (on_total (λ s. s.session) nat_cmp_total) (then_total (on_total (λ s. s.place) nat_cmp_total) (on_total (λ s. s.word) word_total)))
+
+-- two orders, one after the other, tie where both do
+both_tie : (first second : Ordering) → ordering_then first second ≡ Equal → (first ≡ Equal) × (second ≡ Equal)
+both_tie Less second e = absurd (cc)
+both_tie Equal second e = (refl, e)
+both_tie Greater second e = absurd (cc)
+
+-- stamped words that tie are one
+pub stamp_exact : (a b : Stamped) → stamp_cmp a b ≡ Equal → a ≡ b
+stamp_exact a b e =
+    let by_number = both_tie (nat_cmp a.number b.number) _ e in
+    let by_session = both_tie (nat_cmp a.session b.session) _ by_number.1 in
+    let by_place = both_tie (nat_cmp a.place b.place) _ by_session.1 in
+    let number = nat_cmp-IsAntisymmetric a.number b.number by_number.0 in
+    let session = nat_cmp-IsAntisymmetric a.session b.session by_session.0 in
+    let place = nat_cmp-IsAntisymmetric a.place b.place by_place.0 in
+    let word = word_exact a.word b.word by_place.1 in
+    λ i. record { number = number i; session = session i; place = place i; word = word i }
+
+pub stamp_laws : LatticeLaws IsStamped (λ _ _. ⊤) (ord_max stamp_cmp)
+stamp_laws = greater_laws stamp_cmp stamp_total stamp_exact IsStamped
+
+pub stamp_associative : Associative IsStamped (λ _ _. ⊤) (ord_max stamp_cmp)
+stamp_associative = greater_associative stamp_cmp stamp_total stamp_exact IsStamped
+
+-- which of two stamped words their join is
+pub stamp_unless_below : (a b : Stamped) → is_lt (stamp_cmp a b) ≡ false → ord_max stamp_cmp a b ≡ a
+stamp_unless_below = greater_unless_below stamp_cmp stamp_total stamp_exact
+
+pub stamp_if_below : (a b : Stamped) → is_lt (stamp_cmp a b) ≡ true → ord_max stamp_cmp a b ≡ b
+stamp_if_below = greater_if_below stamp_cmp stamp_total stamp_exact
+
+pub stamp_is_second : (a b : Stamped) → IsTrue (is_le (stamp_cmp a b)) ↔ (ord_max stamp_cmp a b ≡ b)
+stamp_is_second = greater_is_second stamp_cmp stamp_total stamp_exact

@@ -1,0 +1,179 @@
+//! Maps whose values merge key by key.
+ghost use Rattle.std.specs.Prelude.{◌≡◌, [], length, slice_get, OnOk, OnErr, List, ⊤};
+ghost use Rattle.std.specs.Option.{option_map};
+ghost use Rattle.std.specs.FinMap.{find};
+ghost use Rattle.lattice_laws.specs.Entries.{plain_entries, raised, joined_maps, IsMap};
+ghost use Rattle.lattice_laws.specs.EntriesLaws.{map_laws, map_associative};
+
+use crate::{MaxNum, Word};
+use lattice_laws::entries::{
+    at_most_entries, copy_entries, find_entry, join_entries, known_entries, raise_entry,
+};
+use lattice_laws::{AllFit, Lattice, MapKey, NoMemory};
+use std::alloc::Global;
+use std::marker::Model;
+
+/// A map whose values merge key by key. Contracts see its entries in the order of their keys.
+#[derive(Debug, Drop)]
+pub struct MapOf<K: MapKey, L: AllFit> {
+    entries: Vec<(K, L)>,
+}
+
+impl<K: MapKey, L: AllFit> Model for MapOf<K, L> {
+    ghost use Rattle.std.specs.Prelude.{List, IsTrue};
+    ghost use Rattle.std.specs.FinMap.{is_sorted};
+    ghost use Rattle.lattice_laws.specs.Entries.{plain_entries};
+
+    ghost Value = { List (K × L) };
+
+    ghost view = { λ map. map.entries.items };
+
+    ghost invariant = { λ map. IsTrue (is_sorted K.cmp (plain_entries L.plain map.entries.items)) };
+}
+
+/// What each field of a hash had at its greatest.
+pub type FieldMax = MapOf<Word, MaxNum>;
+
+impl<K: MapKey, L: AllFit> MapOf<K, L> {
+    /// The empty map. Takes no memory.
+    pub fn new(alloc: Global) -> MapOf<K, L>
+        ensures { result ≡ [] }
+    {
+        MapOf {
+            entries: Vec::new(alloc),
+        }
+    }
+
+    /// Merges the value into what stands at the key, or puts it where the key is new. After
+    /// `NoMemory` the map is as before.
+    pub fn raise(&mut self, key: K, value: L) -> Result<(), NoMemory>
+        ensures ok { OnOk result (plain_entries L.plain self.new ≡ raised K.cmp L.joined key (L.plain value) (plain_entries L.plain self.old)) }
+        ensures err { OnErr result (plain_entries L.plain self.new ≡ plain_entries L.plain self.old) }
+    {
+        raise_entry(&mut self.entries, key, value)
+    }
+
+    /// The value at the key, and nothing where the key is not there. Takes no memory.
+    pub fn get(&self, key: &K) -> Option<&L>
+        ensures { option_map (λ found. L.plain found.now) result ≡ find K.cmp key.now (plain_entries L.plain self.now) }
+    {
+        find_entry(self.entries.as_slice(), key)
+    }
+
+    /// How many keys there are. Takes no memory.
+    pub fn len(&self) -> usize
+        ensures { result ≡ length self.now }
+    {
+        self.entries.len()
+    }
+
+    /// The entry at place `i`, counted from 0 in the order of the keys, and nothing past the last.
+    /// Takes no memory.
+    pub fn at(&self, i: usize) -> Option<(&K, &L)>
+        ensures { option_map (λ entry. (entry.0.now, entry.1.now)) result ≡ slice_get self.now i }
+    {
+        let entry = self.entries.get(i)?;
+        Some((&entry.0, &entry.1))
+    }
+}
+
+impl<K: MapKey, L: AllFit> Lattice for MapOf<K, L> {
+    ghost Plain = { List (K × L.Plain) };
+
+    ghost plain = { plain_entries L.plain };
+
+    ghost is_value = { IsMap K.cmp L.is_value };
+
+    ghost fits = { λ _ _. ⊤ };
+
+    ghost joined = { joined_maps K.cmp L.joined };
+
+    fn known(&self) {
+        known_entries(self.entries.as_slice());
+    }
+
+    fn join(&mut self, other: &Self) -> Result<(), NoMemory> {
+        let alloc = *self.entries.allocator();
+        self.entries = join_entries(alloc, self.entries.as_slice(), other.entries.as_slice())?;
+        Ok(())
+    }
+
+    fn copy(&self) -> Result<Self, NoMemory> {
+        Ok(MapOf {
+            entries: copy_entries(*self.entries.allocator(), self.entries.as_slice())?,
+        })
+    }
+
+    fn at_most(&self, other: &Self) -> bool {
+        at_most_entries(self.entries.as_slice(), other.entries.as_slice())
+    }
+
+    ghost laws = { map_laws K.total K.exact L.laws L.all_fit };
+
+    ghost associative = { map_associative K.total K.exact L.laws L.all_fit L.associative };
+}
+
+impl<K: MapKey, L: AllFit> AllFit for MapOf<K, L> {
+    ghost all_fit = { λ _ _. tt };
+}
+
+#[cfg(test)]
+mod tests {
+    use super::*;
+    use std::test::Fail;
+
+    fn map_of(alloc: Global, raises: &[(u16, u64)]) -> Result<MapOf<u16, MaxNum>, Fail> {
+        let mut map = MapOf::new(alloc);
+        for (key, value) in raises {
+            map.raise(*key, MaxNum(*value))?;
+        }
+        Ok(map)
+    }
+
+    fn shows(map: &MapOf<u16, MaxNum>, entries: &[(u16, u64)]) -> bool {
+        map.len() == entries.len()
+            && (0..map.len()).all(|i| {
+                matches!(map.at(i), Some((key, value)) if (*key, value.0) == entries[i])
+            })
+            && map.at(map.len()).is_none()
+    }
+
+    #[test]
+    fn a_raise_merges_at_its_key(rt: HostRuntime) -> Result<(), Fail> {
+        let map = map_of(rt.alloc(), &[(7, 1), (2, 5), (7, 9), (4, 4), (2, 3)])?;
+        assert!(rt; shows(&map, &[(2, 5), (4, 4), (7, 9)]));
+        assert!(rt; matches!(map.get(&7), Some(value) if value.0 == 9));
+        for key in [0, 3, 5, 8] {
+            assert!(rt; map.get(&key).is_none());
+        }
+        Ok(())
+    }
+
+    #[test]
+    fn maps_join_key_by_key(rt: HostRuntime) -> Result<(), Fail> {
+        let mine = map_of(rt.alloc(), &[(2, 5), (4, 4), (7, 9)])?;
+        let theirs = map_of(rt.alloc(), &[(1, 1), (4, 6), (7, 8), (9, 3)])?;
+        let mut joined = mine.copy()?;
+        assert!(rt; shows(&joined, &[(2, 5), (4, 4), (7, 9)]));
+        joined.join(&theirs)?;
+        assert!(rt; shows(&joined, &[(1, 1), (2, 5), (4, 6), (7, 9), (9, 3)]));
+        assert!(rt; mine.at_most(&joined) && theirs.at_most(&joined));
+        assert!(rt; !mine.at_most(&theirs) && !theirs.at_most(&mine));
+        assert!(rt; !joined.at_most(&mine) && !joined.at_most(&theirs));
+        joined.join(&mine)?;
+        assert!(rt; shows(&joined, &[(1, 1), (2, 5), (4, 6), (7, 9), (9, 3)]));
+        Ok(())
+    }
+
+    #[test]
+    fn fields_are_words(rt: HostRuntime) -> Result<(), Fail> {
+        let mut fields: FieldMax = MapOf::new(rt.alloc());
+        for (field, value) in [(b"y".as_slice(), 1), (b"x", 2), (b"y", 3)] {
+            fields.raise(Word::of(rt.alloc(), field)?, MaxNum(value))?;
+        }
+        assert_eq!(rt; fields.len(), 2);
+        let field = Word::of(rt.alloc(), b"y")?;
+        assert!(rt; matches!(fields.get(&field), Some(value) if value.0 == 3));
+        Ok(())
+    }
+}

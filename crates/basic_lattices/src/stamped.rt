@@ -1,0 +1,122 @@
+//! The last word written, where "last" is decided by a stamp.
+ghost use Rattle.std.specs.Prelude.{⊤};
+ghost use Rattle.std.specs.Ordering.{ord_max};
+
+use crate::Word;
+use lattice_laws::{AllFit, Lattice, MapKey, NoMemory};
+
+/// A word with a stamp: the Lamport number of the write, the session that made it, and its place
+/// among those that share the number (Lamport 1978). A merge keeps the greater in this order of
+/// fields, the word last.
+#[derive(Debug, Drop, PartialEq, Eq, PartialOrd, Ord)]
+pub struct Stamped {
+    pub number: u64,
+    pub session: u16,
+    pub place: u32,
+    pub word: Word,
+}
+
+impl Lattice for Stamped {
+    ghost use Rattle.basic_lattices.specs.declared.stamped.Stamped.{Stamped};
+    ghost use Rattle.basic_lattices.specs.Stamped.{stamp_cmp, IsStamped};
+    ghost use Rattle.basic_lattices.specs.StampedLaws.{stamp_laws, stamp_associative};
+
+    ghost Plain = { Stamped };
+
+    ghost plain = { λ stamped. stamped };
+
+    ghost is_value = { IsStamped };
+
+    ghost fits = { λ _ _. ⊤ };
+
+    ghost joined = { ord_max stamp_cmp };
+
+    fn known(&self) {
+        let (_number, _session, _place) = (self.number, self.session, self.place);
+        let _bytes = self.word.as_bytes();
+    }
+
+    fn join(&mut self, other: &Stamped) -> Result<(), NoMemory> {
+        if (*self).cmp(other).is_lt() {
+            *self = Lattice::copy(other)?;
+        }
+        Ok(())
+    }
+
+    fn copy(&self) -> Result<Stamped, NoMemory> {
+        Ok(Stamped {
+            number: self.number,
+            session: self.session,
+            place: self.place,
+            word: self.word.copy()?,
+        })
+    }
+
+    fn at_most(&self, other: &Stamped) -> bool {
+        self.cmp(other).is_le()
+    }
+
+    ghost laws = { stamp_laws };
+
+    ghost associative = { stamp_associative };
+}
+
+impl AllFit for Stamped {
+    ghost all_fit = { λ _ _. tt };
+}
+
+#[cfg(test)]
+mod tests {
+    use super::*;
+    use std::alloc::Global;
+    use std::test::Fail;
+
+    fn stamped(
+        alloc: Global,
+        number: u64,
+        session: u16,
+        place: u32,
+        word: &[u8],
+    ) -> Result<Stamped, Fail> {
+        Ok(Stamped {
+            number,
+            session,
+            place,
+            word: Word::of(alloc, word)?,
+        })
+    }
+
+    #[test]
+    fn the_place_decides_before_the_word(rt: HostRuntime) -> Result<(), Fail> {
+        let mut kept = stamped(rt.alloc(), 3, 1, 0, b"red")?;
+        kept.join(&stamped(rt.alloc(), 3, 1, 1, b"blue")?)?;
+        assert_eq!(rt; kept, stamped(rt.alloc(), 3, 1, 1, b"blue")?);
+        kept.join(&stamped(rt.alloc(), 3, 1, 1, b"red")?)?;
+        assert_eq!(rt; kept, stamped(rt.alloc(), 3, 1, 1, b"red")?);
+        kept.join(&stamped(rt.alloc(), 3, 1, 1, b"blue")?)?;
+        assert_eq!(rt; kept, stamped(rt.alloc(), 3, 1, 1, b"red")?);
+        Ok(())
+    }
+
+    #[test]
+    fn each_field_decides_before_the_next(rt: HostRuntime) -> Result<(), Fail> {
+        let ascending = [
+            stamped(rt.alloc(), 1, 9, 9, b"z")?,
+            stamped(rt.alloc(), 2, 1, 9, b"z")?,
+            stamped(rt.alloc(), 2, 2, 1, b"z")?,
+            stamped(rt.alloc(), 2, 2, 2, b"a")?,
+            stamped(rt.alloc(), 2, 2, 2, b"b")?,
+        ];
+        for i in 1..ascending.len() {
+            let (lesser, greater) = (&ascending[i - 1], &ascending[i]);
+            assert!(rt; lesser.at_most(greater));
+            assert!(rt; !greater.at_most(lesser));
+            let mut joined = lesser.copy()?;
+            joined.join(greater)?;
+            assert_eq!(rt; &joined, greater);
+            joined.join(lesser)?;
+            assert_eq!(rt; &joined, greater);
+        }
+        Ok(())
+    }
+}
