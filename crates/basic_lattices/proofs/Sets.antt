@@ -35,8 +35,7 @@ joined_views m n a b seen_m seen_n =
 -- the one map joined into the other changes it just where the sets do
 pub united_is_second : (m n : List (List ℕ × Unit {0})) (a b : List (List ℕ)) → keys_of m ≡ a → keys_of n ≡ b → (joined_maps word_cmp (λ _ _. tt) m n ≡ n) ↔ (united a b ≡ b)
 united_is_second m n a b seen_m seen_n =
-    let joined = joined_views m n a b seen_m seen_n in
-    (
+    let joined = joined_views m n a b seen_m seen_n in (
       (λ h. sym (keys_of-as_map (united a b)) ∙ ap keys_of (sym joined ∙ h) ∙ seen_n),
       (λ h. joined ∙ ap as_map h ∙ sym (map_of_view n b seen_n)),
     )

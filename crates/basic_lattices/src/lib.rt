@@ -17,10 +17,9 @@ mod text_set;
 mod word;
 
 pub use flag::Flag;
+pub use lattice_laws::MapKey;
 pub use map_of::{FieldMax, MapOf};
 pub use max_num::MaxNum;
 pub use stamped::Stamped;
 pub use text_set::{TextSet, union_is_pointwise};
 pub use word::{Word, WordFault};
-
-pub use lattice_laws::MapKey;

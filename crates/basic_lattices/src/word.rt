@@ -140,7 +140,17 @@ mod tests {
 
     #[test]
     fn is_ordered_by_bytes(rt: HostRuntime) -> Result<(), Fail> {
-        let ascending = [b"-".as_slice(), b".", b"0", b"Z", b"_", b"a", b"a-", b"aa", b"b"];
+        let ascending = [
+            b"-".as_slice(),
+            b".",
+            b"0",
+            b"Z",
+            b"_",
+            b"a",
+            b"a-",
+            b"aa",
+            b"b",
+        ];
         for i in 1..ascending.len() {
             let lesser = Word::of(rt.alloc(), ascending[i - 1])?;
             let greater = Word::of(rt.alloc(), ascending[i])?;
