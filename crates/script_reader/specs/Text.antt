@@ -1,5 +1,5 @@
 -- How bytes are read: lines, words, names and numbers.
-use Rattle.std.specs.Prelude.{◌≡◌, ℕ, ◌^◌, ◌<◌, ◌≤◌, Bool, ◌||◌, ◌==◌, nat_lt, if◌then◌else◌, List, [], ◌∷◌, filter, length}
+use Rattle.std.specs.Prelude.{◌≡◌, ℕ, ◌^◌, ◌<◌, Bool, ◌||◌, ◌==◌, nat_lt, if◌then◌else◌, List, [], ◌∷◌, filter, length}
 use Rattle.std.specs.List.{slice_split, onto_first}
 use Rattle.std.specs.Str.Parse.{IsNumeral, digits_value}
 
