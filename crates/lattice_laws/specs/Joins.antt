@@ -15,7 +15,7 @@ pub record MayJoin {P : Type 0} (is_value : P → Type 0) (fits : P → P → Ty
   pub are_values : All is_value values
   pub all_fit : (x y : P) → Contains values x → Contains values y → fits x y
 
--- The join of a list depends on its members alone: not on their order, not on how they are grouped, not on repetition.
+-- The join of a list depends on its members alone: not on their order, and not on how often each stands there.
 abbrev pub ByMembersAlone : {P : Type 0} → (P → Type 0) → (P → P → Type 0) → (P → P → P) → Type 0
 ByMembersAlone {P} is_value fits joined =
     (first : P) (rest : List P) (first' : P) (rest' : List P)

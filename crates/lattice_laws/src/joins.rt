@@ -20,7 +20,7 @@ pub fn join_all<L: Lattice>(first: &L, rest: &[L]) -> Result<L, NoMemory>
 }
 
 /// A join of a list depends on its members alone: on which elements it merges, and neither on their
-/// order, nor on how they are grouped, nor on how often each comes.
+/// order nor on how often each comes. Of how they are grouped the law `associative` speaks.
 pub fn joins_by_members_alone<L: Lattice>()
     ensures { ByMembersAlone L.is_value L.fits L.joined }
 {}
