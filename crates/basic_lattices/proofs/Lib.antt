@@ -1,2 +1,1 @@
 mod PaperPairs
-mod Sets

@@ -8,21 +8,21 @@ use Rattle.std.specs.FinMap.{nat_cmp-IsAntisymmetric}
 use Rattle.lattice_laws.specs.Lattice.{LatticeLaws}
 use Rattle.lattice_laws.specs.Entries.{IsMap, joined_maps}
 use Rattle.lattice_laws.specs.EntriesLaws.{map_laws}
-use Rattle.basic_lattices.specs.MaxNumLaws.{max_laws}
+use Rattle.lattice_laws.specs.GreatestLaws.{max_laws}
 use Rattle.basic_lattices.specs.TextSet.{united}
 use Rattle.basic_lattices.specs.TextSetLaws.{set_laws}
-use Rattle.basic_lattices.specs.PaperPair.{PlainPair, IsPair, joined_clocks, IsBelow, both_joined, IsPaperJoin, PartFromOrder, first_pair, second_pair, third_pair, one_part, other_part}
+use Rattle.basic_lattices.specs.PaperPair.{PlainPair, IsClock, IsPair, joined_clocks, IsBelow, both_joined, IsPaperJoin, PartFromOrder, first_pair, second_pair, third_pair, one_part, other_part}
 
 -- clocks keep the laws of maps
-clock_laws : LatticeLaws (IsMap nat_cmp (λ n. n < 2 ^ 64)) (λ _ _. ⊤) (joined_maps nat_cmp max)
-clock_laws = map_laws nat_cmp_total nat_cmp-IsAntisymmetric max_laws (λ _ _. tt)
+clock_laws : LatticeLaws IsClock (λ _ _. ⊤) joined_clocks
+clock_laws = map_laws nat_cmp_total nat_cmp-IsAntisymmetric (λ session. session < 2 ^ 16) (max_laws (λ count. count < 2 ^ 64)) (λ _ _. tt)
 
 -- two clocks that are each at most the other are one
-same_clock : (a b : List (ℕ × ℕ)) → IsMap nat_cmp (λ n. n < 2 ^ 64) a → IsMap nat_cmp (λ n. n < 2 ^ 64) b → joined_clocks a b ≡ b → joined_clocks b a ≡ a → a ≡ b
+same_clock : (a b : List (ℕ × ℕ)) → IsClock a → IsClock b → joined_clocks a b ≡ b → joined_clocks b a ≡ a → a ≡ b
 same_clock a b ma mb ab ba = sym ba ∙ clock_laws.commutative b a mb ma tt ∙ ab
 
 -- no two clocks are each below the other
-not_both_below : (a b : List (ℕ × ℕ)) → IsMap nat_cmp (λ n. n < 2 ^ 64) a → IsMap nat_cmp (λ n. n < 2 ^ 64) b → IsBelow a b → IsBelow b a → ⊥
+not_both_below : (a b : List (ℕ × ℕ)) → IsClock a → IsClock b → IsBelow a b → IsBelow b a → ⊥
 not_both_below a b ma mb below above = below.1 (same_clock a b ma mb below.0 above.0)
 
 -- no clock is below itself
@@ -68,10 +68,10 @@ joined_by_first a b c not_below above (inr (inl wins)) = wins.1
 joined_by_first a b c not_below above (inr (inr both)) = absurd (both.1 above)
 
 -- the pair with the greater clock wins, be it the second or the first
-pub second_wins : (a b c : PlainPair) → IsMap nat_cmp (λ n. n < 2 ^ 64) a.clock → IsMap nat_cmp (λ n. n < 2 ^ 64) b.clock → IsPaperJoin a b c → IsBelow a.clock b.clock → c ≡ b
+pub second_wins : (a b c : PlainPair) → IsClock a.clock → IsClock b.clock → IsPaperJoin a b c → IsBelow a.clock b.clock → c ≡ b
 second_wins a b c ma mb is below = joined_by_second a b c below (not_both_below a.clock b.clock ma mb below) is
 
-pub first_wins : (a b c : PlainPair) → IsMap nat_cmp (λ n. n < 2 ^ 64) a.clock → IsMap nat_cmp (λ n. n < 2 ^ 64) b.clock → IsPaperJoin a b c → IsBelow b.clock a.clock → c ≡ a
+pub first_wins : (a b c : PlainPair) → IsClock a.clock → IsClock b.clock → IsPaperJoin a b c → IsBelow b.clock a.clock → c ≡ a
 first_wins a b c ma mb is above = joined_by_first a b c (λ below. not_both_below a.clock b.clock ma mb below above) above is
 
 -- the join is one pair
@@ -88,7 +88,7 @@ paper_join_itself a c is_a = (
 )
 
 -- where each clock is at most the other just where the other is at most it, neither wins
-pub neither_below : (a b c : PlainPair) → IsMap nat_cmp (λ n. n < 2 ^ 64) a.clock → IsMap nat_cmp (λ n. n < 2 ^ 64) b.clock → (joined_clocks a.clock b.clock ≡ b.clock → joined_clocks b.clock a.clock ≡ a.clock) → (joined_clocks b.clock a.clock ≡ a.clock → joined_clocks a.clock b.clock ≡ b.clock) → c ≡ both_joined a b → IsPaperJoin a b c
+pub neither_below : (a b c : PlainPair) → IsClock a.clock → IsClock b.clock → (joined_clocks a.clock b.clock ≡ b.clock → joined_clocks b.clock a.clock ≡ a.clock) → (joined_clocks b.clock a.clock ≡ a.clock → joined_clocks a.clock b.clock ≡ b.clock) → c ≡ both_joined a b → IsPaperJoin a b c
 neither_below a b c ma mb back on e = inr (inr ((λ below. below.1 (same_clock a.clock b.clock ma mb below.0 (back below.0))), (λ above. above.1 (same_clock b.clock a.clock mb ma above.0 (on above.0))), e))
 
 -- a clock of two sessions is none of one

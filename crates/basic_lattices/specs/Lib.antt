@@ -1,7 +1,5 @@
 pub mod FlagLaws
 pub mod GreaterLaws
-pub mod MaxNumLaws
-pub mod MemberLaws
 pub mod PaperPair
 pub mod SeenPair
 pub mod Stamped

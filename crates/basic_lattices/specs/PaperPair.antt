@@ -9,9 +9,13 @@ pub record PlainPair : Type 0 where
   pub clock : List (ℕ × ℕ)
   pub words : List (List ℕ)
 
+-- a clock that there can be
+abbrev pub IsClock : List (ℕ × ℕ) → Type 0
+IsClock clock = IsMap nat_cmp (λ session. session < 2 ^ 16) (λ count. count < 2 ^ 64) clock
+
 -- a pair that there can be
 pub record IsPair (pair : PlainPair) : Type 0 where
-  pub clock_is : IsMap nat_cmp (λ n. n < 2 ^ 64) pair.clock
+  pub clock_is : IsClock pair.clock
   pub words_are : IsTextSet pair.words
 
 abbrev pub joined_clocks : List (ℕ × ℕ) → List (ℕ × ℕ) → List (ℕ × ℕ)

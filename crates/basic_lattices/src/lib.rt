@@ -10,7 +10,6 @@
 mod flag;
 mod map_of;
 mod max_num;
-mod member;
 pub mod paper_pair;
 mod stamped;
 mod text_set;

@@ -82,7 +82,7 @@ impl<K: MapKey, L: AllFit> Lattice for MapOf<K, L> {
 
     ghost plain = { plain_entries L.plain };
 
-    ghost is_value = { IsMap K.cmp L.is_value };
+    ghost is_value = { IsMap K.cmp K.is_key L.is_value };
 
     ghost fits = { λ _ _. ⊤ };
 
@@ -108,9 +108,9 @@ impl<K: MapKey, L: AllFit> Lattice for MapOf<K, L> {
         at_most_entries(self.entries.as_slice(), other.entries.as_slice())
     }
 
-    ghost laws = { map_laws K.total K.exact L.laws L.all_fit };
+    ghost laws = { map_laws K.total K.exact K.is_key L.laws L.all_fit };
 
-    ghost associative = { map_associative K.total K.exact L.laws L.all_fit L.associative };
+    ghost associative = { map_associative K.total K.exact K.is_key L.laws L.all_fit L.associative };
 }
 
 impl<K: MapKey, L: AllFit> AllFit for MapOf<K, L> {

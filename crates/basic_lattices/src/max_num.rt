@@ -1,6 +1,6 @@
 //! The greatest number seen.
 ghost use Rattle.std.specs.Prelude.{◌<◌, ◌^◌, ℕ, max, ⊤};
-ghost use Rattle.basic_lattices.specs.MaxNumLaws.{max_laws, max_associative};
+ghost use Rattle.lattice_laws.specs.GreatestLaws.{max_laws, max_associative};
 
 use lattice_laws::{AllFit, Lattice, NoMemory};
 use std::marker::Model;
@@ -46,9 +46,9 @@ impl Lattice for MaxNum {
         self.0 <= other.0
     }
 
-    ghost laws = { max_laws };
+    ghost laws = { max_laws (λ n. n < 2 ^ 64) };
 
-    ghost associative = { max_associative };
+    ghost associative = { max_associative (λ n. n < 2 ^ 64) };
 }
 
 impl AllFit for MaxNum {

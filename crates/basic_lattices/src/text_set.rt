@@ -4,9 +4,8 @@ ghost use Rattle.std.specs.Option.{option_map};
 ghost use Rattle.basic_lattices.specs.TextSet.{IsTextSet, has, with_word, united};
 ghost use Rattle.basic_lattices.specs.TextSetLaws.{set_laws, set_associative};
 
-use crate::member::Member;
 use crate::{MapOf, Word};
-use lattice_laws::{AllFit, Lattice, NoMemory};
+use lattice_laws::{AllFit, Lattice, Member, NoMemory};
 use std::alloc::Global;
 use std::marker::Model;
 
@@ -19,7 +18,7 @@ pub struct TextSet {
 impl Model for TextSet {
     ghost use Rattle.std.specs.Prelude.{List, ℕ};
     ghost use Rattle.lattice_laws.specs.Entries.{plain_entries};
-    ghost use Rattle.basic_lattices.specs.TextSet.{keys_of};
+    ghost use Rattle.lattice_laws.specs.Sets.{keys_of};
 
     ghost Value = { List (List ℕ) };
 
@@ -90,11 +89,6 @@ impl Lattice for TextSet {
 
     fn known(&self) {
         self.words.known();
-        for i in 0..self.len() {
-            if let Some(word) = self.at(i) {
-                let _bytes = word.as_bytes();
-            }
-        }
     }
 
     fn join(&mut self, other: &TextSet) -> Result<(), NoMemory> {

@@ -100,6 +100,12 @@ impl Ord for Word {
 }
 
 impl MapKey for Word {
+    ghost is_key = { IsWord };
+
+    fn known(&self) {
+        let _bytes = &self.bytes;
+    }
+
     fn copy(&self) -> Result<Word, NoMemory>
         ensures { IfOk result (λ copy. copy ≡ self.now) }
     {

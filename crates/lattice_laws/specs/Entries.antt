@@ -8,10 +8,14 @@ use Rattle.lattice_laws.specs.Maybe.{joined_by}
 abbrev pub plain_entries : {K L P : Type 0} → (L → P) → List (K × L) → List (K × P)
 plain_entries plain entries = map (λ entry. (entry.0, plain entry.1)) entries
 
--- entries whose keys strictly rise and whose values are values
-pub record IsMap {K P : Type 0} (cmp : K → K → Ordering) (is_value : P → Type 0) (entries : List (K × P)) : Type 0 where
+-- an entry that there can be
+abbrev pub IsEntry : {K P : Type 0} → (K → Type 0) → (P → Type 0) → K × P → Type 0
+IsEntry is_key is_value entry = is_key entry.0 × is_value entry.1
+
+-- entries whose keys strictly rise
+pub record IsMap {K P : Type 0} (cmp : K → K → Ordering) (is_key : K → Type 0) (is_value : P → Type 0) (entries : List (K × P)) : Type 0 where
   pub ascending : IsTrue (is_sorted cmp entries)
-  pub are_values : All (λ entry. is_value entry.1) entries
+  pub are_entries : All (IsEntry is_key is_value) entries
 
 -- The entries are the join of two maps: at each key stands the join of what stood there in both, where nothing is a bottom.
 pub record IsJoin {K P : Type 0} (cmp : K → K → Ordering) (joined : P → P → P) (a b c : List (K × P)) : Type 0 where

@@ -12,7 +12,7 @@ use Rattle.std.specs.FinMap.Entries.{find-put, find_tied, same_entries, by_order
 use Rattle.lattice_laws.specs.Lattice.{LatticeLaws, Associative}
 use Rattle.lattice_laws.specs.Maybe.{IsValue, joined_by}
 use Rattle.lattice_laws.specs.MaybeLaws.{maybe_laws, maybe_associative}
-use Rattle.lattice_laws.specs.Entries.{IsMap, IsJoin, with_old, raised, joined_maps}
+use Rattle.lattice_laws.specs.Entries.{IsEntry, IsMap, IsJoin, with_old, raised, joined_maps}
 use Rattle.lattice_laws.specs.Ascending.{pass_from_true, first_below, ascending_tail, find_below, below_tied, joined_ascending}
 
 -- the one order that passes the test
@@ -63,55 +63,57 @@ module _ {K P : Type 0} {cmp : K → K → Ordering} (joined : P → P → P) (t
     at_each = λ q. find-joined_maps q a b b_rises;
   }
 
-module _ {K P : Type 0} (cmp : K → K → Ordering) (is_value : P → Type 0) where
+module _ {K P : Type 0} (cmp : K → K → Ordering) (is_key : K → Type 0) (is_value : P → Type 0) where
   -- what is found in a map is a value
-  found_is_value : (key : K) (es : List (K × P)) → All (λ entry. is_value entry.1) es → IsValue is_value (find cmp key es)
+  pub found_is_value : (key : K) (es : List (K × P)) → All (IsEntry is_key is_value) es → IsValue is_value (find cmp key es)
   found_is_value key [] all = tt
   found_is_value key (e ∷ es) all =
-      let here : is_value e.1 = All-head (λ entry. is_value entry.1) e es all in
-      let later = found_is_value key es (All-tail (λ entry. is_value entry.1) e es all) in
+      let here : is_value e.1 = (All-head (IsEntry is_key is_value) e es all).1 in
+      let later = found_is_value key es (All-tail (IsEntry is_key is_value) e es all) in
       elim (eq_by_cmp cmp key e.0) as (λ t. IsValue is_value (cond t (Some e.1) (find cmp key es))) [ true ↦ here | false ↦ later ]
 
-  -- a map with a value put into it has values still
-  put_values : (key : K) (value : P) (es : List (K × P)) → is_value value → All (λ entry. is_value entry.1) es → All (λ entry. is_value entry.1) (put cmp key value es)
-  put_values key value [] v all = All-cons (λ entry. is_value entry.1) (key, value) [] v all
-  put_values key value (e ∷ es) v all =
-      let good : K × P → Type 0 = λ entry. is_value entry.1 in
+  -- entries with an entry put among them
+  put_entries : (key : K) (value : P) (es : List (K × P)) → is_key key → is_value value → All (IsEntry is_key is_value) es → All (IsEntry is_key is_value) (put cmp key value es)
+  put_entries key value [] k v all = All-cons (IsEntry is_key is_value) (key, value) [] (k, v) all
+  put_entries key value (e ∷ es) k v all =
+      let good : K × P → Type 0 = IsEntry is_key is_value in
       let here : good e = All-head good e es all in
       let others = All-tail good e es all in
       elim (cmp key e.0) as (λ r. All good (by_order r ((key, value) ∷ e ∷ es) ((e.0, value) ∷ es) (e ∷ put cmp key value es))) [
-        | Less ↦ All-cons good (key, value) (e ∷ es) v all
-        | Equal ↦ All-cons good (e.0, value) es v others
-        | Greater ↦ All-cons good e (put cmp key value es) here (put_values key value es v others)
+        | Less ↦ All-cons good (key, value) (e ∷ es) (k, v) all
+        | Equal ↦ All-cons good (e.0, value) es (here.0, v) others
+        | Greater ↦ All-cons good e (put cmp key value es) here (put_entries key value es k v others)
       ]
 
-module _ {K P : Type 0} {cmp : K → K → Ordering} {is_value : P → Type 0} {fits : P → P → Type 0} {joined : P → P → P} (total : IsTotalOrder cmp) (exact : IsAntisymmetric cmp) (laws : LatticeLaws is_value fits joined) (all_fit : (a b : P) → fits a b) where
+module _ {P : Type 0} {is_value : P → Type 0} {fits : P → P → Type 0} {joined : P → P → P} (laws : LatticeLaws is_value fits joined) (all_fit : (a b : P) → fits a b) where
   -- a value joined with what stood there is a value
   with_old_is_value : (old : Option P) (value : P) → IsValue is_value old → is_value value → is_value (with_old joined old value)
   with_old_is_value None value vo v = v
   with_old_is_value (Some old) value vo v = (laws.closed old value vo v (all_fit old value)).0
 
-  -- the join of two maps has values
-  joined_values : (a b : List (K × P)) → All (λ entry. is_value entry.1) a → All (λ entry. is_value entry.1) b → All (λ entry. is_value entry.1) (joined_maps cmp joined a b)
-  joined_values a [] va vb = va
-  joined_values a (e ∷ b) va vb =
-      let good : K × P → Type 0 = λ entry. is_value entry.1 in
-      let value = with_old_is_value (find cmp e.0 a) e.1 (found_is_value cmp is_value e.0 a va) (All-head good e b vb) in
-      joined_values (raised cmp joined e.0 e.1 a) b (put_values cmp is_value e.0 (with_old joined (find cmp e.0 a) e.1) a value va) (All-tail good e b vb)
+module _ {K P : Type 0} {cmp : K → K → Ordering} {is_value : P → Type 0} {fits : P → P → Type 0} {joined : P → P → P} (total : IsTotalOrder cmp) (exact : IsAntisymmetric cmp) (is_key : K → Type 0) (laws : LatticeLaws is_value fits joined) (all_fit : (a b : P) → fits a b) where
+  -- the join of two maps has the entries of a map
+  joined_entries : (a b : List (K × P)) → All (IsEntry is_key is_value) a → All (IsEntry is_key is_value) b → All (IsEntry is_key is_value) (joined_maps cmp joined a b)
+  joined_entries a [] va vb = va
+  joined_entries a (e ∷ b) va vb =
+      let good : K × P → Type 0 = IsEntry is_key is_value in
+      let here : good e = All-head good e b vb in
+      let value = with_old_is_value laws all_fit (find cmp e.0 a) e.1 (found_is_value cmp is_key is_value e.0 a va) here.1 in
+      joined_entries (raised cmp joined e.0 e.1 a) b (put_entries cmp is_key is_value e.0 (with_old joined (find cmp e.0 a) e.1) a here.0 value va) (All-tail good e b vb)
 
   -- the join of two maps is a map
-  joined_is_map : (a b : List (K × P)) → IsMap cmp is_value a → IsMap cmp is_value b → IsMap cmp is_value (joined_maps cmp joined a b)
-  joined_is_map a b ma mb = record { ascending = joined_ascending cmp total joined a b ma.ascending; are_values = joined_values a b ma.are_values mb.are_values }
+  joined_is_map : (a b : List (K × P)) → IsMap cmp is_key is_value a → IsMap cmp is_key is_value b → IsMap cmp is_key is_value (joined_maps cmp joined a b)
+  joined_is_map a b ma mb = record { ascending = joined_ascending cmp total joined a b ma.ascending; are_entries = joined_entries a b ma.are_entries mb.are_entries }
 
   -- maps that agree at each key are equal
-  same_from_keys : (a b : List (K × P)) → IsMap cmp is_value a → IsMap cmp is_value b → ((q : K) → find cmp q a ≡ find cmp q b) → a ≡ b
+  pub same_from_keys : (a b : List (K × P)) → IsMap cmp is_key is_value a → IsMap cmp is_key is_value b → ((q : K) → find cmp q a ≡ find cmp q b) → a ≡ b
   same_from_keys a b ma mb agree = same_entries cmp total exact a b (pass_from_true _ ma.ascending) (pass_from_true _ mb.ascending) agree
 
   -- maps keep the laws of their values
-  pub map_laws : LatticeLaws (IsMap cmp is_value) (λ _ _. ⊤) (joined_maps cmp joined)
+  pub map_laws : LatticeLaws (IsMap cmp is_key is_value) (λ _ _. ⊤) (joined_maps cmp joined)
   map_laws =
       let at_key = maybe_laws laws all_fit in
-      let found : (q : K) (a : List (K × P)) → IsMap cmp is_value a → IsValue is_value (find cmp q a) = λ q a ma. found_is_value cmp is_value q a ma.are_values in
+      let found : (q : K) (a : List (K × P)) → IsMap cmp is_key is_value a → IsValue is_value (find cmp q a) = λ q a ma. found_is_value cmp is_key is_value q a ma.are_entries in
       record {
         fits_itself = λ a ma. tt;
         fits_back = λ a b ma mb h. tt;
@@ -126,13 +128,13 @@ module _ {K P : Type 0} {cmp : K → K → Ordering} {is_value : P → Type 0} {
       }
 
   -- and how joins of maps are grouped does not matter where it does not for their values
-  pub map_associative : Associative is_value fits joined → Associative (IsMap cmp is_value) (λ _ _. ⊤) (joined_maps cmp joined)
+  pub map_associative : Associative is_value fits joined → Associative (IsMap cmp is_key is_value) (λ _ _. ⊤) (joined_maps cmp joined)
   map_associative associative a b c ma mb mc h i =
       let ab = joined_is_map a b ma mb in
       let bc = joined_is_map b c mb mc in
       same_from_keys _ _ (joined_is_map _ c ab mc) (joined_is_map a _ ma bc) (λ q.
       find-joined_maps joined total q _ c mc.ascending
       ∙ ap (λ x. joined_by joined x (find cmp q c)) (find-joined_maps joined total q a b mb.ascending)
-      ∙ maybe_associative joined associative all_fit (find cmp q a) (find cmp q b) (find cmp q c) (found_is_value cmp is_value q a ma.are_values) (found_is_value cmp is_value q b mb.are_values) (found_is_value cmp is_value q c mc.are_values) tt tt
+      ∙ maybe_associative joined associative all_fit (find cmp q a) (find cmp q b) (find cmp q c) (found_is_value cmp is_key is_value q a ma.are_entries) (found_is_value cmp is_key is_value q b mb.are_entries) (found_is_value cmp is_key is_value q c mc.are_entries) tt tt
       ∙ ap (joined_by joined (find cmp q a)) (sym (find-joined_maps joined total q b c mc.ascending))
       ∙ sym (find-joined_maps joined total q a _ bc.ascending))

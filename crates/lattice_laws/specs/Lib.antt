@@ -1,11 +1,15 @@
 pub mod Ascending
 pub mod Entries
 pub mod EntriesLaws
+pub mod GreatestLaws
 pub mod Joins
 pub mod JoinsLaws
 pub mod Lattice
 pub mod Maybe
 pub mod MaybeLaws
+pub mod MemberLaws
 pub mod Merging
 pub mod Places
+pub mod Sets
+pub mod SetsLaws
 pub mod Spelling

@@ -5,7 +5,7 @@
 ghost use Rattle.std.specs.Prelude.{◌≡◌, ◌↔◌, ◌≤◌, ◌<◌, ◌+◌, ◌∷◌, [], length, All, IsTrue, IfOk, IfErr, OnOk, OnErr, MatchOption};
 ghost use Rattle.std.specs.Option.{option_map};
 ghost use Rattle.std.specs.FinMap.{find, is_sorted};
-ghost use Rattle.lattice_laws.specs.Entries.{plain_entries, raised, joined_maps};
+ghost use Rattle.lattice_laws.specs.Entries.{plain_entries, IsEntry, raised, joined_maps};
 ghost use Rattle.lattice_laws.specs.Places.{IsPlaceOf, IsGapFor};
 ghost use Rattle.lattice_laws.specs.Merging.{first_side, IsJoinStep, NeverAtMost, IsPassed};
 
@@ -95,12 +95,13 @@ pub fn at_most_entries<K: MapKey, L: AllFit>(mine: &[(K, L)], theirs: &[(K, L)])
     found == mine.len()
 }
 
-/// The values of a map are values of their type. Code calls this to learn the fact, which the laws
-/// have as their premise; the call does nothing.
+/// The keys and values of a map are those of their types. Code calls this to learn the fact, which
+/// the laws have as their premise; the call does nothing.
 pub fn known_entries<K: MapKey, L: AllFit>(entries: &[(K, L)])
-    ensures { All (λ entry. L.is_value entry.1) (plain_entries L.plain entries.now) }
+    ensures { All (IsEntry K.is_key L.is_value) (plain_entries L.plain entries.now) }
 {
     for entry in entries {
+        entry.0.known();
         entry.1.known();
     }
 }

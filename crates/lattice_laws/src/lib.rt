@@ -23,6 +23,7 @@ mod joins;
 mod lattice;
 mod map_key;
 mod maybe;
+mod member;
 mod spelling;
 
 pub use items::Items;
@@ -30,4 +31,5 @@ pub use joins::{join_all, joins_by_members_alone};
 pub use lattice::{AllFit, Lattice, NoMemory};
 pub use map_key::MapKey;
 pub use maybe::Maybe;
+pub use member::Member;
 pub use spelling::{Misspelled, is_spelling_byte, test_spelling};

@@ -1,5 +1,5 @@
 //! What may be the key of a map.
-ghost use Rattle.std.specs.Prelude.{◌≡◌, IfOk};
+ghost use Rattle.std.specs.Prelude.{◌≡◌, ◌<◌, ◌^◌, IfOk};
 ghost use Rattle.std.specs.declared.cmp.Ordering.TheVariants.{Equal};
 ghost use Rattle.std.specs.FinMap.{nat_cmp-IsAntisymmetric};
 
@@ -7,6 +7,13 @@ use crate::NoMemory;
 
 /// What may be the key of a map: values in a total order in which only equal keys tie.
 pub trait MapKey: Ord + Sized + Drop {
+    /// Which values a key of the type can have (a `u16` is a number below 2^16).
+    ghost is_key: { Self → Type 0 };
+
+    /// Each key is one that there can be. Code calls this to learn the fact; the call does nothing.
+    fn known(&self)
+        ensures { is_key self.now };
+
     /// An equal key.
     fn copy(&self) -> Result<Self, NoMemory>
         ensures { IfOk result (λ copy. copy ≡ self.now) };
@@ -16,6 +23,12 @@ pub trait MapKey: Ord + Sized + Drop {
 }
 
 impl MapKey for u16 {
+    ghost is_key = { λ n. n < 2 ^ 16 };
+
+    fn known(&self) {
+        let _value = *self;
+    }
+
     fn copy(&self) -> Result<u16, NoMemory> {
         Ok(*self)
     }

@@ -1,7 +1,7 @@
 use Rattle.std.proofs.Common.{All, take}
-use Rattle.lattice_laws.specs.Entries.{plain_entries}
+use Rattle.lattice_laws.specs.Entries.{IsEntry}
 use Rattle.lattice_laws.proofs.entries.known_entries.Given as goal
 
--- the values so far are values
+-- the entries so far are entries
 abbrev pub invariant-loop-entry : goal.invariant-loop-entry
-invariant-loop-entry g l = All (λ entry. g.L.Lattice.is_value entry.1) (plain_entries g.L.Lattice.plain (take l.entry-index l.entries))
+invariant-loop-entry g l = All (λ entry. IsEntry g.K.MapKey.is_key g.L.Lattice.is_value (entry.0, g.L.Lattice.plain entry.1)) (take l.entry-index l.entries)

@@ -1,9 +1,9 @@
 use Rattle.std.specs.Prelude.{slice_get}
 use Rattle.std.proofs.Common.{sym, ap, ◌∙◌}
-use Rattle.basic_lattices.proofs.Sets.{word_at}
+use Rattle.lattice_laws.specs.SetsLaws.{member_at}
 use Rattle.basic_lattices.proofs.text_set.TextSet.at.Goals as goal
 
 pub returns : goal.returns
 returns c =
-    sym (word_at c.self.inside.words c.args.i (c.in_ok-word.word.now, c.in_ok-word.field-0-1.now) (sym c.in_ok-word.ensures))
+    sym (member_at c.self.inside.words c.args.i (c.in_ok-word.word.now, c.in_ok-word.field-0-1.now) (sym c.in_ok-word.ensures))
     ∙ ap (λ words. slice_get words c.args.i) c.self.view_is

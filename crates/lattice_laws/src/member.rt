@@ -1,12 +1,12 @@
 //! The lattice with one point.
 ghost use Rattle.std.specs.Prelude.{⊤};
-ghost use Rattle.basic_lattices.specs.MemberLaws.{point_laws, point_associative};
+ghost use Rattle.lattice_laws.specs.MemberLaws.{point_laws, point_associative};
 
-use lattice_laws::{AllFit, Lattice, NoMemory};
+use crate::{AllFit, Lattice, NoMemory};
 
-/// That a word is there: what a set has at each of its words.
+/// That a key is there. A map to this lattice is a set of its keys, and its join is their union.
 #[derive(Clone, Copy, Debug)]
-pub(crate) struct Member;
+pub struct Member;
 
 impl Lattice for Member {
     ghost Plain = { Unit {0} };
