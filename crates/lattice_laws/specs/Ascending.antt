@@ -11,17 +11,17 @@ use Rattle.std.specs.FinMap.Entries.{below_all, by_order, is_sorted-put}
 use Rattle.lattice_laws.specs.Entries.{with_old, raised, joined_maps}
 
 -- what both tests say, the first says
-and_left : (a b : Bool) → IsTrue (a && b) → IsTrue a
+pub and_left : (a b : Bool) → IsTrue (a && b) → IsTrue a
 and_left true b h = refl
 and_left false b h = absurd (false≢true h)
 
 -- and the second
-and_right : (a b : Bool) → IsTrue (a && b) → IsTrue b
+pub and_right : (a b : Bool) → IsTrue (a && b) → IsTrue b
 and_right true b h = h
 and_right false b h = absurd (false≢true h)
 
 -- what each of two tests says, both say
-and_both : (a b : Bool) → IsTrue a → IsTrue b → IsTrue (a && b)
+pub and_both : (a b : Bool) → IsTrue a → IsTrue b → IsTrue (a && b)
 and_both a b g h = ap (λ x. x && b) g ∙ h
 
 -- a test that passes is true

@@ -16,7 +16,7 @@ use Rattle.lattice_laws.specs.Entries.{IsEntry, IsMap, IsJoin, with_old, raised,
 use Rattle.lattice_laws.specs.Ascending.{pass_from_true, first_below, ascending_tail, find_below, below_tied, joined_ascending}
 
 -- the one order that passes the test
-Equal_from_is_eq : (r : Ordering) → IsTrue (is_eq r) → r ≡ Equal
+pub Equal_from_is_eq : (r : Ordering) → IsTrue (is_eq r) → r ≡ Equal
 Equal_from_is_eq Less h = absurd (false≢true h)
 Equal_from_is_eq Equal h = refl
 Equal_from_is_eq Greater h = absurd (false≢true h)

@@ -37,22 +37,22 @@ module _ {P : Type 0} {is_value : P → Type 0} {fits : P → P → Type 0} {joi
   fit_each_other first x y v of_x of_y = laws.fits_on x first y of_x.is_value_too v of_y.is_value_too (laws.fits_back first x v of_x.is_value_too of_x.fits_first) of_y.fits_first
 
   -- the join of two is above the first of them
-  above_left : (a b : P) → is_value a → is_value b → fits a b → joined a (joined a b) ≡ joined a b
+  pub above_left : (a b : P) → is_value a → is_value b → fits a b → joined a (joined a b) ≡ joined a b
   above_left a b va vb h = sym (associative a a b va va vb (laws.fits_itself a va) h) ∙ ap (λ x. joined x b) (laws.idempotent a va)
 
   -- and above the second
-  above_right : (a b : P) → is_value a → is_value b → fits a b → joined b (joined a b) ≡ joined a b
+  pub above_right : (a b : P) → is_value a → is_value b → fits a b → joined b (joined a b) ≡ joined a b
   above_right a b va vb h =
       let swapped = laws.commutative a b va vb h in
       ap (joined b) swapped ∙ above_left b a vb va (laws.fits_back a b va vb h) ∙ sym swapped
 
   -- what is below a value is below all that is above that value
-  above_through : (a b c : P) → is_value a → is_value b → is_value c → fits a b → fits b c → joined a b ≡ b → joined b c ≡ c → joined a c ≡ c
+  pub above_through : (a b c : P) → is_value a → is_value b → is_value c → fits a b → fits b c → joined a b ≡ b → joined b c ≡ c → joined a c ≡ c
   above_through a b c va vb vc ab bc a_below b_below =
       ap (joined a) (sym b_below) ∙ sym (associative a b c va vb vc ab bc) ∙ ap (λ x. joined x c) a_below ∙ b_below
 
   -- what is above two is above their join
-  above_both : (a b c : P) → is_value a → is_value b → is_value c → fits a b → fits b c → joined a c ≡ c → joined b c ≡ c → joined (joined a b) c ≡ c
+  pub above_both : (a b c : P) → is_value a → is_value b → is_value c → fits a b → fits b c → joined a c ≡ c → joined b c ≡ c → joined (joined a b) c ≡ c
   above_both a b c va vb vc ab bc a_below b_below = associative a b c va vb vc ab bc ∙ ap (joined a) b_below ∙ a_below
 
   -- the join of two is of their class

@@ -1,0 +1,11 @@
+use Rattle.clock_lattice.specs.ClockLaws.{count-joined, counts_from_covers, covers_from_counts, clock_coverage}
+use Rattle.clock_lattice.proofs.coverage.clocks_cover.Goals as goal
+
+pub returns-clause-join : goal.returns-clause-join
+returns-clause-join c = count-joined
+
+pub returns-clause-each : goal.returns-clause-each
+returns-clause-each c = λ a b is. (counts_from_covers a b, covers_from_counts a b is)
+
+pub returns-clause-laws : goal.returns-clause-laws
+returns-clause-laws c = clock_coverage

@@ -1,0 +1,8 @@
+pub mod Clock
+pub mod ClockLaws
+pub mod ClockOrder
+pub mod Coverage
+pub mod CoverageLaws
+pub mod Needs
+pub mod NeedsLaws
+pub mod SparseLaws

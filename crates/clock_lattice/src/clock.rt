@@ -1,0 +1,258 @@
+//! Vector clocks.
+ghost use Rattle.std.specs.Prelude.{◌≡◌, List, [], ℕ, length, slice_get, refl, OnOk, OnErr, ⊤};
+ghost use Rattle.clock_lattice.specs.Clock.{IsClock, count_of, joined_clocks, one_count, covers};
+ghost use Rattle.clock_lattice.specs.ClockLaws.{clock_laws, clock_associative};
+ghost use Rattle.clock_lattice.specs.ClockOrder.{clock_eq, clock_cmp, clock_partial_cmp, clock_total, clock_equivalence, clock_partial_equivalence, clock_partial_order, clock_ties};
+
+use crate::count::Count;
+use lattice_laws::entries::{at_most_entries, copy_entries, find_entry, join_entries, raise_entry};
+use lattice_laws::{AllFit, Lattice, NoMemory};
+use std::alloc::Global;
+use std::cmp::Ordering;
+use std::marker::Model;
+
+/// A vector clock: for each session how many of its puts are counted, 0 for most. A merge keeps the
+/// greater count of each session. Contracts see the entries (session, count) in the order of the
+/// sessions; a session of which nothing is counted has none.
+#[derive(Debug, Drop)]
+pub struct Clock {
+    counts: Vec<(u16, Count)>,
+}
+
+impl Model for Clock {
+    ghost use Rattle.std.specs.Prelude.{List, ℕ};
+    ghost use Rattle.lattice_laws.specs.Entries.{plain_entries};
+    ghost use Rattle.clock_lattice.specs.Clock.{IsClock};
+
+    ghost Value = { List (ℕ × ℕ) };
+
+    ghost view = { λ clock. plain_entries (λ n. n) clock.counts.items };
+
+    ghost invariant = { λ clock. IsClock (plain_entries (λ n. n) clock.counts.items) };
+}
+
+impl Clock {
+    /// The clock that counts nothing. Takes no memory.
+    pub fn new(alloc: Global) -> Clock
+        ensures { result ≡ [] }
+    {
+        Clock {
+            counts: Vec::new(alloc),
+        }
+    }
+
+    /// Raises the count of a session to `n`, where it is below it. After `NoMemory` the clock is as
+    /// before.
+    pub fn raise(&mut self, session: u16, n: u64) -> Result<(), NoMemory>
+        ensures ok { OnOk result (self.new ≡ joined_clocks self.old (one_count session n)) }
+        ensures err { OnErr result (self.new ≡ self.old) }
+    {
+        if n == 0 {
+            return Ok(());
+        }
+        raise_entry(&mut self.counts, session, Count::of(n))
+    }
+
+    /// How many puts of the session are counted, 0 where none is. Takes no memory.
+    pub fn count(&self, session: u16) -> u64
+        ensures { result ≡ count_of session self.now }
+    {
+        match find_entry(self.counts.as_slice(), &session) {
+            Some(count) => count.number(),
+            None => 0,
+        }
+    }
+
+    /// Whether every count is at least the other's: whether this clock has seen all that the other
+    /// has. Takes no memory.
+    pub fn covers(&self, other: &Clock) -> bool
+        ensures { result ≡ covers self.now other.now }
+    {
+        at_most_entries(other.counts.as_slice(), self.counts.as_slice())
+    }
+
+    /// How many sessions have a count. Takes no memory.
+    pub fn len(&self) -> usize
+        ensures { result ≡ length self.now }
+    {
+        self.counts.len()
+    }
+
+    /// The session and count at place `i`, counted from 0 in the order of the sessions, and nothing
+    /// past the last. Takes no memory.
+    pub fn at(&self, i: usize) -> Option<(u16, u64)>
+        ensures { result ≡ slice_get self.now i }
+    {
+        let (session, count) = self.counts.get(i)?;
+        Some((*session, count.number()))
+    }
+}
+
+impl Lattice for Clock {
+    ghost Plain = { List (ℕ × ℕ) };
+
+    ghost plain = { λ clock. clock };
+
+    ghost is_value = { IsClock };
+
+    ghost fits = { λ _ _. ⊤ };
+
+    ghost joined = { joined_clocks };
+
+    fn known(&self) {
+        let _counts = &self.counts;
+    }
+
+    fn join(&mut self, other: &Clock) -> Result<(), NoMemory> {
+        let alloc = *self.counts.allocator();
+        self.counts = join_entries(alloc, self.counts.as_slice(), other.counts.as_slice())?;
+        Ok(())
+    }
+
+    fn copy(&self) -> Result<Clock, NoMemory> {
+        Ok(Clock {
+            counts: copy_entries(*self.counts.allocator(), self.counts.as_slice())?,
+        })
+    }
+
+    fn at_most(&self, other: &Clock) -> bool {
+        at_most_entries(self.counts.as_slice(), other.counts.as_slice())
+    }
+
+    ghost laws = { clock_laws };
+
+    ghost associative = { clock_associative };
+}
+
+impl AllFit for Clock {
+    ghost all_fit = { λ _ _. tt };
+}
+
+impl PartialEq for Clock {
+    ghost eq = { clock_eq };
+
+    ghost laws = { clock_partial_equivalence };
+
+    fn eq(&self, other: &Clock) -> bool {
+        self.cmp(other).is_eq()
+    }
+}
+
+impl Eq for Clock {
+    ghost laws = { clock_equivalence };
+}
+
+impl PartialOrd for Clock {
+    ghost partial_cmp = { clock_partial_cmp };
+
+    ghost laws = { clock_partial_order };
+
+    fn partial_cmp(&self, other: &Clock) -> Option<Ordering> {
+        Some(self.cmp(other))
+    }
+}
+
+/// The order in which clocks are listed, by their entries as lists of (session, count). It says
+/// nothing of causality, of which [`Clock::covers`] speaks.
+impl Ord for Clock {
+    ghost cmp = { clock_cmp };
+
+    ghost total = { clock_total };
+
+    ghost matches_partial_cmp = { λ a b. refl };
+
+    ghost matches_eq = { clock_ties };
+
+    fn cmp(&self, other: &Clock) -> Ordering {
+        self.counts.as_slice().cmp(other.counts.as_slice())
+    }
+}
+
+#[cfg(test)]
+mod tests {
+    use super::*;
+    use std::test::Fail;
+
+    fn clock_of(alloc: Global, raises: &[(u16, u64)]) -> Result<Clock, Fail> {
+        let mut clock = Clock::new(alloc);
+        for (session, n) in raises {
+            clock.raise(*session, *n)?;
+        }
+        Ok(clock)
+    }
+
+    fn shows(clock: &Clock, entries: &[(u16, u64)]) -> bool {
+        clock.len() == entries.len()
+            && (0..clock.len()).all(|i| matches!(clock.at(i), Some(entry) if entry == entries[i]))
+            && clock.at(clock.len()).is_none()
+    }
+
+    #[test]
+    fn keeps_the_greatest_count_of_each_session(rt: HostRuntime) -> Result<(), Fail> {
+        let clock = clock_of(
+            rt.alloc(),
+            &[(7, 1), (2, 5), (7, 9), (3, 0), (2, 3), (2, 0)],
+        )?;
+        assert!(rt; shows(&clock, &[(2, 5), (7, 9)]));
+        for (session, count) in [(2, 5), (7, 9), (3, 0), (0, 0), (u16::MAX, 0)] {
+            assert_eq!(rt; clock.count(session), count);
+        }
+        assert!(rt; shows(&clock_of(rt.alloc(), &[(1, 0)])?, &[]));
+        assert!(rt;
+            shows(
+                &clock_of(rt.alloc(), &[(u16::MAX, u64::MAX)])?,
+                &[(u16::MAX, u64::MAX)]
+            )
+        );
+        Ok(())
+    }
+
+    #[test]
+    fn covers_what_counts_no_more(rt: HostRuntime) -> Result<(), Fail> {
+        let cases: [(&[(u16, u64)], &[(u16, u64)], bool, bool); 6] = [
+            (&[], &[], true, true),
+            (&[(1, 1)], &[], true, false),
+            (&[(1, 2), (2, 1)], &[(1, 2)], true, false),
+            (&[(1, 2)], &[(1, 1)], true, false),
+            (&[(1, 1)], &[(2, 1)], false, false),
+            (&[(1, 2), (3, 1)], &[(1, 1), (2, 1)], false, false),
+        ];
+        for (mine, theirs, covers, is_covered) in cases {
+            let mine = clock_of(rt.alloc(), mine)?;
+            let theirs = clock_of(rt.alloc(), theirs)?;
+            assert_eq!(rt; mine.covers(&theirs), covers);
+            assert_eq!(rt; theirs.at_most(&mine), covers);
+            assert_eq!(rt; theirs.covers(&mine), is_covered);
+        }
+        Ok(())
+    }
+
+    #[test]
+    fn a_join_counts_what_either_does(rt: HostRuntime) -> Result<(), Fail> {
+        let mine = clock_of(rt.alloc(), &[(1, 2), (3, 1)])?;
+        let theirs = clock_of(rt.alloc(), &[(1, 1), (2, 4)])?;
+        let mut joined = mine.copy()?;
+        joined.join(&theirs)?;
+        assert!(rt; shows(&joined, &[(1, 2), (2, 4), (3, 1)]));
+        assert!(rt; joined.covers(&mine) && joined.covers(&theirs));
+        assert!(rt; mine == mine.copy()? && mine != theirs);
+        Ok(())
+    }
+
+    #[test]
+    fn clocks_are_listed_by_their_entries(rt: HostRuntime) -> Result<(), Fail> {
+        let ascending: [&[(u16, u64)]; 5] = [
+            &[],
+            &[(1, 1)],
+            &[(1, 1), (2, 1)],
+            &[(1, 2)],
+            &[(2, 1)],
+        ];
+        for i in 1..ascending.len() {
+            let lesser = clock_of(rt.alloc(), ascending[i - 1])?;
+            let greater = clock_of(rt.alloc(), ascending[i])?;
+            assert!(rt; lesser < greater);
+        }
+        Ok(())
+    }
+}

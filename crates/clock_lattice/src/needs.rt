@@ -1,0 +1,188 @@
+//! What must have been seen of each key.
+ghost use Rattle.std.specs.Prelude.{◌≡◌, List, [], ℕ, length, slice_get, OnOk, OnErr, ⊤};
+ghost use Rattle.std.specs.Option.{option_map};
+ghost use Rattle.std.specs.Ordering.{nat_cmp};
+ghost use Rattle.std.specs.FinMap.{find};
+ghost use Rattle.clock_lattice.specs.Needs.{IsNeeds, joined_needs, one_need, covers_needs};
+ghost use Rattle.clock_lattice.specs.NeedsLaws.{needs_laws, needs_associative};
+
+use crate::Clock;
+use crate::some_clock::SomeClock;
+use lattice_laws::entries::{at_most_entries, copy_entries, find_entry, join_entries, raise_entry};
+use lattice_laws::{AllFit, Lattice, NoMemory};
+use std::alloc::Global;
+use std::marker::Model;
+
+/// For each key the clock that must have been seen of it, empty for most. A merge joins the clocks of
+/// each key. Contracts see the entries (key, clock) in the order of the keys; a key whose clock is
+/// empty has none.
+#[derive(Debug, Drop)]
+pub struct Needs {
+    clocks: Vec<(u16, SomeClock)>,
+}
+
+impl Model for Needs {
+    ghost use Rattle.std.specs.Prelude.{List, ℕ};
+    ghost use Rattle.lattice_laws.specs.Entries.{plain_entries};
+    ghost use Rattle.clock_lattice.specs.Needs.{IsNeeds};
+
+    ghost Value = { List (ℕ × List (ℕ × ℕ)) };
+
+    ghost view = { λ needs. plain_entries (λ clock. clock) needs.clocks.items };
+
+    ghost invariant = { λ needs. IsNeeds (plain_entries (λ clock. clock) needs.clocks.items) };
+}
+
+impl Needs {
+    /// Needs of nothing. Takes no memory.
+    pub fn new(alloc: Global) -> Needs
+        ensures { result ≡ [] }
+    {
+        Needs {
+            clocks: Vec::new(alloc),
+        }
+    }
+
+    /// Joins a clock into that of the key. After `NoMemory` the needs are as before.
+    pub fn raise(&mut self, key: u16, clock: &Clock) -> Result<(), NoMemory>
+        ensures ok { OnOk result (self.new ≡ joined_needs self.old (one_need key clock.now)) }
+        ensures err { OnErr result (self.new ≡ self.old) }
+    {
+        if clock.len() == 0 {
+            return Ok(());
+        }
+        let raised = SomeClock::of(clock.copy()?);
+        raise_entry(&mut self.clocks, key, raised)
+    }
+
+    /// The clock of the key, and nothing where the key has none. Takes no memory.
+    pub fn of(&self, key: u16) -> Option<&Clock>
+        ensures { option_map (λ clock. clock.now) result ≡ find nat_cmp key self.now }
+    {
+        let found = find_entry(self.clocks.as_slice(), &key)?;
+        Some(found.clock())
+    }
+
+    /// Whether the clock of each key covers the other's there: whether all that the other needs is
+    /// needed here. Takes no memory.
+    pub fn covers(&self, other: &Needs) -> bool
+        ensures { result ≡ covers_needs self.now other.now }
+    {
+        at_most_entries(other.clocks.as_slice(), self.clocks.as_slice())
+    }
+
+    /// How many keys have a clock. Takes no memory.
+    pub fn len(&self) -> usize
+        ensures { result ≡ length self.now }
+    {
+        self.clocks.len()
+    }
+
+    /// The key and clock at place `i`, counted from 0 in the order of the keys, and nothing past the
+    /// last. Takes no memory.
+    pub fn at(&self, i: usize) -> Option<(u16, &Clock)>
+        ensures { option_map (λ entry. (entry.0, entry.1.now)) result ≡ slice_get self.now i }
+    {
+        let (key, clock) = self.clocks.get(i)?;
+        Some((*key, clock.clock()))
+    }
+}
+
+impl Lattice for Needs {
+    ghost Plain = { List (ℕ × List (ℕ × ℕ)) };
+
+    ghost plain = { λ needs. needs };
+
+    ghost is_value = { IsNeeds };
+
+    ghost fits = { λ _ _. ⊤ };
+
+    ghost joined = { joined_needs };
+
+    fn known(&self) {
+        let _clocks = &self.clocks;
+    }
+
+    fn join(&mut self, other: &Needs) -> Result<(), NoMemory> {
+        let alloc = *self.clocks.allocator();
+        self.clocks = join_entries(alloc, self.clocks.as_slice(), other.clocks.as_slice())?;
+        Ok(())
+    }
+
+    fn copy(&self) -> Result<Needs, NoMemory> {
+        Ok(Needs {
+            clocks: copy_entries(*self.clocks.allocator(), self.clocks.as_slice())?,
+        })
+    }
+
+    fn at_most(&self, other: &Needs) -> bool {
+        at_most_entries(self.clocks.as_slice(), other.clocks.as_slice())
+    }
+
+    ghost laws = { needs_laws };
+
+    ghost associative = { needs_associative };
+}
+
+impl AllFit for Needs {
+    ghost all_fit = { λ _ _. tt };
+}
+
+#[cfg(test)]
+mod tests {
+    use super::*;
+    use std::test::Fail;
+
+    fn needs_of(alloc: Global, raises: &[(u16, u16, u64)]) -> Result<Needs, Fail> {
+        let mut needs = Needs::new(alloc);
+        for (key, session, n) in raises {
+            let mut clock = Clock::new(alloc);
+            clock.raise(*session, *n)?;
+            needs.raise(*key, &clock)?;
+        }
+        Ok(needs)
+    }
+
+    // Entries (key, session, count) in order, as the needs have them.
+    fn shows(needs: &Needs, keys: &[u16], entries: &[(u16, u16, u64)]) -> bool {
+        needs.len() == keys.len()
+            && (0..keys.len()).all(|i| matches!(needs.at(i), Some((key, _)) if key == keys[i]))
+            && needs.at(keys.len()).is_none()
+            && entries.iter().all(|(key, session, n)| {
+                matches!(needs.of(*key), Some(clock) if clock.count(*session) == *n)
+            })
+    }
+
+    #[test]
+    fn joins_the_clocks_of_each_key(rt: HostRuntime) -> Result<(), Fail> {
+        let raises = [(4, 1, 2), (2, 1, 1), (4, 2, 1), (4, 1, 1), (3, 1, 0)];
+        let needs = needs_of(rt.alloc(), &raises)?;
+        assert!(rt;
+            shows(
+                &needs,
+                &[2, 4],
+                &[(2, 1, 1), (2, 2, 0), (4, 1, 2), (4, 2, 1)]
+            )
+        );
+        for key in [0, 1, 3, 5] {
+            assert!(rt; needs.of(key).is_none());
+        }
+        Ok(())
+    }
+
+    #[test]
+    fn covers_key_by_key(rt: HostRuntime) -> Result<(), Fail> {
+        let mine = needs_of(rt.alloc(), &[(1, 1, 2), (3, 1, 1)])?;
+        let theirs = needs_of(rt.alloc(), &[(1, 1, 1), (2, 1, 1)])?;
+        assert!(rt; !mine.covers(&theirs) && !theirs.covers(&mine));
+        assert!(rt; mine.covers(&Needs::new(rt.alloc())));
+        assert!(rt; mine.covers(&needs_of(rt.alloc(), &[(1, 1, 1)])?));
+        assert!(rt; !mine.covers(&needs_of(rt.alloc(), &[(1, 2, 1)])?));
+        let mut joined = mine.copy()?;
+        joined.join(&theirs)?;
+        assert!(rt; shows(&joined, &[1, 2, 3], &[(1, 1, 2), (2, 1, 1), (3, 1, 1)]));
+        assert!(rt; joined.covers(&mine) && joined.covers(&theirs));
+        assert!(rt; mine.at_most(&joined) && !joined.at_most(&mine));
+        Ok(())
+    }
+}
