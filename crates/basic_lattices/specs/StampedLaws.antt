@@ -7,6 +7,7 @@ use Rattle.std.specs.FinMap.{nat_cmp-IsAntisymmetric}
 use Rattle.std.specs.declared.cmp.Ordering.{Ordering}
 use Rattle.std.specs.declared.cmp.Ordering.TheVariants.{Less, Equal, Greater}
 use Rattle.lattice_laws.specs.Lattice.{LatticeLaws, Associative}
+use Rattle.lattice_laws.specs.Ties.{both_tie}
 use Rattle.basic_lattices.specs.GreaterLaws.{greater_laws, greater_associative, greater_unless_below, greater_if_below, greater_is_second}
 use Rattle.basic_lattices.specs.Stamped.{stamp_cmp, IsStamped}
 use Rattle.basic_lattices.specs.WordLaws.{word_total, word_exact}
@@ -14,12 +15,6 @@ use Rattle.basic_lattices.specs.declared.stamped.Stamped.{Stamped}
 
 pub stamp_total : IsTotalOrder stamp_cmp
 stamp_total = then_total (on_total (λ s. s.number) nat_cmp_total) (then_total (on_total (λ s. s.session) nat_cmp_total) (then_total (on_total (λ s. s.place) nat_cmp_total) (on_total (λ s. s.word) word_total)))
-
--- two orders, one after the other, tie where both do
-both_tie : (first second : Ordering) → ordering_then first second ≡ Equal → (first ≡ Equal) × (second ≡ Equal)
-both_tie Less second e = absurd (cc)
-both_tie Equal second e = (refl, e)
-both_tie Greater second e = absurd (cc)
 
 -- stamped words that tie are one
 pub stamp_exact : (a b : Stamped) → stamp_cmp a b ≡ Equal → a ≡ b

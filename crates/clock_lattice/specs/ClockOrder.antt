@@ -4,10 +4,10 @@ use Rattle.std.specs.Ordering.{ordering_then, nat_cmp, eq_by_cmp}
 use Rattle.std.specs.Cmp.{IsTotalOrder, IsPartialOrder, IsEquivalence, IsPartialEquivalence, partial_equiv_from_equiv, eq_by_cmp_equiv, partial_order_from_total, nat_cmp_total}
 use Rattle.std.specs.Cmp.Lexicographic.{slice_cmp}
 use Rattle.std.proofs.lemmas.Cmp.{on_total, then_total, lists_total}
-use Rattle.std.proofs.Common.{ap}
-use Rattle.std.specs.FinMap.{IsAntisymmetric, nat_cmp-IsAntisymmetric, slice_cmp-IsAntisymmetric}
+use Rattle.std.specs.FinMap.{nat_cmp-IsAntisymmetric, slice_cmp-IsAntisymmetric}
 use Rattle.std.specs.declared.cmp.Ordering.{Ordering}
-use Rattle.std.specs.declared.cmp.Ordering.TheVariants.{Less, Equal, Greater}
+use Rattle.std.specs.declared.cmp.Ordering.TheVariants.{Equal}
+use Rattle.lattice_laws.specs.Ties.{both_tie}
 
 -- by session, then by count
 abbrev pub entry_cmp : ℕ × ℕ → ℕ × ℕ → Ordering
@@ -36,3 +36,15 @@ clock_partial_order = partial_order_from_total clock_total
 
 pub clock_ties : (a b : List (ℕ × ℕ)) → clock_eq a b ≡ eq_by_cmp clock_cmp a b
 clock_ties a b = refl
+
+-- entries that tie are one
+entry_exact : (a b : ℕ × ℕ) → entry_cmp a b ≡ Equal → a ≡ b
+entry_exact a b e =
+    let ties = both_tie (nat_cmp a.0 b.0) (nat_cmp a.1 b.1) e in
+    let session = nat_cmp-IsAntisymmetric a.0 b.0 ties.0 in
+    let count = nat_cmp-IsAntisymmetric a.1 b.1 ties.1 in
+    λ i. (session i, count i)
+
+-- clocks that tie are one
+pub clock_exact : (a b : List (ℕ × ℕ)) → clock_cmp a b ≡ Equal → a ≡ b
+clock_exact = slice_cmp-IsAntisymmetric entry_exact

@@ -25,7 +25,7 @@ pub and_both : (a b : Bool) → IsTrue a → IsTrue b → IsTrue (a && b)
 and_both a b g h = ap (λ x. x && b) g ∙ h
 
 -- a test that passes is true
-true_from_pass : (b : Bool) → T b → IsTrue b
+pub true_from_pass : (b : Bool) → T b → IsTrue b
 true_from_pass true h = refl
 true_from_pass false h = absurd h
 

@@ -13,3 +13,4 @@ pub mod Places
 pub mod Sets
 pub mod SetsLaws
 pub mod Spelling
+pub mod Ties

@@ -95,7 +95,7 @@ module _ {K : Type 0} {cmp : K → K → Ordering} (total : IsTotalOrder cmp) (e
   points_laws = map_laws total exact is_member point_laws (λ _ _. tt)
 
   -- the union of two sets is a set
-  united_is_set : (a b : List K) → IsSet cmp is_member a → IsSet cmp is_member b → IsSet cmp is_member (united cmp a b)
+  pub united_is_set : (a b : List K) → IsSet cmp is_member a → IsSet cmp is_member b → IsSet cmp is_member (united cmp a b)
   united_is_set a b is_a is_b = map_is_set cmp is_member _ (points_laws.closed (as_map a) (as_map b) (set_is_map cmp is_member a is_a) (set_is_map cmp is_member b is_b) tt).0
 
   pub set_laws : LatticeLaws (IsSet cmp is_member) (λ _ _. ⊤) (united cmp)

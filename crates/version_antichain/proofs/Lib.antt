@@ -1,0 +1,2 @@
+mod Overtaken
+mod Removal

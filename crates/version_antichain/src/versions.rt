@@ -1,0 +1,257 @@
+//! The versions that no other has seen.
+ghost use Rattle.std.specs.Prelude.{◌≡◌, ◌↔◌, ◌<◌, ◌||◌, List, [], ◌∷◌, ℕ, map, length, slice_get, slice_index_or, IsTrue, IfOk, OnOk, OnErr, ⊤};
+ghost use Rattle.std.specs.List.{list_any, list_all};
+ghost use Rattle.std.specs.Option.{option_map};
+ghost use Rattle.std.specs.Ordering.{eq_by_cmp};
+ghost use Rattle.lattice_laws.specs.Sets.{IsSet, united};
+ghost use Rattle.clock_lattice.specs.Clock as clocks;
+ghost use Rattle.version_antichain.specs.declared.version.Version.{Version};
+ghost use Rattle.version_antichain.specs.Antichain.{maximal};
+ghost use Rattle.version_antichain.specs.Version.{IsVersion, version_cmp, is_below};
+ghost use Rattle.version_antichain.specs.Versions.{IsVersions, joined_versions};
+ghost use Rattle.version_antichain.specs.VersionsLaws.{versions_laws, versions_associative};
+
+use crate::Version;
+use basic_lattices::Word;
+use clock_lattice::Clock;
+use lattice_laws::entries::{copy_entries, join_entries};
+use lattice_laws::{AllFit, Lattice, MapKey, Member, NoMemory};
+use std::alloc::Global;
+use std::marker::Model;
+
+/// The versions of a register of which none was overtaken: no clock is strictly below another's.
+/// Equal clocks with different words stand side by side. Contracts see the versions in order, each
+/// once. A merge compares pairs; a register holds few versions, at most one of each session.
+#[derive(Debug, Drop)]
+pub struct Versions {
+    versions: Vec<(Version, Member)>,
+}
+
+impl Model for Versions {
+    ghost use Rattle.std.specs.Prelude.{List, map};
+    ghost use Rattle.version_antichain.specs.declared.version.Version.{Version};
+
+    ghost Value = { List Version };
+
+    ghost use Rattle.version_antichain.specs.Versions.{IsVersions};
+
+    ghost view = { λ all. map (λ entry. entry.0) all.versions.items };
+
+    ghost invariant = { λ all. IsVersions (map (λ entry. entry.0) all.versions.items) };
+}
+
+impl Versions {
+    /// No version. Takes no memory.
+    pub fn new(alloc: Global) -> Versions
+        ensures { result ≡ [] }
+    {
+        Versions {
+            versions: Vec::new(alloc),
+        }
+    }
+
+    /// The one version of a word that was written under a clock.
+    pub fn one(alloc: Global, clock: Clock, word: Word) -> Result<Versions, NoMemory>
+        ensures { IfOk result (λ one. one ≡ record { clock = clock; word = word } ∷ []) }
+    {
+        let version = Version { clock, word };
+        version.known();
+        let mut versions = Vec::new(alloc);
+        versions.push((version, Member))?;
+        Ok(Versions { versions })
+    }
+
+    /// How many versions there are. Takes no memory.
+    pub fn len(&self) -> usize
+        ensures { result ≡ length self.now }
+    {
+        self.versions.len()
+    }
+
+    /// The clock and word of the version at place `i`, counted from 0 in the order of the versions,
+    /// and nothing past the last. Takes no memory.
+    pub fn at(&self, i: usize) -> Option<(&Clock, &Word)>
+        ensures { option_map (λ version. record { clock = version.0.now; word = version.1.now }) result ≡ slice_get self.now i }
+    {
+        let entry = self.versions.get(i)?;
+        Some((&entry.0.clock, &entry.0.word))
+    }
+}
+
+/// The maximal versions of the maximal versions of one set and of another set are those of both sets:
+/// what was overtaken once stays so, whatever is merged first.
+pub fn maximal_of_maximal()
+    ensures { (a b : List Version) → IsSet version_cmp IsVersion a → IsSet version_cmp IsVersion b → maximal is_below (united version_cmp (maximal is_below a) b) ≡ maximal is_below (united version_cmp a b) }
+{}
+
+impl Lattice for Versions {
+    ghost Plain = { List Version };
+
+    ghost plain = { λ versions. versions };
+
+    ghost is_value = { IsVersions };
+
+    ghost fits = { λ _ _. ⊤ };
+
+    ghost joined = { joined_versions };
+
+    fn known(&self) {
+        let _versions = &self.versions;
+    }
+
+    fn join(&mut self, other: &Versions) -> Result<(), NoMemory> {
+        let alloc = *self.versions.allocator();
+        let mut all = join_entries(alloc, self.versions.as_slice(), other.versions.as_slice())?;
+        drop_overtaken(&mut all);
+        self.versions = all;
+        Ok(())
+    }
+
+    fn copy(&self) -> Result<Versions, NoMemory> {
+        Ok(Versions {
+            versions: copy_entries(*self.versions.allocator(), self.versions.as_slice())?,
+        })
+    }
+
+    fn at_most(&self, other: &Versions) -> bool {
+        all_within(self.versions.as_slice(), other.versions.as_slice())
+    }
+
+    ghost laws = { versions_laws };
+
+    ghost associative = { versions_associative };
+}
+
+impl AllFit for Versions {
+    ghost all_fit = { λ _ _. tt };
+}
+
+// Drops each version whose clock is strictly below another's.
+fn drop_overtaken(all: &mut Vec<(Version, Member)>)
+    ensures { all.new.items ≡ maximal (λ entry other. is_below entry.0 other.0) all.old.items }
+{
+    let mut at = 0;
+    while at < all.len() {
+        if is_overtaken(&all[at].0, all) {
+            all.remove(at);
+        } else {
+            at += 1;
+        }
+    }
+}
+
+// Whether each of the versions stands among the others, or was overtaken by one of them.
+fn all_within(all: &[(Version, Member)], others: &[(Version, Member)]) -> bool
+    ensures { result ≡ list_all (λ entry. list_any (λ other. eq_by_cmp version_cmp entry.0 other.0) others.now || list_any (λ other. is_below entry.0 other.0) others.now) all.now }
+{
+    all.iter().all(|entry| stands_among(&entry.0, others) || is_overtaken(&entry.0, others))
+}
+
+// Whether the version stands among the others.
+fn stands_among(version: &Version, others: &[(Version, Member)]) -> bool
+    ensures { result ≡ list_any (λ other. eq_by_cmp version_cmp version.now other.0) others.now }
+{
+    others.iter().any(|other| version.cmp(&other.0).is_eq())
+}
+
+// Whether the version's clock is strictly below that of one of the others.
+fn is_overtaken(version: &Version, others: &[(Version, Member)]) -> bool
+    ensures { result ≡ list_any (λ other. is_below version.now other.0) others.now }
+{
+    others
+        .iter()
+        .any(|other| is_below(&version.clock, &other.0.clock))
+}
+
+// Whether the clock is strictly below the other.
+fn is_below(clock: &Clock, other: &Clock) -> bool
+    ensures { result ≡ clocks.is_below clock.now other.now }
+{
+    other.covers(clock) && !clock.covers(other)
+}
+
+#[cfg(test)]
+mod tests {
+    use super::*;
+    use std::test::Fail;
+
+    fn clock_of(alloc: Global, counts: &[(u16, u64)]) -> Result<Clock, Fail> {
+        let mut clock = Clock::new(alloc);
+        for (session, n) in counts {
+            clock.raise(*session, *n)?;
+        }
+        Ok(clock)
+    }
+
+    fn one(alloc: Global, counts: &[(u16, u64)], word: &[u8]) -> Result<Versions, Fail> {
+        Ok(Versions::one(alloc, clock_of(alloc, counts)?, Word::of(alloc, word)?)?)
+    }
+
+    // The join of the one-version registers, in the order given.
+    fn joined(alloc: Global, versions: &[(&[(u16, u64)], &[u8])]) -> Result<Versions, Fail> {
+        let mut all = Versions::new(alloc);
+        for (counts, word) in versions {
+            all.join(&one(alloc, counts, word)?)?;
+        }
+        Ok(all)
+    }
+
+    fn shows(
+        alloc: Global,
+        versions: &Versions,
+        expected: &[(&[(u16, u64)], &[u8])],
+    ) -> Result<bool, Fail> {
+        for i in 0..expected.len() {
+            let (counts, word) = expected[i];
+            let clock = clock_of(alloc, counts)?;
+            let Some(shown) = versions.at(i) else {
+                return Ok(false);
+            };
+            if *shown.0 != clock || shown.1.as_bytes() != word {
+                return Ok(false);
+            }
+        }
+        Ok(versions.len() == expected.len() && versions.at(expected.len()).is_none())
+    }
+
+    // A has written x and then z, having seen only its own x; B has written y and seen nothing.
+    #[test]
+    fn the_order_of_joins_does_not_matter(rt: HostRuntime) -> Result<(), Fail> {
+        let x: (&[(u16, u64)], &[u8]) = (&[(1, 1)], b"x");
+        let y: (&[(u16, u64)], &[u8]) = (&[(2, 1)], b"y");
+        let z: (&[(u16, u64)], &[u8]) = (&[(1, 2)], b"z");
+        for order in [[x, y, z], [x, z, y], [z, y, x], [y, z, x]] {
+            let all = joined(rt.alloc(), &order)?;
+            assert!(rt; shows(rt.alloc(), &all, &[z, y])?);
+        }
+        Ok(())
+    }
+
+    #[test]
+    fn equal_clocks_stand_side_by_side(rt: HostRuntime) -> Result<(), Fail> {
+        let red: (&[(u16, u64)], &[u8]) = (&[(1, 1)], b"red");
+        let blue: (&[(u16, u64)], &[u8]) = (&[(1, 1)], b"blue");
+        let later: (&[(u16, u64)], &[u8]) = (&[(1, 1), (2, 1)], b"green");
+        let both = joined(rt.alloc(), &[red, blue, red])?;
+        assert!(rt; shows(rt.alloc(), &both, &[blue, red])?);
+        let mut all = both.copy()?;
+        assert!(rt; shows(rt.alloc(), &all, &[blue, red])?);
+        all.join(&joined(rt.alloc(), &[later])?)?;
+        assert!(rt; shows(rt.alloc(), &all, &[later])?);
+        Ok(())
+    }
+
+    #[test]
+    fn is_at_most_what_holds_or_overtook_it(rt: HostRuntime) -> Result<(), Fail> {
+        let x = one(rt.alloc(), &[(1, 1)], b"x")?;
+        let y = one(rt.alloc(), &[(2, 1)], b"y")?;
+        let z = one(rt.alloc(), &[(1, 2)], b"z")?;
+        let mut both = x.copy()?;
+        both.join(&y)?;
+        assert!(rt; x.at_most(&x) && x.at_most(&z) && x.at_most(&both) && y.at_most(&both));
+        assert!(rt; !z.at_most(&x) && !x.at_most(&y) && !both.at_most(&x) && !both.at_most(&z));
+        assert!(rt; Versions::new(rt.alloc()).at_most(&x));
+        assert!(rt; !x.at_most(&Versions::new(rt.alloc())));
+        Ok(())
+    }
+}
