@@ -1,12 +1,10 @@
 -- The join of pairs: which side wins, that it is one pair, and its two laws.
-use Rattle.std.specs.Prelude.{◌≡◌, ◌≢◌, ◌⊎◌, ◌↔◌, ◌<◌, ◌^◌, ℕ, max, Bool, true, false, List, [], ◌∷◌, length, ⊤}
+use Rattle.std.specs.Prelude.{◌≡◌, ◌≢◌, ◌↔◌, ◌<◌, ◌^◌, ℕ, Bool, true, false, List, [], ◌∷◌, length, ⊤}
 use mathlib.Core.Bool.{beq}
 use Rattle.std.proofs.Common.{refl, sym, ap, subst, ◌∙◌, inl, inr, arith}
 use Rattle.std.specs.Cmp.{nat_cmp_total}
-use Rattle.std.specs.Ordering.{nat_cmp}
 use Rattle.std.specs.FinMap.{nat_cmp-IsAntisymmetric}
 use Rattle.lattice_laws.specs.Lattice.{LatticeLaws}
-use Rattle.lattice_laws.specs.Entries.{IsMap, joined_maps}
 use Rattle.lattice_laws.specs.EntriesLaws.{map_laws}
 use Rattle.lattice_laws.specs.GreatestLaws.{max_laws}
 use Rattle.basic_lattices.specs.TextSet.{united}

@@ -1,5 +1,5 @@
 -- The greater of two in a total order in which only equal values tie.
-use Rattle.std.specs.Prelude.{◌≡◌, Bool, true, false, cond, IsTrue, ◌↔◌, ⊤, refl}
+use Rattle.std.specs.Prelude.{◌≡◌, true, false, cond, IsTrue, ◌↔◌, ⊤, refl}
 use Rattle.std.proofs.Common.{sym, ap, subst, ◌∙◌}
 use Rattle.std.specs.Cmp.{IsTotalOrder}
 use Rattle.std.specs.Ordering.{ord_max, is_lt, is_le, ordering_reverse}

@@ -1,5 +1,5 @@
 -- Words with a stamp, ordered by the stamp and then by the word.
-use Rattle.std.specs.Prelude.{ℕ, ◌<◌, ◌^◌}
+use Rattle.std.specs.Prelude.{◌<◌, ◌^◌}
 use Rattle.std.specs.Ordering.{ordering_then, nat_cmp}
 use Rattle.std.specs.declared.cmp.Ordering.{Ordering}
 use Rattle.basic_lattices.specs.Word.{IsWord, word_cmp}

@@ -1,11 +1,10 @@
 -- The order of stamped words is total, and only equal ones tie; so the greater of two is a lattice.
-use Rattle.std.specs.Prelude.{◌≡◌, ◌↔◌, IsTrue, true, false, ⊤, refl}
+use Rattle.std.specs.Prelude.{◌≡◌, ◌↔◌, IsTrue, true, false, ⊤}
 use Rattle.std.specs.Cmp.{IsTotalOrder, nat_cmp_total}
 use Rattle.std.proofs.lemmas.Cmp.{on_total, then_total}
-use Rattle.std.specs.Ordering.{ord_max, nat_cmp, ordering_then, is_lt, is_le}
+use Rattle.std.specs.Ordering.{ord_max, nat_cmp, is_lt, is_le}
 use Rattle.std.specs.FinMap.{nat_cmp-IsAntisymmetric}
-use Rattle.std.specs.declared.cmp.Ordering.{Ordering}
-use Rattle.std.specs.declared.cmp.Ordering.TheVariants.{Less, Equal, Greater}
+use Rattle.std.specs.declared.cmp.Ordering.TheVariants.{Equal}
 use Rattle.lattice_laws.specs.Lattice.{LatticeLaws, Associative}
 use Rattle.lattice_laws.specs.Ties.{both_tie}
 use Rattle.basic_lattices.specs.GreaterLaws.{greater_laws, greater_associative, greater_unless_below, greater_if_below, greater_is_second}

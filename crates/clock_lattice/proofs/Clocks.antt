@@ -1,12 +1,13 @@
 -- What calls leave is a clock, or needs, whether they found memory or not; and how code tests what covers what.
-use Rattle.std.specs.Prelude.{◌≡◌, ◌↔◌, ℕ, ◌<◌, ◌^◌, max, Bool, true, false, IsTrue, List, [], ◌∷◌, length, Result, Ok, Err, OnOk, OnErr}
-use Rattle.std.proofs.Common.{refl, sym, ap, subst, ◌∙◌, arith}
+use Rattle.std.specs.Prelude.{◌≡◌, ◌↔◌, ℕ, ◌<◌, ◌^◌, max, Bool, true, false, IsTrue, List, Result, Ok, Err, OnOk, OnErr}
+use Rattle.std.proofs.Common.{refl, sym, ap, subst, ◌∙◌}
 use mathlib.Core.Bool.{false≢true}
 use Rattle.std.specs.Ordering.{nat_cmp}
 use Rattle.std.specs.declared.cmp.Ordering.{Ordering}
 use Rattle.lattice_laws.specs.Entries.{plain_entries, raised}
+use Rattle.lattice_laws.specs.EntriesLaws.{plain_itself}
 use Rattle.clock_lattice.specs.Clock.{IsClock, joined_clocks, one_count, covers}
-use Rattle.clock_lattice.specs.ClockLaws.{clock_laws, clock_coverage, one_count_is_clock, one_count_entry}
+use Rattle.clock_lattice.specs.ClockLaws.{clock_laws, one_count_is_clock, one_count_entry}
 use Rattle.clock_lattice.specs.ClockOrder.{clock_cmp}
 use Rattle.clock_lattice.specs.Coverage.{CoverageLaws}
 use Rattle.clock_lattice.specs.Needs.{IsSomeClock, IsNeeds, joined_needs}
@@ -43,11 +44,6 @@ covers_slices plain is_value joined covers laws result mine theirs mine_items th
     let theirs_is = ap plain t in
     let same : result ≡ covers (plain mine) (plain theirs) = same_test _ _ test (laws.changes_nothing (plain theirs) (plain mine) (subst is_value (sym theirs_is) vt) (subst is_value (sym mine_is) vm)) in
     same ∙ ap (λ x. covers x (plain theirs)) (mine_is ∙ s) ∙ ap (covers self) (theirs_is ∙ o)
-
--- entries listed as they are
-plain_itself : (entries : List (ℕ × ℕ)) → plain_entries (λ n. n) entries ≡ entries
-plain_itself [] = refl
-plain_itself (entry ∷ entries) = ap (λ rest. entry ∷ rest) (plain_itself entries)
 
 -- the order of the slices of two lists is that of the clocks
 pub compared_slices : (result : Ordering) (mine theirs mine_items theirs_items self other : List (ℕ × ℕ)) → mine ≡ mine_items → theirs ≡ theirs_items → plain_entries (λ n. n) mine_items ≡ self → plain_entries (λ n. n) theirs_items ≡ other → result ≡ clock_cmp mine theirs → result ≡ clock_cmp self other

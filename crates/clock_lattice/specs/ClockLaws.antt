@@ -1,18 +1,16 @@
 -- Clocks are a lattice, told by their counts, and covering is its order turned round.
-use Rattle.std.specs.Prelude.{◌≡◌, ◌↔◌, ℕ, zero, suc, ◌<◌, ◌≤◌, ◌^◌, leb, max, Bool, true, false, not, IsTrue, List, [], ◌∷◌, ⊤}
-use Rattle.std.proofs.Common.{refl, sym, ap, subst, ◌∙◌, arith}
-use mathlib.Core.Bool.{false≢true}
+use Rattle.std.specs.Prelude.{◌≡◌, ℕ, zero, suc, ◌<◌, ◌≤◌, ◌^◌, leb, max, IsTrue, List, [], ◌∷◌, ⊤}
+use Rattle.std.proofs.Common.{refl, arith}
 use Rattle.std.specs.Cmp.{nat_cmp_total}
-use Rattle.std.specs.Ordering.{nat_cmp}
 use Rattle.std.specs.FinMap.{nat_cmp-IsAntisymmetric}
 use Rattle.std.proofs.lemmas.Bool.{leb-true, le-leb}
 use Rattle.std.proofs.lemmas.List.Elements.{All-nil, All-cons}
 use Rattle.lattice_laws.specs.Lattice.{LatticeLaws, Associative}
-use Rattle.lattice_laws.specs.Entries.{IsEntry, joined_maps}
+use Rattle.lattice_laws.specs.Entries.{IsEntry}
 use Rattle.lattice_laws.specs.EntriesLaws.{map_laws, map_associative}
 use Rattle.lattice_laws.specs.GreatestLaws.{max_laws, max_associative}
 use Rattle.lattice_laws.specs.Ascending.{and_left, and_right, and_both}
-use Rattle.clock_lattice.specs.Clock.{IsCount, IsClock, count_of, joined_clocks, one_count, covers, is_below}
+use Rattle.clock_lattice.specs.Clock.{IsCount, IsClock, count_of, joined_clocks, one_count, covers}
 use Rattle.clock_lattice.specs.Coverage.{CoverageLaws}
 use Rattle.clock_lattice.specs.CoverageLaws.{coverage_laws}
 use Rattle.clock_lattice.specs.SparseLaws.{IsBottom, value_at-joined, same_values, at_each_key, from_each_key, each_changes_nothing}
@@ -26,6 +24,10 @@ clock_associative = map_associative nat_cmp_total nat_cmp-IsAntisymmetric (λ se
 -- the empty clock counts nothing
 pub empty_is_clock : IsClock []
 empty_is_clock = record { ascending = refl; are_entries = All-nil (IsEntry (λ session. session < 2 ^ 16) IsCount) }
+
+-- the empty clock joined with another is the other
+pub joined_empty : (clock : List (ℕ × ℕ)) → IsClock clock → joined_clocks [] clock ≡ clock
+joined_empty clock is = clock_laws.commutative [] clock empty_is_clock is tt
 
 -- no puts of a session are as good as the session not being there
 zero_is_bottom : IsBottom IsCount (λ _. ⊤) max 0

@@ -1,19 +1,18 @@
 -- Needs are a lattice, told by their clocks, and covering is its order turned round.
-use Rattle.std.specs.Prelude.{◌≡◌, ◌↔◌, ℕ, ◌<◌, ◌≤◌, ◌^◌, max, IsTrue, List, [], ◌∷◌, length, All, ⊤}
-use Rattle.std.proofs.Common.{refl, sym, ap, subst, ◌∙◌, arith}
+use Rattle.std.specs.Prelude.{◌≡◌, ℕ, ◌<◌, ◌^◌, IsTrue, List, [], ◌∷◌, length, ⊤}
+use Rattle.std.proofs.Common.{refl, ap, arith}
 use Rattle.std.proofs.lemmas.List.Elements.{All-nil, All-cons, All-head}
 use Rattle.std.specs.Cmp.{nat_cmp_total}
-use Rattle.std.specs.Ordering.{nat_cmp}
 use Rattle.std.specs.FinMap.{nat_cmp-IsAntisymmetric}
 use Rattle.lattice_laws.specs.Lattice.{LatticeLaws, Associative}
-use Rattle.lattice_laws.specs.Entries.{IsEntry, joined_maps}
+use Rattle.lattice_laws.specs.Entries.{IsEntry}
 use Rattle.lattice_laws.specs.EntriesLaws.{map_laws, map_associative}
 use Rattle.clock_lattice.specs.Clock.{IsCount, IsClock, count_of, joined_clocks, covers}
-use Rattle.clock_lattice.specs.ClockLaws.{clock_laws, clock_associative, clock_coverage, count-joined, empty_is_clock}
+use Rattle.clock_lattice.specs.ClockLaws.{clock_laws, clock_associative, clock_coverage, count-joined, empty_is_clock, joined_empty}
 use Rattle.clock_lattice.specs.Coverage.{CoverageLaws}
 use Rattle.clock_lattice.specs.CoverageLaws.{coverage_laws}
 use Rattle.clock_lattice.specs.Needs.{IsSomeClock, IsNeeds, clock_at, joined_needs, one_need, covers_needs}
-use Rattle.clock_lattice.specs.SparseLaws.{IsBottom, first_value, value_at-joined, same_values, at_each_key, from_each_key, each_changes_nothing}
+use Rattle.clock_lattice.specs.SparseLaws.{IsBottom, first_value, value_at_is_any, value_at-joined, same_values, at_each_key, from_each_key, each_changes_nothing}
 
 -- a clock that counts something of a session has an entry
 some_entry : (clock : List (ℕ × ℕ)) (session : ℕ) → 0 < count_of session clock → 0 < length clock
@@ -49,13 +48,17 @@ empty_is_bottom = record {
   any_value = λ clock v. v.0;
   any_bottom = empty_is_clock;
   not_kept = λ clock v e. let none : length clock ≡ 0 = ap length e in omega (arith, none, v.1);
-  joined_left = λ clock v. clock_laws.commutative [] clock empty_is_clock v tt;
+  joined_left = joined_empty;
   joined_right = λ clock v. refl;
 }
 
+-- needs of nothing
+pub empty_are_needs : IsNeeds []
+empty_are_needs = record { ascending = refl; are_entries = All-nil (IsEntry (λ key. key < 2 ^ 16) IsSomeClock) }
+
 -- the needs of one key are needs
 pub one_need_is_needs : (key : ℕ) (clock : List (ℕ × ℕ)) → key < 2 ^ 16 → IsClock clock → IsNeeds (one_need key clock)
-one_need_is_needs key [] k_fits is = record { ascending = refl; are_entries = All-nil (IsEntry (λ key. key < 2 ^ 16) IsSomeClock) }
+one_need_is_needs key [] k_fits is = empty_are_needs
 one_need_is_needs key (entry ∷ clock) k_fits is = record {
   ascending = refl;
   are_entries = All-cons (IsEntry (λ key. key < 2 ^ 16) IsSomeClock) (key, entry ∷ clock) [] (k_fits, (is, omega arith)) (All-nil (IsEntry (λ key. key < 2 ^ 16) IsSomeClock));
@@ -71,6 +74,10 @@ needs_laws = map_laws nat_cmp_total nat_cmp-IsAntisymmetric (λ key. key < 2 ^ 1
 
 pub needs_associative : Associative IsNeeds (λ _ _. ⊤) joined_needs
 needs_associative = map_associative nat_cmp_total nat_cmp-IsAntisymmetric (λ key. key < 2 ^ 16) some_clock_laws (λ _ _. tt) some_clock_associative
+
+-- what must be seen of a key is a clock
+pub clock_at_is_clock : (key : ℕ) (needs : List (ℕ × List (ℕ × ℕ))) → IsNeeds needs → IsClock (clock_at key needs)
+clock_at_is_clock = value_at_is_any nat_cmp_total nat_cmp-IsAntisymmetric (λ key. key < 2 ^ 16) some_clock_laws (λ _ _. tt) empty_is_bottom
 
 -- the clock of a key in a join is the join of its two clocks
 pub clock-joined : (key : ℕ) (a b : List (ℕ × List (ℕ × ℕ))) → IsNeeds a → IsNeeds b → clock_at key (joined_needs a b) ≡ joined_clocks (clock_at key a) (clock_at key b)

@@ -1,10 +1,9 @@
 -- Sparse maps: a key that is not there stands for a bottom, which is never kept. What stands at each key says all of such a map.
-use Rattle.std.specs.Prelude.{◌≡◌, ◌≢◌, ◌↔◌, ◌&&◌, Bool, true, false, cond, IsTrue, List, [], ◌∷◌, Option, Some, None, All, unwrap_or}
+use Rattle.std.specs.Prelude.{◌≡◌, ◌≢◌, ◌↔◌, Bool, true, false, cond, IsTrue, List, [], ◌∷◌, Option, Some, None, unwrap_or}
 use Rattle.std.specs.List.{list_all}
-use Rattle.std.proofs.Common.{refl, sym, ap, subst, ◌∙◌}
+use Rattle.std.proofs.Common.{refl, sym, ap, ◌∙◌}
 use Rattle.std.proofs.lemmas.Cmp.{tied_itself}
 use Rattle.std.specs.declared.cmp.Ordering.{Ordering}
-use Rattle.std.specs.declared.cmp.Ordering.TheVariants.{Equal}
 use Rattle.std.specs.Ordering.{is_eq, eq_by_cmp}
 use Rattle.std.specs.Cmp.{IsTotalOrder}
 use Rattle.std.specs.FinMap.{find, is_sorted, IsAntisymmetric}
@@ -88,6 +87,10 @@ module _ {K P : Type 0} {cmp : K → K → Ordering} {is_value is_any : P → Ty
   found : (key : K) (a : List (K × P)) → IsMap cmp is_key is_value a → IsValue is_value (find cmp key a)
   found key a ma = found_is_value cmp is_key is_value key a ma.are_entries
 
+  -- what stands at a key is a value that is kept, or the bottom
+  pub value_at_is_any : (key : K) (a : List (K × P)) → IsMap cmp is_key is_value a → is_any (value_at cmp bottom key a)
+  value_at_is_any key a ma = found_any is_bottom (find cmp key a) (found key a ma)
+
   -- at each key of a join stands the join of what stood there
   pub value_at-joined : (key : K) (a b : List (K × P)) → IsMap cmp is_key is_value a → IsMap cmp is_key is_value b → value_at cmp bottom key (joined_maps cmp joined a b) ≡ joined (value_at cmp bottom key a) (value_at cmp bottom key b)
   value_at-joined key a b ma mb =
@@ -103,7 +106,7 @@ module _ {K P : Type 0} {cmp : K → K → Ordering} {is_value is_any : P → Ty
       (at_most : P → P → Bool) → ((x : P) → at_most bottom x ≡ true) → ((x y : P) → is_any x → is_any y → (at_most x y ≡ true) ↔ (joined x y ≡ y)) → (closed : (a b : List (K × P)) → IsMap cmp is_key is_value a → IsMap cmp is_key is_value b → IsMap cmp is_key is_value (joined_maps cmp joined a b))
       → (a b : List (K × P)) → IsMap cmp is_key is_value a → IsMap cmp is_key is_value b → IsTrue (each_at_most cmp bottom at_most a b) ↔ (joined_maps cmp joined a b ≡ b)
   each_changes_nothing at_most below_all is_order closed a b ma mb =
-      let any : (key : K) (c : List (K × P)) → IsMap cmp is_key is_value c → is_any (value_at cmp bottom key c) = λ key c mc. found_any is_bottom (find cmp key c) (found key c mc) in (
+      let any : (key : K) (c : List (K × P)) → IsMap cmp is_key is_value c → is_any (value_at cmp bottom key c) = value_at_is_any in (
         (λ h. same_values (joined_maps cmp joined a b) b (closed a b ma mb) mb (λ key.
             value_at-joined key a b ma mb ∙ (is_order (value_at cmp bottom key a) (value_at cmp bottom key b) (any key a ma) (any key b mb)).0 (at_each_key total exact bottom at_most below_all a b h key))),
         (λ e. from_each_key total exact bottom at_most below_all a b ma.ascending (λ key.

@@ -1,5 +1,5 @@
 //! Vector clocks.
-ghost use Rattle.std.specs.Prelude.{◌≡◌, List, [], ℕ, length, slice_get, refl, OnOk, OnErr, ⊤};
+ghost use Rattle.std.specs.Prelude.{◌≡◌, List, [], ℕ, length, slice_get, refl, IfOk, OnOk, OnErr, ⊤};
 ghost use Rattle.clock_lattice.specs.Clock.{IsClock, count_of, joined_clocks, one_count, covers};
 ghost use Rattle.clock_lattice.specs.ClockLaws.{clock_laws, clock_associative};
 ghost use Rattle.clock_lattice.specs.ClockOrder.{clock_eq, clock_cmp, clock_partial_cmp, clock_total, clock_equivalence, clock_partial_equivalence, clock_partial_order, clock_ties};
@@ -53,6 +53,16 @@ impl Clock {
         raise_entry(&mut self.counts, session, Count::of(n))
     }
 
+    /// The join of two clocks: of each session the greater count.
+    pub fn joined(&self, other: &Clock) -> Result<Clock, NoMemory>
+        ensures { IfOk result (λ both. both ≡ joined_clocks self.now other.now) }
+    {
+        let alloc = *self.counts.allocator();
+        Ok(Clock {
+            counts: join_entries(alloc, self.counts.as_slice(), other.counts.as_slice())?,
+        })
+    }
+
     /// How many puts of the session are counted, 0 where none is. Takes no memory.
     pub fn count(&self, session: u16) -> u64
         ensures { result ≡ count_of session self.now }
@@ -104,8 +114,7 @@ impl Lattice for Clock {
     }
 
     fn join(&mut self, other: &Clock) -> Result<(), NoMemory> {
-        let alloc = *self.counts.allocator();
-        self.counts = join_entries(alloc, self.counts.as_slice(), other.counts.as_slice())?;
+        *self = self.joined(other)?;
         Ok(())
     }
 

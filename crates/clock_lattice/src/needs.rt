@@ -1,5 +1,5 @@
 //! What must have been seen of each key.
-ghost use Rattle.std.specs.Prelude.{◌≡◌, List, [], ℕ, length, slice_get, OnOk, OnErr, ⊤};
+ghost use Rattle.std.specs.Prelude.{◌≡◌, List, [], ℕ, length, slice_get, IfOk, OnOk, OnErr, ⊤};
 ghost use Rattle.std.specs.Option.{option_map};
 ghost use Rattle.std.specs.Ordering.{nat_cmp};
 ghost use Rattle.std.specs.FinMap.{find};
@@ -55,6 +55,16 @@ impl Needs {
         raise_entry(&mut self.clocks, key, raised)
     }
 
+    /// The join of two needs: at each key the join of the two clocks.
+    pub fn joined(&self, other: &Needs) -> Result<Needs, NoMemory>
+        ensures { IfOk result (λ both. both ≡ joined_needs self.now other.now) }
+    {
+        let alloc = *self.clocks.allocator();
+        Ok(Needs {
+            clocks: join_entries(alloc, self.clocks.as_slice(), other.clocks.as_slice())?,
+        })
+    }
+
     /// The clock of the key, and nothing where the key has none. Takes no memory.
     pub fn of(&self, key: u16) -> Option<&Clock>
         ensures { option_map (λ clock. clock.now) result ≡ find nat_cmp key self.now }
@@ -104,8 +114,7 @@ impl Lattice for Needs {
     }
 
     fn join(&mut self, other: &Needs) -> Result<(), NoMemory> {
-        let alloc = *self.clocks.allocator();
-        self.clocks = join_entries(alloc, self.clocks.as_slice(), other.clocks.as_slice())?;
+        *self = self.joined(other)?;
         Ok(())
     }
 

@@ -12,7 +12,7 @@ use Rattle.std.specs.FinMap.Entries.{find-put, find_tied, same_entries, by_order
 use Rattle.lattice_laws.specs.Lattice.{LatticeLaws, Associative}
 use Rattle.lattice_laws.specs.Maybe.{IsValue, joined_by}
 use Rattle.lattice_laws.specs.MaybeLaws.{maybe_laws, maybe_associative}
-use Rattle.lattice_laws.specs.Entries.{IsEntry, IsMap, IsJoin, with_old, raised, joined_maps}
+use Rattle.lattice_laws.specs.Entries.{plain_entries, IsEntry, IsMap, IsJoin, with_old, raised, joined_maps}
 use Rattle.lattice_laws.specs.Ascending.{pass_from_true, first_below, ascending_tail, find_below, below_tied, joined_ascending}
 
 -- the one order that passes the test
@@ -20,6 +20,11 @@ pub Equal_from_is_eq : (r : Ordering) → IsTrue (is_eq r) → r ≡ Equal
 Equal_from_is_eq Less h = absurd (false≢true h)
 Equal_from_is_eq Equal h = refl
 Equal_from_is_eq Greater h = absurd (false≢true h)
+
+-- entries whose values are seen as they are
+pub plain_itself : {K P : Type 0} (entries : List (K × P)) → plain_entries (λ value. value) entries ≡ entries
+plain_itself [] = refl
+plain_itself (entry ∷ entries) = ap (λ rest. entry ∷ rest) (plain_itself entries)
 
 -- the value joined with what stood there, as the join with a bottom has it
 with_old-joined_by : {P : Type 0} (joined : P → P → P) (old : Option P) (value : P) → Some (with_old joined old value) ≡ joined_by joined old (Some value)

@@ -1,5 +1,5 @@
 -- Sets as lists of their members in order, each once.
-use Rattle.std.specs.Prelude.{◌≡◌, Bool, IsTrue, is_some, List, map, All}
+use Rattle.std.specs.Prelude.{Bool, IsTrue, is_some, List, map, All}
 use Rattle.std.specs.declared.cmp.Ordering.{Ordering}
 use Rattle.std.specs.FinMap.{find, put, is_sorted}
 use Rattle.lattice_laws.specs.Entries.{joined_maps}

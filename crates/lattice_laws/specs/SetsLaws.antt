@@ -1,5 +1,5 @@
 -- The union of sets keeps the laws, since a set is a map to the one-point lattice.
-use Rattle.std.specs.Prelude.{◌≡◌, ◌↔◌, ℕ, Bool, ◌||◌, true, false, IsTrue, is_some, List, [], ◌∷◌, map, slice_get, Option, Some, None, All, ⊤}
+use Rattle.std.specs.Prelude.{◌≡◌, ◌↔◌, ℕ, ◌||◌, IsTrue, is_some, List, [], ◌∷◌, map, slice_get, Option, Some, None, ⊤}
 use Rattle.std.specs.Option.{option_map}
 use Rattle.std.proofs.Common.{refl, sym, ap, subst, ◌∙◌}
 use mathlib.Core.Bool.{false≢true}

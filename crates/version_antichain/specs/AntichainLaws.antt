@@ -1,5 +1,5 @@
 -- The join of antichains keeps the laws: the maximal members of the maximal members of two sets and of a third are those of all three.
-use Rattle.std.specs.Prelude.{◌≡◌, Bool, true, false, cond, not, T, ◌&&◌, ◌||◌, ◌⊎◌, ◌↔◌, IsTrue, is_some, List, [], ◌∷◌, Option, Some, None, All, ⊤}
+use Rattle.std.specs.Prelude.{◌≡◌, Bool, true, false, cond, not, ◌&&◌, ◌||◌, ◌⊎◌, ◌↔◌, IsTrue, is_some, List, [], ◌∷◌, Option, Some, None, All, ⊤}
 use Rattle.std.specs.List.{list_any, list_all, filter}
 use Rattle.std.proofs.Common.{refl, sym, ap, ◌∙◌, inl, inr}
 use Rattle.std.proofs.lemmas.Bool.{false≢true, not-true, and_parts, and_from, or_cases, or_left, or_right, or_parts, or_from, false_from_ne_true, not_from_false}

@@ -1,5 +1,5 @@
 -- Versions: words with the clocks under which they were written, and the order in which they are listed.
-use Rattle.std.specs.Prelude.{ℕ, Bool}
+use Rattle.std.specs.Prelude.{Bool}
 use Rattle.std.specs.Ordering.{ordering_then}
 use Rattle.std.specs.declared.cmp.Ordering.{Ordering}
 use Rattle.basic_lattices.specs.Word.{IsWord, word_cmp}

@@ -1,10 +1,9 @@
 -- The order of versions is total, and only equal ones tie; "strictly below" is a strict partial order.
 use Rattle.std.specs.Prelude.{◌≡◌, ◌&&◌, Bool, true, false, not, refl}
-use Rattle.std.proofs.Common.{sym, ap, ◌∙◌}
+use Rattle.std.proofs.Common.{sym, ◌∙◌}
 use Rattle.std.proofs.lemmas.Bool.{false≢true, not-true, not_from_false, and_parts, and_from, false_from_ne_true}
 use Rattle.std.proofs.lemmas.Cmp.{on_total, then_total}
 use Rattle.std.specs.Cmp.{IsTotalOrder}
-use Rattle.std.specs.Ordering.{ordering_then}
 use Rattle.std.specs.declared.cmp.Ordering.TheVariants.{Equal}
 use Rattle.lattice_laws.specs.Ties.{both_tie}
 use Rattle.basic_lattices.specs.WordLaws.{word_total, word_exact}

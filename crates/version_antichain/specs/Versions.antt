@@ -1,6 +1,6 @@
 -- Sets of versions of which none was overtaken, as lists in their order.
 use Rattle.std.specs.Prelude.{List}
-use Rattle.version_antichain.specs.Antichain.{IsAntichain, maximal, joined_antichains}
+use Rattle.version_antichain.specs.Antichain.{IsAntichain, joined_antichains}
 use Rattle.version_antichain.specs.Version.{IsVersion, version_cmp, is_below}
 use Rattle.version_antichain.specs.declared.version.Version.{Version}
 

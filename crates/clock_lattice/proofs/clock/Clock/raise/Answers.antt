@@ -1,4 +1,4 @@
-use Rattle.std.proofs.Common.{subst, sym, arith}
+use Rattle.std.proofs.Common.{arith}
 use Rattle.clock_lattice.specs.Clock.{IsClock}
 use Rattle.clock_lattice.proofs.Clocks.{either_way, raised_is_clock}
 use Rattle.clock_lattice.proofs.clock.Clock.raise.Goals as goal

@@ -1,0 +1,61 @@
+-- The values of cells, joined by kind.
+use Rattle.std.specs.Prelude.{ℕ, ◌<◌, ◌^◌, max, false, ◌||◌, List, [], ⊤}
+use Rattle.std.specs.Ordering.{ord_max}
+use Rattle.lattice_laws.specs.Entries.{IsMap, joined_maps}
+use Rattle.lattice_laws.specs.declared.maybe.Maybe.{Maybe}
+use Rattle.lattice_laws.specs.declared.maybe.Maybe.TheVariants.{Bottom, Is}
+use Rattle.basic_lattices.specs.Stamped.{stamp_cmp, IsStamped}
+use Rattle.basic_lattices.specs.TextSet.{IsTextSet, united}
+use Rattle.basic_lattices.specs.Word.{IsWord, word_cmp}
+use Rattle.version_antichain.specs.Versions.{IsVersions, joined_versions}
+use Rattle.composed_value.specs.declared.kind.Kind.{Kind}
+use Rattle.composed_value.specs.declared.kind.Kind.TheVariants as kinds
+use Rattle.composed_value.specs.declared.value.Value.{Value}
+use Rattle.composed_value.specs.declared.value.Value.TheVariants.{Max, Or, Set, Map, Last, Versions}
+
+-- nothing yet, or a value that there can be
+abbrev pub IsFound : {P : Type 0} → (P → Type 0) → Maybe P → Type 0
+IsFound is_value Bottom = ⊤
+IsFound is_value (Is value) = is_value value
+
+-- the join of two of which either may be nothing yet
+abbrev pub joined_found : {P : Type 0} → (P → P → P) → Maybe P → Maybe P → Maybe P
+joined_found joined Bottom b = b
+joined_found joined (Is a) Bottom = Is a
+joined_found joined (Is a) (Is b) = Is (joined a b)
+
+-- fields with their numbers, in order
+abbrev pub IsFields : List (List ℕ × ℕ) → Type 0
+IsFields fields = IsMap word_cmp IsWord (λ number. number < 2 ^ 64) fields
+
+-- of each field the greater number
+abbrev pub joined_fields : List (List ℕ × ℕ) → List (List ℕ × ℕ) → List (List ℕ × ℕ)
+joined_fields a b = joined_maps word_cmp max a b
+
+-- a value that there can be
+abbrev pub IsValue : Value → Type 0
+IsValue (Max greatest) = IsFound (λ number. number < 2 ^ 64) greatest
+IsValue (Or on) = ⊤
+IsValue (Set words) = IsTextSet words
+IsValue (Map fields) = IsFields fields
+IsValue (Last last) = IsFound IsStamped last
+IsValue (Versions versions) = IsVersions versions
+
+-- the value of no put
+abbrev pub empty_value : Kind → Value
+empty_value kinds.Max = Max Bottom
+empty_value kinds.Or = Or false
+empty_value kinds.Set = Set []
+empty_value kinds.Map = Map []
+empty_value kinds.Last = Last Bottom
+empty_value kinds.Versions = Versions []
+
+-- The join of two values of one kind. Values of two kinds are never joined.
+abbrev pub joined_values : Value → Value → Value
+joined_values (Max a) (Max b) = Max (joined_found max a b)
+joined_values (Or a) (Or b) = Or (a || b)
+joined_values (Set a) (Set b) = Set (united a b)
+joined_values (Map a) (Map b) = Map (joined_fields a b)
+joined_values (Last a) (Last b) = Last (joined_found (ord_max stamp_cmp) a b)
+joined_values (Versions a) (Versions b) = Versions (joined_versions a b)
+joined_values a _ = a
