@@ -1,0 +1,157 @@
+-- What legal reports have in common, whoever wrote them.
+use Rattle.std.specs.Prelude.{◌≡◌, ℕ, zero, suc, ◌<◌, ◌≤◌, ◌==◌, IsTrue, List, [], ◌∷◌, ◌++◌, length, map, slice_index_or, Option, Contains}
+use Rattle.std.specs.List.{AllZip}
+use Rattle.std.proofs.Common.{sym, ap, subst, subst₂, ◌∙◌, arith}
+use Rattle.std.proofs.lemmas.Bool.{eqb-true}
+use Rattle.std.proofs.lemmas.List.Elements.{All-contains, Contains-get_or}
+use Rattle.lattice_laws.specs.GreatestOfLists.{greatest_or_zero_is_single}
+use Rattle.lattice_laws.specs.Members.{contains_filtered}
+use Rattle.clock_lattice.specs.Clock.{IsClock, count_of, joined_clocks, one_count, covers}
+use Rattle.clock_lattice.specs.ClockLaws.{same_counts, counts_from_covers, covers_from_counts}
+use Rattle.clock_lattice.specs.Needs.{clock_at}
+use Rattle.composed_value.specs.PlainValue.{puts_of_session}
+use Rattle.composed_value.specs.PlainValueLaws.{value_is_single}
+use Rattle.composed_value.specs.Sound.{puts_on, counted, IsSound, AreNumbered}
+use Rattle.composed_value.specs.declared.kind.Kind.{Kind}
+use Rattle.composed_value.specs.declared.put.Put as puts
+use Rattle.session_known.specs.Accepted.{accepted, accepted_from}
+use Rattle.session_known.specs.Form.{Fits, IsFinalIn}
+use Rattle.session_known.specs.Known.{CountsAtMost, first_at_most, shown_is_known, known_at_line}
+use Rattle.session_known.specs.Lawful.{required_by_get, IsLawful, AreLawful, IsTrueOf, CountsAccepted}
+use Rattle.session_known.specs.Legal.{AreLawfulFrom, IsLawfulFinal, IsLegalAt}
+use Rattle.session_known.specs.Numbered.{made_on, AreNext, number_at, numbered_from_next, accepted_are_next}
+use Rattle.session_known.specs.Script.{kind_at}
+use Rattle.session_known.specs.Session.{Party, State, start, after}
+use Rattle.session_known.specs.declared.report.Answer.{Answer}
+use Rattle.session_known.specs.declared.report.Answer.TheVariants.{Got}
+use Rattle.session_known.specs.declared.report.FinalCell.{FinalCell}
+use Rattle.session_known.specs.declared.report.Report.{Report}
+use Rattle.session_known.specs.declared.report.Shown.{Shown}
+use Rattle.session_known.specs.declared.script.Level.TheVariants.{Causal}
+use Rattle.session_known.specs.declared.script.Line.{Line}
+use Rattle.session_known.specs.declared.script.Line.TheVariants.{Get, Await}
+use Rattle.session_known.specs.declared.script.Script.{Script}
+use Rattle.session_known.specs.declared.script.SessionPlan.{SessionPlan}
+
+-- the accepted puts of a session on a key are numbered 1, 2 and so on, each once
+pub accepted_are_numbered : (table : List (List ℕ)) (plans : List SessionPlan) (answers : List (List Answer)) → AreLawfulFrom table 1 plans answers → (session key : ℕ) → AreNumbered (puts_of_session session (puts_on key (accepted_from 1 plans answers)))
+accepted_are_numbered table plans answers lawful session key = numbered_from_next (made_on session key (accepted_from 1 plans answers)) (accepted_are_next table 1 plans answers lawful session key)
+
+-- a clock that counts each of puts that follow 0 counts as many as there are
+as_many_as_next : (made : List puts.Put) (session : ℕ) (clock : List (ℕ × ℕ)) → AreNext 0 made → ((put : puts.Put) → Contains made put → put.number ≤ count_of session clock) → length made ≤ count_of session clock
+as_many_as_next [] session clock are each = omega arith
+as_many_as_next (put ∷ others) session clock are each =
+    let made : List puts.Put = put ∷ others in
+    let is_last = number_at 0 made are (length others) put (omega arith) in
+    let counts = each (slice_index_or made (length others) put) (Contains-get_or made (length others) put (omega arith)) in
+    omega (arith, is_last, counts)
+
+-- so a final clock counts all accepted puts of a session on its key
+final_counts : (table : List (List ℕ)) (script : Script) (report : Report) → IsLegalAt table script report → (cell : FinalCell) → IsLawfulFinal script.kinds (accepted script report) cell → (session : ℕ) → count_of session cell.clock ≡ length (made_on session cell.key (accepted script report))
+final_counts table script report legal cell lawful session =
+    let on_key : List puts.Put = puts_on cell.key (accepted script report) in
+    let is_counted = λ (put : puts.Put) (has_it : Contains (puts_of_session session on_key) put).
+    let both = contains_filtered (λ (p : puts.Put). session == p.session) on_key put has_it in
+    let counts : put.number ≤ count_of put.session cell.clock = All-contains (λ p. p.number ≤ count_of p.session cell.clock) on_key put lawful.counts_all both.0 in
+    subst (λ s. put.number ≤ count_of s cell.clock) (sym (eqb-true session put.session both.1)) counts in
+    let at_least = as_many_as_next (puts_of_session session on_key) session cell.clock (accepted_are_next table 1 script.sessions report.answers legal.answers session cell.key) is_counted in
+    omega (arith, at_least, lawful.sound.counts session)
+
+-- in a legal report the final cells of the replicas of a key have equal clock, top and value
+pub finals_agree : (table : List (List ℕ)) (script : Script) (report : Report) → IsLegalAt table script report → (a b : FinalCell) → Contains report.finals a → Contains report.finals b → a.key ≡ b.key → (a.clock ≡ b.clock) × (a.top ≡ b.top) × (a.value ≡ b.value)
+finals_agree table script report legal a b has_a has_b same =
+    let all : List (ℕ × puts.Put) = accepted script report in
+    let kind : Kind = kind_at script.kinds a.key in
+    let lawful_a : IsLawfulFinal script.kinds all a = All-contains (IsLawfulFinal script.kinds all) report.finals a legal.finals has_a in
+    let lawful_b : IsLawfulFinal script.kinds all b = All-contains (IsLawfulFinal script.kinds all) report.finals b legal.finals has_b in
+    let form_a : IsFinalIn script a = All-contains (IsFinalIn script) report.finals a legal.form.finals has_a in
+    let form_b : IsFinalIn script b = All-contains (IsFinalIn script) report.finals b legal.form.finals has_b in
+    let clocks : a.clock ≡ b.clock = same_counts a.clock b.clock form_a.clock_is.is_clock form_b.clock_is.is_clock (λ session.
+    final_counts table script report legal a lawful_a session ∙ ap (λ key. length (made_on session key all)) same ∙ sym (final_counts table script report legal b lawful_b session)) in
+    let sound_b : IsSound kind all a.key a.clock b.top b.value =
+    subst (λ clock. IsSound kind all a.key clock b.top b.value) (sym clocks) (subst (λ key. IsSound (kind_at script.kinds key) all key b.clock b.top b.value) (sym same) lawful_b.sound) in (
+      clocks,
+      greatest_or_zero_is_single (map (λ put. put.lamport) (counted all a.key a.clock)) a.top b.top lawful_a.sound.top_is sound_b.top_is,
+      value_is_single kind (counted all a.key a.clock) a.value b.value lawful_a.sound.value_is sound_b.value_is,
+    )
+
+-- the key of a line that was answered with a cell, and the clock of the cell
+pub data ShowsAt : Line → Answer → ℕ → List (ℕ × ℕ) → Type 0 where
+  by_get : (key : ℕ) (named : Option ℕ) (worker : ℕ) (shown : Shown) → ShowsAt (Get key named) (Got worker shown) key shown.clock
+  by_await : (key session count worker : ℕ) (shown : Shown) → ShowsAt (Await key session count) (Got worker shown) key shown.clock
+
+-- a lawful reply's clock counts only accepted puts
+pub reply_counts_accepted : (kinds : List Kind) (accepted : List (ℕ × puts.Put)) (line : Line) (answer : Answer) (key : ℕ) (clock : List (ℕ × ℕ)) → ShowsAt line answer key clock → IsTrueOf kinds accepted line answer → CountsAccepted accepted key clock
+reply_counts_accepted kinds accepted _ _ _ _ (by_get key named worker shown) true_of = true_of.sound.counts
+reply_counts_accepted kinds accepted _ _ _ _ (by_await key session count worker shown) true_of = true_of.sound.counts
+
+-- a reply is there at a place of a session's lines: its key, and the clock that it shows
+record IsReplyAt (lines : List Line) (answers : List Answer) (place key : ℕ) (clock : List (ℕ × ℕ)) : Type 0 where
+  line : Line
+  answer : Answer
+  line_is : line ≡ slice_index_or lines place line
+  answer_is : answer ≡ slice_index_or answers place answer
+  shows : ShowsAt line answer key clock
+
+-- a clock that is shown has the form of one
+shown_is_clock : (script : Script) (line : Line) (answer : Answer) (key : ℕ) (clock : List (ℕ × ℕ)) → Fits script Causal line answer → ShowsAt line answer key clock → IsClock clock
+shown_is_clock script line answer key clock fits (by_get its_key named worker shown) = fits.clock_is.is_clock
+shown_is_clock script line answer key clock fits (by_await its_key session count worker shown) = fits.clock_is.is_clock
+
+-- it is known once it is shown
+known_once_shown : (party : Party) (state : State) (line : Line) (answer : Answer) (key : ℕ) (clock : List (ℕ × ℕ)) → IsClock clock → ShowsAt line answer key clock → CountsAtMost clock (clock_at key (after party state line answer).knows.known)
+known_once_shown party state line answer key clock is (by_get its_key named worker shown) = shown_is_known party state.knows its_key shown is.ascending
+known_once_shown party state line answer key clock is (by_await its_key session count worker shown) = shown_is_known party state.knows its_key shown is.ascending
+
+-- in a causal session a lawful reply counts at least what is known
+counts_what_is_known : (table : List (List ℕ)) (party : Party) (state : State) (before : List (Line × Answer)) (line : Line) (answer : Answer) (key : ℕ) (clock : List (ℕ × ℕ)) → party.level ≡ Causal → IsLawful table party state before line answer → ShowsAt line answer key clock
+    → CountsAtMost (clock_at key state.knows.known) clock
+counts_what_is_known table party state before line answer key clock causal lawful (by_get its_key named worker shown) =
+    let covered : IsTrue (covers shown.clock (clock_at its_key state.knows.known)) = subst (λ level. IsTrue (covers shown.clock (required_by_get level state.knows its_key))) causal lawful.covers_required in
+    counts_from_covers shown.clock (clock_at its_key state.knows.known) covered
+counts_what_is_known table party state before line answer key clock causal lawful (by_await its_key session count worker shown) = λ of_session.
+    let known : List (ℕ × ℕ) = clock_at its_key state.knows.known in
+    let raised : List (ℕ × ℕ) = joined_clocks known (one_count session count) in
+    let first = first_at_most known (one_count session count) of_session in
+    let second = counts_from_covers shown.clock raised lawful.covers_required of_session in
+    omega (arith, first, second)
+
+-- and so does any later one
+counts_what_was_known : (table : List (List ℕ)) (party : Party) (state : State) (before : List (Line × Answer)) (lines : List Line) (answers : List Answer) (place key : ℕ) (clock : List (ℕ × ℕ)) → party.level ≡ Causal → AreLawful table party state before lines answers
+    → place < length lines → IsReplyAt lines answers place key clock → CountsAtMost (clock_at key state.knows.known) clock
+counts_what_was_known table party state before [] answers place key clock causal lawful within reply = absurd (omega (arith, within))
+counts_what_was_known table party state before (line ∷ lines) [] place key clock causal lawful within reply = absurd lawful
+counts_what_was_known table party state before (line ∷ lines) (answer ∷ answers) zero key clock causal lawful within reply =
+    let shows : ShowsAt line answer key clock = subst₂ (λ l a. ShowsAt l a key clock) reply.line_is reply.answer_is reply.shows in
+    counts_what_is_known table party state before line answer key clock causal lawful.0 shows
+counts_what_was_known table party state before (line ∷ lines) (answer ∷ answers) (suc place) key clock causal lawful within reply = λ session.
+    let rest : IsReplyAt lines answers place key clock = record { line = reply.line; answer = reply.answer; line_is = reply.line_is; answer_is = reply.answer_is; shows = reply.shows } in
+    let later = counts_what_was_known table party (after party state line answer) (before ++ (line, answer) ∷ []) lines answers place key clock causal lawful.1 (omega (arith, within)) rest session in
+    omega (arith, known_at_line party state line answer key session, later)
+
+-- in a causal session a later reply on a key covers the earlier ones, from any state on
+covers_earlier : (script : Script) (table : List (List ℕ)) (party : Party) (state : State) (before : List (Line × Answer)) (lines : List Line) (answers : List Answer) (i j key : ℕ) (earlier later : List (ℕ × ℕ)) → party.level ≡ Causal → AreLawful table party state before lines answers
+    → AllZip (Fits script Causal) lines answers → i < j → j < length lines → IsReplyAt lines answers i key earlier → IsReplyAt lines answers j key later → IsTrue (covers later earlier)
+covers_earlier script table party state before [] answers i j key earlier later causal lawful fits is_before within reply_i reply_j = absurd (omega (arith, within))
+covers_earlier script table party state before (line ∷ lines) [] i j key earlier later causal lawful fits is_before within reply_i reply_j = absurd lawful
+covers_earlier script table party state before (line ∷ lines) (answer ∷ answers) i zero key earlier later causal lawful fits is_before within reply_i reply_j = absurd (omega (arith, is_before))
+covers_earlier script table party state before (line ∷ lines) (answer ∷ answers) zero (suc j) key earlier later causal lawful fits is_before within reply_i reply_j =
+    let shows : ShowsAt line answer key earlier = subst₂ (λ l a. ShowsAt l a key earlier) reply_i.line_is reply_i.answer_is reply_i.shows in
+    let is_clock = shown_is_clock script line answer key earlier fits.0 shows in
+    let known = known_once_shown party state line answer key earlier is_clock shows in
+    let rest : IsReplyAt lines answers j key later = record { line = reply_j.line; answer = reply_j.answer; line_is = reply_j.line_is; answer_is = reply_j.answer_is; shows = reply_j.shows } in
+    let counted = counts_what_was_known table party (after party state line answer) (before ++ (line, answer) ∷ []) lines answers j key later causal lawful.1 (omega (arith, within)) rest in
+    covers_from_counts later earlier is_clock (λ session. omega (arith, known session, counted session))
+covers_earlier script table party state before (line ∷ lines) (answer ∷ answers) (suc i) (suc j) key earlier later causal lawful fits is_before within reply_i reply_j =
+    covers_earlier script table party (after party state line answer) (before ++ (line, answer) ∷ []) lines answers i j key earlier later causal lawful.1 fits.1 (omega (arith, is_before)) (omega (arith, within))
+    (record { line = reply_i.line; answer = reply_i.answer; line_is = reply_i.line_is; answer_is = reply_i.answer_is; shows = reply_i.shows })
+    (record { line = reply_j.line; answer = reply_j.answer; line_is = reply_j.line_is; answer_is = reply_j.answer_is; shows = reply_j.shows })
+
+-- in a causal session a later reply on a key covers the earlier ones
+pub later_covers_earlier : (script : Script) (table : List (List ℕ)) (party : Party) (lines : List Line) (answers : List Answer) → party.level ≡ Causal → AreLawful table party start [] lines answers → AllZip (Fits script Causal) lines answers
+    → (i j key : ℕ) (line_i line_j : Line) (answer_i answer_j : Answer) (earlier later : List (ℕ × ℕ)) → i < j → j < length lines
+    → line_i ≡ slice_index_or lines i line_i → line_j ≡ slice_index_or lines j line_j → answer_i ≡ slice_index_or answers i answer_i → answer_j ≡ slice_index_or answers j answer_j
+    → ShowsAt line_i answer_i key earlier → ShowsAt line_j answer_j key later → IsTrue (covers later earlier)
+later_covers_earlier script table party lines answers causal lawful fits i j key line_i line_j answer_i answer_j earlier later before within is_i is_j of_i of_j shows_i shows_j =
+    covers_earlier script table party start [] lines answers i j key earlier later causal lawful fits before within
+    (record { line = line_i; answer = answer_i; line_is = is_i; answer_is = of_i; shows = shows_i }) (record { line = line_j; answer = answer_j; line_is = is_j; answer_is = of_j; shows = shows_j })

@@ -1,0 +1,13 @@
+pub mod Accepted
+pub mod Form
+pub mod Known
+pub mod Lawful
+pub mod Laws
+pub mod Legal
+pub mod Numbered
+pub mod Requests
+pub mod Script
+pub mod Session
+pub mod Spoilt
+pub mod Worked
+pub mod WorkedLaws

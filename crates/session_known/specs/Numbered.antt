@@ -1,0 +1,224 @@
+-- The accepted puts of a session on a key are its first, its second and so on, in script order.
+use Rattle.std.specs.Prelude.{◌≡◌, ◌≢◌, ℕ, zero, suc, ◌+◌, ◌<◌, ◌==◌, max, true, false, cond, List, [], ◌∷◌, ◌++◌, length, map, filter, slice_index_or, Option, Some, None, unwrap_or, ⊤}
+use Rattle.std.specs.Cmp.{nat_cmp_total, unsigned_tied}
+use Rattle.std.specs.FinMap.{find}
+use Rattle.std.specs.FinMap.Entries.{find-put}
+use Rattle.std.specs.Ordering.{nat_cmp, is_eq}
+use Rattle.std.proofs.Common.{refl, sym, ap, subst, ◌∙◌, inl, inr, length-append, arith}
+use Rattle.std.proofs.lemmas.Bool.{eq-eqb}
+use Rattle.std.proofs.lemmas.Bool.Decides.{eqb_tells}
+use Rattle.std.proofs.lemmas.Cmp.{tied_itself}
+use Rattle.std.proofs.lemmas.List.{map-append}
+use Rattle.std.proofs.lemmas.List.Elements.{filter-append}
+use Rattle.lattice_laws.specs.Entries.{with_old}
+use Rattle.clock_lattice.specs.Clock.{count_of, joined_clocks, one_count}
+use Rattle.composed_value.specs.PlainValue.{puts_of_session}
+use Rattle.composed_value.specs.Sound.{puts_on, AreNumbered}
+use Rattle.composed_value.specs.declared.payload.Payload.{Payload}
+use Rattle.composed_value.specs.declared.put.Put as puts
+use Rattle.session_known.specs.Accepted.{party_of, accepted_from}
+use Rattle.session_known.specs.Lawful.{IsLawful, AreLawful}
+use Rattle.session_known.specs.Legal.{AreLawfulFrom}
+use Rattle.session_known.specs.Session.{Party, Knowledge, State, start, own_count, put_made, knows_put, puts_committed, knows_committed, held_puts, after, puts_by, puts_from}
+use Rattle.session_known.specs.declared.report.Answer.{Answer}
+use Rattle.session_known.specs.declared.report.Answer.TheVariants as answers
+use Rattle.session_known.specs.declared.script.Line.{Line}
+use Rattle.session_known.specs.declared.script.Line.TheVariants as lines
+use Rattle.session_known.specs.declared.script.SessionPlan.{SessionPlan}
+
+-- the puts of a session on a key, of puts each with its key
+abbrev pub made_on : ℕ → ℕ → List (ℕ × puts.Put) → List puts.Put
+made_on session key made = puts_of_session session (puts_on key made)
+
+-- puts whose numbers follow a number one by one
+abbrev pub AreNext : ℕ → List puts.Put → Type 0
+AreNext n [] = ⊤
+AreNext n (put ∷ others) = (put.number ≡ n + 1) × AreNext (n + 1) others
+
+-- puts that follow the first number, up to the last
+record AreNextUpTo (first : ℕ) (made : List puts.Put) (last : ℕ) : Type 0 where
+  next : AreNext first made
+  last_is : last ≡ first + length made
+
+-- the puts of two lists on a key
+made_on-append : (session key : ℕ) (made more : List (ℕ × puts.Put)) → made_on session key (made ++ more) ≡ made_on session key made ++ made_on session key more
+made_on-append session key made more =
+    let on_key = λ (entry : ℕ × puts.Put). entry.0 == key in
+    ap (λ entries. puts_of_session session (map (λ entry. entry.1) entries)) (filter-append on_key made more)
+    ∙ ap (puts_of_session session) (map-append (λ entry. entry.1) (filter on_key made) (filter on_key more))
+    ∙ filter-append (λ put. session == put.session) (puts_on key made) (puts_on key more)
+
+-- a put of the session on the key is one of its puts there
+made_here : (session its_key key : ℕ) (put : puts.Put) → its_key ≡ key → session ≡ put.session → made_on session key ((its_key, put) ∷ []) ≡ put ∷ []
+made_here session its_key key put same_key same_session =
+    ap (λ t. puts_of_session session (map (λ (entry : ℕ × puts.Put). entry.1) (cond t ((its_key, put) ∷ []) []))) (eq-eqb its_key key same_key)
+    ∙ ap (λ t. cond t (put ∷ []) []) (eq-eqb session put.session same_session)
+
+-- a test that fails where two numbers differ
+differs : (a b : ℕ) → a ≢ b → (a == b) ≡ false
+differs a b other = elim (eqb_tells a b) [ inl same ↦ absurd (other same.1) | inr apart ↦ apart.0 ]
+
+-- a put on another key is not
+made_elsewhere : (session its_key key : ℕ) (put : puts.Put) → its_key ≢ key → made_on session key ((its_key, put) ∷ []) ≡ []
+made_elsewhere session its_key key put other =
+    ap (λ t. puts_of_session session (map (λ (entry : ℕ × puts.Put). entry.1) (cond t ((its_key, put) ∷ []) []))) (differs its_key key other)
+
+-- nor is one of another session
+made_by_other : (session its_key key : ℕ) (put : puts.Put) → session ≢ put.session → made_on session key ((its_key, put) ∷ []) ≡ []
+made_by_other session its_key key put other =
+    elim (its_key == key) as (λ t. puts_of_session session (map (λ (entry : ℕ × puts.Put). entry.1) (cond t ((its_key, put) ∷ []) [])) ≡ []) [
+      | true ↦ ap (λ t. cond t (put ∷ []) []) (differs session put.session other)
+      | false ↦ refl
+    ]
+
+-- two lists without puts of the session on the key have none together
+none_in_both : (session key : ℕ) (made more : List (ℕ × puts.Put)) → made_on session key made ≡ [] → made_on session key more ≡ [] → made_on session key (made ++ more) ≡ []
+none_in_both session key made more none none_more = made_on-append session key made more ∙ ap (λ xs. xs ++ made_on session key more) none ∙ none_more
+
+-- what follows a number, and what follows its last, follow it together
+next-append : (n : ℕ) (made more : List puts.Put) → AreNext n made → AreNext (n + length made) more → AreNext n (made ++ more)
+next-append n [] more are are_more = let same : n + 0 ≡ n = omega arith in subst (λ m. AreNext m more) same are_more
+next-append n (put ∷ made) more are are_more =
+    let same : n + length (put ∷ made) ≡ n + 1 + length made = omega arith in
+    (are.0, next-append (n + 1) made more are.1 (subst (λ m. AreNext m more) same are_more))
+
+-- the numbers of such puts, by their places
+pub number_at : (n : ℕ) (made : List puts.Put) → AreNext n made → (k : ℕ) (d : puts.Put) → k < length made → (slice_index_or made k d).number ≡ n + k + 1
+number_at n [] are k d within = absurd (omega (arith, within))
+number_at n (put ∷ made) are zero d within = let first = are.0 in omega (arith, first)
+number_at n (put ∷ made) are (suc k) d within = let later = number_at (n + 1) made are.1 k d (omega (arith, within)) in omega (arith, later)
+
+-- what follows 0 is numbered 1, 2 and so on
+pub numbered_from_next : (made : List puts.Put) → AreNext 0 made → AreNumbered made
+numbered_from_next made are = record {
+  different = λ i j d before within same. omega (arith, before, same, number_at 0 made are i d (omega (arith, before, within)), number_at 0 made are j d within);
+  within = λ k d within. let is = number_at 0 made are k d within in (omega (arith, is), omega (arith, is, within));
+}
+
+-- a count raised to the next number
+raised_to_next : (old : Option ℕ) (number : ℕ) → number ≡ unwrap_or old 0 + 1 → with_old max old number ≡ number
+raised_to_next None number next = refl
+raised_to_next (Some n) number next = omega (arith, next)
+
+-- a put counts on its key
+count_put : (own : List (ℕ × ℕ)) (key number : ℕ) → number ≡ count_of key own + 1 → count_of key (joined_clocks own (one_count key number)) ≡ number
+count_put own key zero next = absurd (omega (arith, next))
+count_put own key (suc n) next =
+    let value : ℕ = with_old max (find nat_cmp key own) (suc n) in
+    ap (λ found. unwrap_or found 0) (find-put nat_cmp nat_cmp_total key key value own)
+    ∙ ap (λ r. unwrap_or (cond (is_eq r) (Some value) (find nat_cmp key own)) 0) (tied_itself nat_cmp_total key)
+    ∙ raised_to_next (find nat_cmp key own) (suc n) next
+
+-- and on no other
+count_put_elsewhere : (own : List (ℕ × ℕ)) (its_key key number : ℕ) → its_key ≢ key → count_of key (joined_clocks own (one_count its_key number)) ≡ count_of key own
+count_put_elsewhere own its_key key zero other = refl
+count_put_elsewhere own its_key key (suc n) other =
+    let value : ℕ = with_old max (find nat_cmp its_key own) (suc n) in
+    ap (λ found. unwrap_or found 0) (find-put nat_cmp nat_cmp_total key its_key value own)
+    ∙ ap (λ t. unwrap_or (cond t (Some value) (find nat_cmp key own)) 0) (unsigned_tied key its_key ∙ differs key its_key (λ same. other (sym same)))
+
+-- no puts follow any number
+next_of_none : (n : ℕ) → AreNextUpTo n [] n
+next_of_none n = record { next = tt; last_is = omega arith }
+
+-- what a list and then another follow
+next_of_both : (session key first middle last : ℕ) (made more : List (ℕ × puts.Put)) → AreNextUpTo first (made_on session key made) middle → AreNextUpTo middle (made_on session key more) last → AreNextUpTo first (made_on session key (made ++ more)) last
+next_of_both session key first middle last made more of_made of_more =
+    subst (λ all. AreNextUpTo first all last) (sym (made_on-append session key made more)) (record {
+      next = next-append first (made_on session key made) (made_on session key more) of_made.next (subst (λ m. AreNext m (made_on session key more)) of_made.last_is of_more.next);
+      last_is = omega (arith, length-append (made_on session key made) (made_on session key more), of_made.last_is, of_more.last_is);
+    })
+
+-- a session's next put on a key follows its count there
+next_of_put : (party : Party) (knows : Knowledge) (its_key : ℕ) (payload : Payload) (number lamport place key : ℕ) → number ≡ own_count knows its_key + 1
+    → AreNextUpTo (own_count knows key) (made_on party.session key ((its_key, put_made party knows its_key payload number lamport place) ∷ [])) (own_count (knows_put party knows its_key number lamport) key)
+next_of_put party knows its_key payload number lamport place key next =
+    let put : puts.Put = put_made party knows its_key payload number lamport place in
+    let count : ℕ = own_count (knows_put party knows its_key number lamport) key in
+    elim (eqb_tells its_key key) [
+      | inl same ↦
+          let next_here : number ≡ own_count knows key + 1 = subst (λ k. number ≡ own_count knows k + 1) same.1 next in
+          let counts : count ≡ number = subst (λ k. count_of key (joined_clocks knows.own (one_count k number)) ≡ number) (sym same.1) (count_put knows.own key number next_here) in
+          subst (λ made. AreNextUpTo (own_count knows key) made count) (sym (made_here party.session its_key key put same.1 refl)) (record { next = (next_here, tt); last_is = omega (arith, counts, next_here) })
+      | inr other ↦
+          subst (λ made. AreNextUpTo (own_count knows key) made count) (sym (made_elsewhere party.session its_key key put other.1))
+          (record { next = tt; last_is = count_put_elsewhere knows.own its_key key number other.1 ∙ omega arith })
+    ]
+
+-- and so do the puts of a commit
+next_of_commit : (party : Party) (knows : Knowledge) (lamport place : ℕ) (held : List (ℕ × Payload)) (key : ℕ) → AreNextUpTo (own_count knows key) (made_on party.session key (puts_committed party knows lamport place held)) (own_count (knows_committed party knows lamport held) key)
+next_of_commit party knows lamport place [] key = next_of_none (own_count knows key)
+next_of_commit party knows lamport place (held ∷ others) key =
+    let number : ℕ = own_count knows held.0 + 1 in
+    let behind : Knowledge = knows_put party knows held.0 number lamport in
+    next_of_both party.session key (own_count knows key) (own_count behind key) (own_count (knows_committed party behind lamport others) key)
+    ((held.0, put_made party knows held.0 held.1 number lamport place) ∷ []) (puts_committed party behind lamport (place + 1) others)
+    (next_of_put party knows held.0 held.1 number lamport place key refl) (next_of_commit party behind lamport (place + 1) others key)
+
+-- and those of any line with a lawful answer
+next_of_line : (table : List (List ℕ)) (party : Party) (state : State) (earlier : List (Line × Answer)) (line : Line) (answer : Answer) (key : ℕ) → IsLawful table party state earlier line answer
+    → AreNextUpTo (own_count state.knows key) (made_on party.session key (puts_by party state line answer)) (own_count (after party state line answer).knows key)
+next_of_line table party state earlier (lines.Put its_key payload) (answers.Put number lamport) key lawful = next_of_put party state.knows its_key payload number lamport 0 key lawful.number_is
+next_of_line table party state earlier lines.Commit (answers.Committed committed lamport) key lawful = next_of_commit party state.knows lamport 0 (held_puts state) key
+next_of_line table party state earlier (lines.Get its_key named) (answers.Got worker shown) key lawful = next_of_none (own_count state.knows key)
+next_of_line table party state earlier (lines.Await its_key session count) (answers.Got worker shown) key lawful = next_of_none (own_count state.knows key)
+next_of_line table party state earlier lines.Begin answers.Begun key lawful = next_of_none (own_count state.knows key)
+next_of_line table party state earlier lines.Abort (answers.Aborted aborted) key lawful = next_of_none (own_count state.knows key)
+next_of_line table party state earlier line answer key lawful = next_of_none (own_count state.knows key)
+
+-- and those of all its lines
+next_of_lines : (table : List (List ℕ)) (party : Party) (state : State) (earlier : List (Line × Answer)) (lines : List Line) (answers : List Answer) (key : ℕ) → AreLawful table party state earlier lines answers
+    → AreNext (own_count state.knows key) (made_on party.session key (puts_from party state lines answers))
+next_of_lines table party state earlier (line ∷ lines) (answer ∷ answers) key lawful =
+    let behind : State = after party state line answer in
+    let here = next_of_line table party state earlier line answer key lawful.0 in
+    let later = next_of_lines table party behind (earlier ++ (line, answer) ∷ []) lines answers key lawful.1 in
+    subst (AreNext (own_count state.knows key)) (sym (made_on-append party.session key (puts_by party state line answer) (puts_from party behind lines answers)))
+    (next-append (own_count state.knows key) (made_on party.session key (puts_by party state line answer)) (made_on party.session key (puts_from party behind lines answers)) here.next
+    (subst (λ n. AreNext n (made_on party.session key (puts_from party behind lines answers))) here.last_is later))
+next_of_lines table party state earlier lines answers key lawful = tt
+
+-- a session commits no puts of another
+none_committed : (party : Party) (knows : Knowledge) (lamport place : ℕ) (held : List (ℕ × Payload)) (session key : ℕ) → session ≢ party.session → made_on session key (puts_committed party knows lamport place held) ≡ []
+none_committed party knows lamport place [] session key other = refl
+none_committed party knows lamport place (held ∷ others) session key other =
+    let number : ℕ = own_count knows held.0 + 1 in
+    let put : puts.Put = put_made party knows held.0 held.1 number lamport place in
+    let behind : Knowledge = knows_put party knows held.0 number lamport in
+    none_in_both session key ((held.0, put) ∷ []) (puts_committed party behind lamport (place + 1) others) (made_by_other session held.0 key put other) (none_committed party behind lamport (place + 1) others session key other)
+
+-- nor does it make any in a line
+none_by_line : (party : Party) (state : State) (line : Line) (answer : Answer) (session key : ℕ) → session ≢ party.session → made_on session key (puts_by party state line answer) ≡ []
+none_by_line party state (lines.Put its_key payload) (answers.Put number lamport) session key other = made_by_other session its_key key (put_made party state.knows its_key payload number lamport 0) other
+none_by_line party state lines.Commit (answers.Committed committed lamport) session key other = none_committed party state.knows lamport 0 (held_puts state) session key other
+none_by_line party state line answer session key other = refl
+
+-- nor in all its lines
+none_by_lines : (party : Party) (state : State) (lines : List Line) (answers : List Answer) (session key : ℕ) → session ≢ party.session → made_on session key (puts_from party state lines answers) ≡ []
+none_by_lines party state (line ∷ lines) (answer ∷ answers) session key other =
+    let behind : State = after party state line answer in
+    none_in_both session key (puts_by party state line answer) (puts_from party behind lines answers) (none_by_line party state line answer session key other) (none_by_lines party behind lines answers session key other)
+none_by_lines party state lines answers session key other = refl
+
+-- later sessions make no puts of an earlier one
+none_by_later : (number : ℕ) (plans : List SessionPlan) (answers : List (List Answer)) (session key : ℕ) → session < number → made_on session key (accepted_from number plans answers) ≡ []
+none_by_later number (plan ∷ plans) (answers ∷ others) session key earlier =
+    none_in_both session key (puts_from (party_of number plan) start plan.lines answers) (accepted_from (number + 1) plans others)
+    (none_by_lines (party_of number plan) start plan.lines answers session key (λ same. omega (arith, same, earlier))) (none_by_later (number + 1) plans others session key (omega (arith, earlier)))
+none_by_later number plans answers session key earlier = refl
+
+-- the accepted puts of a session on a key follow 0
+pub accepted_are_next : (table : List (List ℕ)) (number : ℕ) (plans : List SessionPlan) (answers : List (List Answer)) → AreLawfulFrom table number plans answers → (session key : ℕ) → AreNext 0 (made_on session key (accepted_from number plans answers))
+accepted_are_next table number (plan ∷ plans) (answers ∷ others) lawful session key =
+    let made : List (ℕ × puts.Put) = puts_from (party_of number plan) start plan.lines answers in
+    let more : List (ℕ × puts.Put) = accepted_from (number + 1) plans others in
+    subst (AreNext 0) (sym (made_on-append session key made more)) (elim (eqb_tells session number) as (λ _. AreNext 0 (made_on session key made ++ made_on session key more)) [
+      | inl same ↦
+          let here : AreNext 0 (made_on session key made) = subst (λ s. AreNext 0 (made_on s key made)) (sym same.1) (next_of_lines table (party_of number plan) start [] plan.lines answers key lawful.0) in
+          next-append 0 (made_on session key made) (made_on session key more) here
+          (subst (AreNext (0 + length (made_on session key made))) (sym (none_by_later (number + 1) plans others session key (omega (arith, same.1)))) tt)
+      | inr other ↦
+          subst (λ xs. AreNext 0 (xs ++ made_on session key more)) (sym (none_by_lines (party_of number plan) start plan.lines answers session key other.1))
+          (accepted_are_next table (number + 1) plans others lawful.1 session key)
+    ])
+accepted_are_next table number plans answers lawful session key = tt

@@ -1,0 +1,59 @@
+-- The requests that a session sends to the workers.
+use Rattle.std.specs.Prelude.{ℕ, ◌+◌, ◌%◌, List, [], ◌∷◌, ◌++◌, length, map, slice_index_or, Option, unwrap_or}
+use Rattle.std.specs.List.{range_with_len}
+use Rattle.composed_value.specs.declared.put.Put as puts
+use Rattle.session_known.specs.Lawful.{ask_order, required}
+use Rattle.session_known.specs.Script.{home_at}
+use Rattle.session_known.specs.Session.{Party, State, after, puts_by}
+use Rattle.session_known.specs.declared.report.Answer.{Answer}
+use Rattle.session_known.specs.declared.report.Answer.TheVariants as answers
+use Rattle.session_known.specs.declared.script.Level.{Level}
+use Rattle.session_known.specs.declared.script.Level.TheVariants.{Causal}
+use Rattle.session_known.specs.declared.script.Line.{Line}
+use Rattle.session_known.specs.declared.script.Line.TheVariants as lines
+
+-- a request: a put on a key, or an ask for a key, numbered by the session, with what the reply must cover
+pub data Sent : Type 0 where
+  SentPut : (key : ℕ) → (put : puts.Put) → Sent
+  SentAsk : (ask key : ℕ) → (required : List (ℕ × ℕ)) → Sent
+
+-- each put goes to the session's home of its key
+abbrev pub puts_sent : List (List ℕ) → Party → List (ℕ × puts.Put) → List (ℕ × Sent)
+puts_sent table party made = map (λ entry. (home_at table party.session entry.0, SentPut entry.0 entry.1)) made
+
+-- so many asks for a key, from a number on, to the replicas in their order, round and round
+abbrev pub asks_sent : List ℕ → ℕ → ℕ → List (ℕ × ℕ) → ℕ → List (ℕ × Sent)
+asks_sent order first key required asks = map (λ i. (slice_index_or order (i % length order) 0, SentAsk (first + i) key required)) (range_with_len 0 asks)
+
+-- whom a get asks: in a causal session the replicas in the order of asking, else the named worker or the home alone
+abbrev pub asked_by : Level → List (List ℕ) → ℕ → ℕ → Option ℕ → List ℕ
+asked_by Causal table session key named = ask_order table session key
+asked_by level table session key named = unwrap_or named (home_at table session key) ∷ []
+
+-- how many asks a get or await that was answered Got has sent: in a causal session as many as is said, else one
+abbrev pub asks_of : Level → ℕ → ℕ
+asks_of Causal said = said
+asks_of level said = 1
+
+-- what the line sends: the puts that its answer accepts, or its asks from a number on; `said` is the number of asks of a Got in a causal session
+abbrev pub sent_by : List (List ℕ) → Party → State → ℕ → ℕ → Line → Answer → List (ℕ × Sent)
+sent_by table party state first said (lines.Get key named) (answers.Got worker shown) = asks_sent (asked_by party.level table party.session key named) first key (required party state.knows (lines.Get key named)) (asks_of party.level said)
+sent_by table party state first said (lines.Await key session count) (answers.Got worker shown) = asks_sent (ask_order table party.session key) first key (required party state.knows (lines.Await key session count)) said
+sent_by table party state first said (lines.Get key named) (answers.Again asks worker clock) = asks_sent (ask_order table party.session key) first key (required party state.knows (lines.Get key named)) asks
+sent_by table party state first said (lines.Await key session count) (answers.Again asks worker clock) = asks_sent (ask_order table party.session key) first key (required party state.knows (lines.Await key session count)) asks
+sent_by table party state first said line answer = puts_sent table party (puts_by party state line answer)
+
+-- how many asks the line sends
+abbrev pub asks_by : Party → ℕ → Line → Answer → ℕ
+asks_by party said (lines.Get key named) (answers.Got worker shown) = asks_of party.level said
+asks_by party said (lines.Await key session count) (answers.Got worker shown) = said
+asks_by party said (lines.Get key named) (answers.Again asks worker clock) = asks
+asks_by party said (lines.Await key session count) (answers.Again asks worker clock) = asks
+asks_by party said line answer = 0
+
+-- The requests that a session sends, each with its worker, in order: from a state on, its asks numbered from `first` on; `said` has a
+-- number for each line.
+abbrev pub sent_from : List (List ℕ) → Party → State → ℕ → List ℕ → List Line → List Answer → List (ℕ × Sent)
+sent_from table party state first (said ∷ asks) (line ∷ lines) (answer ∷ answers) =
+    sent_by table party state first said line answer ++ sent_from table party (after party state line answer) (first + asks_by party said line answer) asks lines answers
+sent_from table party state first asks lines answers = []

@@ -1,0 +1,69 @@
+-- Which scripts are valid, and what they say of keys and sessions.
+use Rattle.std.specs.Prelude.{◌≡◌, ◌≢◌, ℕ, ◌-◌, ◌≤◌, Bool, true, false, IsTrue, IsFalse, List, [], ◌∷◌, length, sum_by, slice_index_or, Option, Some, None, All, AllPairs, Contains, ⊤}
+use Rattle.placement.specs.Config.{IsValidConfig, IsPlacement, home_of}
+use Rattle.composed_value.specs.Kind.{kind_of}
+use Rattle.composed_value.specs.declared.kind.Kind.{Kind}
+use Rattle.composed_value.specs.declared.kind.Kind.TheVariants as kinds
+use Rattle.session_known.specs.declared.script.Level.{Level}
+use Rattle.session_known.specs.declared.script.Level.TheVariants.{Committed, Causal}
+use Rattle.session_known.specs.declared.script.Line.{Line}
+use Rattle.session_known.specs.declared.script.Line.TheVariants.{Put, Get, Await, Begin, Commit, Abort}
+use Rattle.session_known.specs.declared.script.Script.{Script}
+use Rattle.session_known.specs.declared.script.SessionPlan.{SessionPlan}
+
+-- the replicas of a key, of a table that has those of each key
+abbrev pub replicas_of : List (List ℕ) → ℕ → List ℕ
+replicas_of table key = slice_index_or table (key - 1) []
+
+-- the replica that takes a session's puts on a key
+abbrev pub home_at : List (List ℕ) → ℕ → ℕ → ℕ
+home_at table session key = home_of (replicas_of table key) session
+
+-- the kind of a key
+abbrev pub kind_at : List Kind → ℕ → Kind
+kind_at of_keys key = slice_index_or of_keys (key - 1) kinds.Max
+
+-- one of the numbers from 1 to the last
+abbrev pub IsOneOf : ℕ → ℕ → Type 0
+IsOneOf last n = (1 ≤ n) × (n ≤ last)
+
+-- what a get may name: nothing, or a replica of the key in a session that is not causal
+abbrev pub MayName : Level → List ℕ → Option ℕ → Type 0
+MayName level replicas None = ⊤
+MayName Causal replicas (Some worker) = ⊥
+MayName level replicas (Some worker) = Contains replicas worker
+
+-- A line that a session of the level may have: its key and the session that it names are there, its payload is of the key's kind,
+-- only a causal session awaits, and only a committed one begins, commits and aborts.
+abbrev pub MayStand : Script → List (List ℕ) → Level → Line → Type 0
+MayStand script table level (Put key payload) = IsOneOf (length script.config.keys) key × (kind_of payload ≡ kind_at script.kinds key)
+MayStand script table level (Get key worker) = IsOneOf (length script.config.keys) key × MayName level (replicas_of table key) worker
+MayStand script table level (Await key session count) = IsOneOf (length script.config.keys) key × IsOneOf (length script.sessions) session × (level ≡ Causal)
+MayStand script table level Begin = level ≡ Committed
+MayStand script table level Commit = level ≡ Committed
+MayStand script table level Abort = level ≡ Committed
+
+-- transactions stand one behind another, and each is ended; `begun` says whether one is begun before the first line
+abbrev pub AreEnded : Bool → List Line → Type 0
+AreEnded begun [] = IsFalse begun
+AreEnded begun (Begin ∷ lines) = IsFalse begun × AreEnded true lines
+AreEnded begun (Commit ∷ lines) = IsTrue begun × AreEnded false lines
+AreEnded begun (Abort ∷ lines) = IsTrue begun × AreEnded false lines
+AreEnded begun (line ∷ lines) = AreEnded begun lines
+
+-- the lines of a session are lawful for its level, the keys and the placement
+pub record IsValidSession (script : Script) (table : List (List ℕ)) (plan : SessionPlan) : Type 0 where
+  pub lines : All (MayStand script table plan.level) plan.lines
+  pub transactions : AreEnded false plan.lines
+
+-- A valid script, where the keys live as the table says.
+pub record IsValidScript (script : Script) (table : List (List ℕ)) : Type 0 where
+  pub config : IsValidConfig script.config
+  pub placed : IsPlacement script.config table
+  pub round : IsOneOf 64 script.round
+  pub kinds : length script.kinds ≡ length script.config.keys
+  pub key_names : AllPairs (λ key other. key.name ≢ other.name) script.config.keys
+  pub session_names : AllPairs (λ plan other. plan.name ≢ other.name) script.sessions
+  pub few_sessions : length script.sessions ≤ 16
+  pub few_lines : sum_by (λ plan. length plan.lines) script.sessions ≤ 4096
+  pub sessions : All (IsValidSession script table) script.sessions

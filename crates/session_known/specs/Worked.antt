@@ -1,0 +1,208 @@
+-- Four scripts, each with a report that `WorkedLaws` proves legal. Beside each script stands the report.
+use Rattle.std.specs.Prelude.{ℕ, List, [], ◌∷◌, Some, None, codes}
+use Rattle.lattice_laws.specs.declared.maybe.Maybe.TheVariants.{Is}
+use Rattle.basic_lattices.specs.declared.stamped.Stamped.{Stamped}
+use Rattle.composed_value.specs.declared.kind.Kind.TheVariants as kinds
+use Rattle.composed_value.specs.declared.payload.Payload.TheVariants as payloads
+use Rattle.composed_value.specs.declared.value.Value.TheVariants as values
+use Rattle.session_known.specs.declared.report.Answer.TheVariants as answers
+use Rattle.session_known.specs.declared.report.FinalCell.{FinalCell}
+use Rattle.session_known.specs.declared.report.Report.{Report}
+use Rattle.session_known.specs.declared.report.Shown.{Shown}
+use Rattle.session_known.specs.declared.script.Level.TheVariants.{Eventual, Committed, Causal}
+use Rattle.session_known.specs.declared.script.Line.TheVariants as lines
+use Rattle.session_known.specs.declared.script.Script.{Script}
+
+-- The first run: one worker, one key, one session.
+--     workers 1                        session s eventual
+--     factor 1                         put a 1 at 1
+--     round 4                          put a 2 at 2
+--     key a max                        get a @1 clock s:2 top 2 value 5
+--     session s eventual               final
+--     put a 5                          a @1 clock s:2 top 2 value 5
+--     put a 3
+--     get a
+abbrev pub first_script : Script
+first_script = record {
+  config = record { workers = 1; factor = 1; keys = record { name = codes "a"; pins = [] } ∷ [] };
+  round = 4;
+  kinds = kinds.Max ∷ [];
+  sessions = record {
+    name = codes "s";
+    level = Eventual;
+    lines = lines.Put 1 (payloads.Max 5) ∷ lines.Put 1 (payloads.Max 3) ∷ lines.Get 1 None ∷ [];
+  } ∷ [];
+}
+
+-- the cell that counts both puts
+abbrev pub first_cell : Shown
+first_cell = record { clock = (1, 2) ∷ []; top = 2; value = values.Max (Is 5); needs = None }
+
+-- at the end the worker has it
+abbrev pub first_final : FinalCell
+first_final = record { key = 1; worker = 1; clock = (1, 2) ∷ []; top = 2; value = values.Max (Is 5) }
+
+-- the report
+abbrev pub first_report : Report
+first_report = record {
+  answers = (answers.Put 1 1 ∷ answers.Put 2 2 ∷ answers.Got 1 first_cell ∷ []) ∷ [];
+  finals = first_final ∷ [];
+}
+
+-- the one key lives at the one worker
+abbrev pub first_table : List (List ℕ)
+first_table = (1 ∷ []) ∷ []
+
+-- Two replicas, and a session whose gets go to its home.
+--     workers 2                        session s eventual
+--     factor 1                         put a 1 at 1
+--     round 4                          get a @2 clock s:1 top 1 value x
+--     key a set at 2 1                 put a 2 at 2
+--     session s eventual               get a @2 clock s:2 top 2 value x,y
+--     put a x                          final
+--     get a                            a @1 clock s:2 top 2 value x,y
+--     put a y                          a @2 clock s:2 top 2 value x,y
+--     get a
+abbrev pub home_script : Script
+home_script = record {
+  config = record { workers = 2; factor = 1; keys = record { name = codes "a"; pins = 2 ∷ 1 ∷ [] } ∷ [] };
+  round = 4;
+  kinds = kinds.Set ∷ [];
+  sessions = record {
+    name = codes "s";
+    level = Eventual;
+    lines = lines.Put 1 (payloads.Add (codes "x")) ∷ lines.Get 1 None ∷ lines.Put 1 (payloads.Add (codes "y")) ∷ lines.Get 1 None ∷ [];
+  } ∷ [];
+}
+
+-- the cell that counts the first put
+abbrev pub home_cell_one : Shown
+home_cell_one = record { clock = (1, 1) ∷ []; top = 1; value = values.Set (codes "x" ∷ []); needs = None }
+
+-- the cell that counts both
+abbrev pub home_cell_both : Shown
+home_cell_both = record { clock = (1, 2) ∷ []; top = 2; value = values.Set (codes "x" ∷ codes "y" ∷ []); needs = None }
+
+-- the final cell of a worker: both have the same
+abbrev pub home_final : ℕ → FinalCell
+home_final worker = record { key = 1; worker = worker; clock = (1, 2) ∷ []; top = 2; value = values.Set (codes "x" ∷ codes "y" ∷ []) }
+
+-- the report
+abbrev pub home_report : Report
+home_report = record {
+  answers = (answers.Put 1 1 ∷ answers.Got 2 home_cell_one ∷ answers.Put 2 2 ∷ answers.Got 2 home_cell_both ∷ []) ∷ [];
+  finals = home_final 1 ∷ home_final 2 ∷ [];
+}
+
+-- the key lives at its pins, in their order
+abbrev pub home_table : List (List ℕ)
+home_table = (2 ∷ 1 ∷ []) ∷ []
+
+-- Two transactions: one is dropped, and one puts both keys at one Lamport number.
+--     workers 1                        session s committed
+--     factor 1                         begin
+--     round 4                          put a held
+--     key a max                        put l held
+--     key l last                       abort 2
+--     session s committed              begin
+--     begin                            put a held
+--     put a 5                          put l held
+--     put l red                        commit 2 at 1
+--     abort                            get l @1 clock s:1 top 1 value red at 1 s 1
+--     begin                            final
+--     put a 5                          a @1 clock s:1 top 1 value 5
+--     put l red                        l @1 clock s:1 top 1 value red at 1 s 1
+--     commit
+--     get l
+abbrev pub commit_script : Script
+commit_script = record {
+  config = record { workers = 1; factor = 1; keys = record { name = codes "a"; pins = [] } ∷ record { name = codes "l"; pins = [] } ∷ [] };
+  round = 4;
+  kinds = kinds.Max ∷ kinds.Last ∷ [];
+  sessions = record {
+    name = codes "s";
+    level = Committed;
+    lines =
+        lines.Begin ∷ lines.Put 1 (payloads.Max 5) ∷ lines.Put 2 (payloads.Last (codes "red")) ∷ lines.Abort
+        ∷ lines.Begin ∷ lines.Put 1 (payloads.Max 5) ∷ lines.Put 2 (payloads.Last (codes "red")) ∷ lines.Commit ∷ lines.Get 2 None ∷ [];
+  } ∷ [];
+}
+
+-- the second put of the transaction has place 1
+abbrev pub red : Stamped
+red = record { number = 1; session = 1; place = 1; word = codes "red" }
+
+-- the cell of l
+abbrev pub commit_cell : Shown
+commit_cell = record { clock = (1, 1) ∷ []; top = 1; value = values.Last (Is red); needs = None }
+
+-- the final cells of a and l
+abbrev pub commit_final_a : FinalCell
+commit_final_a = record { key = 1; worker = 1; clock = (1, 1) ∷ []; top = 1; value = values.Max (Is 5) }
+
+abbrev pub commit_final_l : FinalCell
+commit_final_l = record { key = 2; worker = 1; clock = (1, 1) ∷ []; top = 1; value = values.Last (Is red) }
+
+-- the report
+abbrev pub commit_report : Report
+commit_report = record {
+  answers = (
+      answers.Begun ∷ answers.Held ∷ answers.Held ∷ answers.Aborted 2
+      ∷ answers.Begun ∷ answers.Held ∷ answers.Held ∷ answers.Committed 2 1 ∷ answers.Got 1 commit_cell ∷ []) ∷ [];
+  finals = commit_final_a ∷ commit_final_l ∷ [];
+}
+
+-- both keys live at the one worker
+abbrev pub commit_table : List (List ℕ)
+commit_table = (1 ∷ []) ∷ (1 ∷ []) ∷ []
+
+-- Two causal sessions that await each other.
+--     workers 2                        session s causal
+--     factor 1                         put a 1 at 1
+--     round 4                          await b @2 clock t:1 top 2 value 7 needs a s:1
+--     key a max at 1                   put a 2 at 3
+--     key b max at 2                   session t causal
+--     session s causal                 await a @1 clock s:1 top 1 value 1 needs -
+--     put a 1                          put b 1 at 2
+--     await b t 1                      final
+--     put a 2                          a @1 clock s:2 top 3 value 2
+--     session t causal                 b @2 clock t:1 top 2 value 7
+--     await a s 1
+--     put b 7
+abbrev pub causal_script : Script
+causal_script = record {
+  config = record { workers = 2; factor = 1; keys = record { name = codes "a"; pins = 1 ∷ [] } ∷ record { name = codes "b"; pins = 2 ∷ [] } ∷ [] };
+  round = 4;
+  kinds = kinds.Max ∷ kinds.Max ∷ [];
+  sessions =
+      record { name = codes "s"; level = Causal; lines = lines.Put 1 (payloads.Max 1) ∷ lines.Await 2 2 1 ∷ lines.Put 1 (payloads.Max 2) ∷ [] }
+      ∷ record { name = codes "t"; level = Causal; lines = lines.Await 1 1 1 ∷ lines.Put 2 (payloads.Max 7) ∷ [] } ∷ [];
+}
+
+-- the cell of b that s awaits: the put needs the first put of a
+abbrev pub causal_cell_b : Shown
+causal_cell_b = record { clock = (2, 1) ∷ []; top = 2; value = values.Max (Is 7); needs = Some ((1, (1, 1) ∷ []) ∷ []) }
+
+-- the cell of a that t awaits: the put needs nothing
+abbrev pub causal_cell_a : Shown
+causal_cell_a = record { clock = (1, 1) ∷ []; top = 1; value = values.Max (Is 1); needs = Some [] }
+
+-- the final cells of a and b
+abbrev pub causal_final_a : FinalCell
+causal_final_a = record { key = 1; worker = 1; clock = (1, 2) ∷ []; top = 3; value = values.Max (Is 2) }
+
+abbrev pub causal_final_b : FinalCell
+causal_final_b = record { key = 2; worker = 2; clock = (2, 1) ∷ []; top = 2; value = values.Max (Is 7) }
+
+-- the report
+abbrev pub causal_report : Report
+causal_report = record {
+  answers =
+      (answers.Put 1 1 ∷ answers.Got 2 causal_cell_b ∷ answers.Put 2 3 ∷ [])
+      ∷ (answers.Got 1 causal_cell_a ∷ answers.Put 1 2 ∷ []) ∷ [];
+  finals = causal_final_a ∷ causal_final_b ∷ [];
+}
+
+-- each key lives at its one pin
+abbrev pub causal_table : List (List ℕ)
+causal_table = (1 ∷ []) ∷ (2 ∷ []) ∷ []

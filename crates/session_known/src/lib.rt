@@ -1,0 +1,27 @@
+//! The product's promise: what a script asks for, what a report answers, and which reports are legal.
+//!
+//! A [`Script`] has keys and sessions; a [`Report`] has an answer for each command line and the final
+//! cell of every replica. The definitions in `specs/`, one topic a file, say what a store with these
+//! consistency levels owes whoever runs the script, and mention no worker, mailbox or proxy:
+//! `specs/Session.antt` what a session knows between its lines, `specs/Accepted.antt` which puts a
+//! report accepts, `specs/Form.antt` when a report has a script's form, `specs/Lawful.antt` which answers
+//! are lawful, `specs/Legal.antt` which reports are legal, and `specs/Requests.antt` what a session sends.
+//!
+//! That they mean something is carried by functions that do nothing: [`worked_reports_are_legal`] and
+//! [`changed_reports_are_refused`] have examples, and [`accepted_puts_are_numbered`],
+//! [`final_cells_agree`], [`replies_count_accepted_puts`] and [`causal_replies_cover_earlier_ones`] what
+//! holds of every report. The crate stands on `composed_value` and `placement` and those below them.
+#![tactic(auto)]
+
+mod laws;
+mod report;
+mod script;
+mod worked;
+
+pub use laws::{
+    accepted_puts_are_numbered, causal_replies_cover_earlier_ones, final_cells_agree,
+    replies_count_accepted_puts,
+};
+pub use report::{Answer, FinalCell, Report, Shown};
+pub use script::{Level, Line, Script, SessionPlan};
+pub use worked::{changed_reports_are_refused, worked_reports_are_legal};
