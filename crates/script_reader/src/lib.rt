@@ -10,3 +10,4 @@ pub mod outside;
 mod text;
 
 pub use first::{FirstLine, FirstScript, MOST_BYTES, MOST_COMMANDS, ScriptFault, read_first};
+pub use session_known::{Answer, FinalCell, Level, Line, Report, Script, SessionPlan, Shown};

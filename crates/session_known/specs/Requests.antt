@@ -35,7 +35,7 @@ abbrev pub asks_of : Level → ℕ → ℕ
 asks_of Causal said = said
 asks_of level said = 1
 
--- what the line sends: the puts that its answer accepts, or its asks from a number on; `said` is the number of asks of a Got in a causal session
+-- what the line sends: the puts that its answer accepts, or its asks from a number on; `said` is the number of asks of a Got in a causal session, from 1 to 8 for each replica
 abbrev pub sent_by : List (List ℕ) → Party → State → ℕ → ℕ → Line → Answer → List (ℕ × Sent)
 sent_by table party state first said (lines.Get key named) (answers.Got worker shown) = asks_sent (asked_by party.level table party.session key named) first key (required party state.knows (lines.Get key named)) (asks_of party.level said)
 sent_by table party state first said (lines.Await key session count) (answers.Got worker shown) = asks_sent (ask_order table party.session key) first key (required party state.knows (lines.Await key session count)) said
