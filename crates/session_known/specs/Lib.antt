@@ -11,3 +11,4 @@ pub mod Session
 pub mod Spoilt
 pub mod Worked
 pub mod WorkedLaws
+pub mod WorkedPlaces

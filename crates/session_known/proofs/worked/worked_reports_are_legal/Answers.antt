@@ -1,14 +1,16 @@
+use Rattle.session_known.specs.Worked.{first_script, first_table, first_report, home_script, home_table, home_report, commit_script, commit_table, commit_report, causal_script, causal_table, causal_report}
 use Rattle.session_known.specs.WorkedLaws.{first_is_legal, home_is_legal, commit_is_legal, causal_is_legal}
+use Rattle.session_known.specs.WorkedPlaces.{first_placed, home_placed, commit_placed, causal_placed, first_is_valid, home_is_valid, commit_is_valid, causal_is_valid, valid_and_legal}
 use Rattle.session_known.proofs.worked.worked_reports_are_legal.Goals as goal
 
 pub returns-clause-first : goal.returns-clause-first
-returns-clause-first c = first_is_legal
+returns-clause-first c table placed each = valid_and_legal first_script first_report first_table table (first_placed table each) first_is_valid first_is_legal placed
 
 pub returns-clause-home : goal.returns-clause-home
-returns-clause-home c = home_is_legal
+returns-clause-home c table placed each = valid_and_legal home_script home_report home_table table (home_placed table placed) home_is_valid home_is_legal placed
 
 pub returns-clause-commit : goal.returns-clause-commit
-returns-clause-commit c = commit_is_legal
+returns-clause-commit c table placed each = valid_and_legal commit_script commit_report commit_table table (commit_placed table each) commit_is_valid commit_is_legal placed
 
 pub returns-clause-causal : goal.returns-clause-causal
-returns-clause-causal c = causal_is_legal
+returns-clause-causal c table placed each = valid_and_legal causal_script causal_report causal_table table (causal_placed table placed) causal_is_valid causal_is_legal placed
