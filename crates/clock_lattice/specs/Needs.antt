@@ -1,4 +1,4 @@
--- Needs: for each key the clock that must be seen of it, as entries in the order of the keys.
+-- Needs, the causal dependencies of a put or a cell: for each key a clock, as entries in the order of the keys.
 use Rattle.std.specs.Prelude.{ℕ, ◌<◌, ◌^◌, Bool, List, [], ◌∷◌, length, unwrap_or}
 use Rattle.std.specs.List.{list_all}
 use Rattle.std.specs.Ordering.{nat_cmp}

@@ -1,8 +1,9 @@
-//! Vector clocks, and what a session needs to have seen.
+//! Vector clocks and causal dependencies.
 //!
 //! All that a session may claim to have seen is a [`Clock`] for each key: how many puts of each
 //! session are counted (Mattern 1989; Fidge 1988; in Anna each is a map lattice whose values are
-//! maxima, Wu, Faleiro, Lin, Hellerstein 2018). [`Needs`] has such a clock for each key that matters.
+//! maxima, Wu, Faleiro, Lin, Hellerstein 2018). [`Needs`] has such a clock for each key on which
+//! something depends.
 //! Both are [`lattice_laws::AllFit`]: a merge keeps the greater count. Causality is their order turned
 //! round: `covers` says that one has seen all that the other has.
 //!

@@ -1,4 +1,4 @@
-//! What must have been seen of each key.
+//! Causal dependencies: a clock for each key.
 ghost use Rattle.std.specs.Prelude.{◌≡◌, List, [], ℕ, length, slice_get, IfOk, OnOk, OnErr, ⊤};
 ghost use Rattle.std.specs.Option.{option_map};
 ghost use Rattle.std.specs.Ordering.{nat_cmp};
@@ -13,8 +13,9 @@ use lattice_laws::{AllFit, Lattice, NoMemory};
 use std::alloc::Global;
 use std::marker::Model;
 
-/// For each key the clock that must have been seen of it, empty for most. A merge joins the clocks of
-/// each key. Contracts see the entries (key, clock) in the order of the keys; a key whose clock is
+/// Causal dependencies: for each key a clock, empty for most. Whoever is shown something with these
+/// needs in a causal session must from then on be shown at least these clocks of these keys. A merge
+/// joins the clocks of each key. Contracts see the entries (key, clock) in the order of the keys; a key whose clock is
 /// empty has none.
 #[derive(Debug, Drop)]
 pub struct Needs {

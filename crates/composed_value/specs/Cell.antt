@@ -1,4 +1,4 @@
--- Cells: which puts are counted, what must have been seen, the greatest Lamport number, and the value.
+-- Cells: which puts are counted, their causal dependencies, the greatest Lamport number, and the value.
 use Rattle.std.specs.Prelude.{◌≡◌, ℕ, ◌<◌, ◌^◌, max, List, [], map}
 use Rattle.lattice_laws.specs.Joins.{joined_all}
 use Rattle.clock_lattice.specs.Clock.{IsClock, joined_clocks, one_count}

@@ -1,4 +1,4 @@
-//! The cell of a key: what is counted, what must have been seen, and the value.
+//! The cell of a key: what is counted, what it depends on, and the value.
 ghost use Rattle.std.specs.Prelude.{◌≡◌, ◌<◌, IfOk};
 ghost use Rattle.composed_value.specs.Kind.{kind_of, kind_of_value};
 ghost use Rattle.composed_value.specs.Cell.{PlainCell, empty_cell, one_put_cell};
@@ -9,8 +9,9 @@ use lattice_laws::{Lattice, NoMemory};
 use std::alloc::Global;
 use std::marker::Model;
 
-/// The cell of a key, a product of four lattices: which puts are counted, what whoever sees it must
-/// have seen, the greatest Lamport number, and the value. Cells of one kind merge, part by part.
+/// The cell of a key, a product of four lattices: which puts are counted, their causal dependencies
+/// (what a causal session that is shown the cell must be shown of other keys from then on), the
+/// greatest Lamport number, and the value. Cells of one kind merge, part by part.
 /// Contracts see the four parts.
 #[derive(Debug, Drop)]
 pub struct Cell {
@@ -72,7 +73,7 @@ impl Cell {
         &self.clock
     }
 
-    /// What whoever sees the cell must have seen. Takes no memory.
+    /// The causal dependencies of the puts that are counted. Takes no memory.
     pub fn needs(&self) -> &Needs
         ensures { result.now ≡ self.now.needs }
     {

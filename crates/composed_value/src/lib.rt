@@ -1,8 +1,8 @@
 //! What a cell's value is: kinds, puts, and the cell that is the product of four lattices.
 //!
 //! A session makes a [`Put`]; its [`Payload`] is of the [`Kind`] of its key. The [`Cell`] of a key has
-//! four parts, each a lattice of its own: which puts it counts, what whoever sees it must have seen,
-//! the greatest Lamport number, and the [`Value`]. [`Cell::of_put`] is the cell of one put; cells merge
+//! four parts, each a lattice of its own: which puts it counts, their causal dependencies, the greatest
+//! Lamport number, and the [`Value`]. [`Cell::of_put`] is the cell of one put; cells merge
 //! part by part, and so do the updates that replicas exchange (values composed from small lattices,
 //! Wu, Faleiro, Lin, Hellerstein 2018).
 //!

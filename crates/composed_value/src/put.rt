@@ -21,7 +21,8 @@ pub struct Put {
     /// The clock of the version that it writes: what its session had seen of the key, the put itself
     /// included. Used by kind versions alone.
     pub seen: Clock,
-    /// What whoever sees the put has to have seen.
+    /// Its causal dependencies: what a causal session that is shown the put must be shown of these keys
+    /// from then on. Other sessions are not bound by them.
     pub needs: Needs,
     /// What it brings.
     pub payload: Payload,

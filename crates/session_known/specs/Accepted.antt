@@ -1,19 +1,19 @@
 -- The puts that a report accepts.
 use Rattle.std.specs.Prelude.{ℕ, ◌+◌, List, [], ◌∷◌, ◌++◌}
 use Rattle.composed_value.specs.declared.put.Put.{Put}
-use Rattle.session_known.specs.Session.{Party, start, puts_from}
+use Rattle.session_known.specs.Session.{Client, start, puts_from}
 use Rattle.session_known.specs.declared.report.Answer.{Answer}
 use Rattle.session_known.specs.declared.report.Report.{Report}
 use Rattle.session_known.specs.declared.script.Script.{Script}
 use Rattle.session_known.specs.declared.script.SessionPlan.{SessionPlan}
 
 -- the session of this number
-abbrev pub party_of : ℕ → SessionPlan → Party
-party_of number plan = record { session = number; level = plan.level }
+abbrev pub client_of : ℕ → SessionPlan → Client
+client_of number plan = record { session = number; level = plan.level }
 
 -- those of the sessions from a number on, session by session
 abbrev pub accepted_from : ℕ → List SessionPlan → List (List Answer) → List (ℕ × Put)
-accepted_from number (plan ∷ plans) (answers ∷ others) = puts_from (party_of number plan) start plan.lines answers ++ accepted_from (number + 1) plans others
+accepted_from number (plan ∷ plans) (answers ∷ others) = puts_from (client_of number plan) start plan.lines answers ++ accepted_from (number + 1) plans others
 accepted_from number plans answers = []
 
 -- The accepted puts of a report, each with its key: those of the put lines that were accepted and of the commits, in script order.

@@ -1,5 +1,6 @@
--- When a report has a script's form: it could be the answer to this script, whether or not it is lawful.
-use Rattle.std.specs.Prelude.{◌≡◌, ℕ, ◌==◌, List, length, map, filter, flat_map, Option, Some, None, All, ⊤}
+-- When a report has a script's form: it could be the answer to this script, whether or not it is lawful. Numbers of puts, Lamport
+-- numbers and counts have 64 bits, numbers of held puts and of asks 32.
+use Rattle.std.specs.Prelude.{◌≡◌, ℕ, ◌<◌, ◌^◌, ◌==◌, List, length, map, filter, flat_map, Option, Some, None, All, ⊤}
 use Rattle.std.specs.List.{AllZip, list_any, range_with_len}
 use Rattle.lattice_laws.specs.declared.maybe.Maybe.TheVariants.{Is}
 use Rattle.clock_lattice.specs.Clock.{IsClock}
@@ -59,28 +60,30 @@ NeedsFit script level (Some needs) = ⊥
 pub record IsShownIn (script : Script) (level : Level) (key worker : ℕ) (shown : Shown) : Type 0 where
   pub worker_is : IsOneOf script.config.workers worker
   pub clock_is : IsClockIn script shown.clock
+  pub top_fits : shown.top < 2 ^ 64
   pub value_is : IsValueIn script (kind_at script.kinds key) shown.value
   pub needs_are : NeedsFit script level shown.needs
 
 -- only a causal session is told to ask again
-pub record IsAgainIn (script : Script) (level : Level) (worker : ℕ) (clock : List (ℕ × ℕ)) : Type 0 where
+pub record IsAgainIn (script : Script) (level : Level) (asks worker : ℕ) (clock : List (ℕ × ℕ)) : Type 0 where
   pub causal : level ≡ Causal
+  pub asks_fit : asks < 2 ^ 32
   pub worker_is : IsOneOf script.config.workers worker
   pub clock_is : IsClockIn script clock
 
 -- the answer is one that the line may have
 abbrev pub Fits : Script → Level → Line → Answer → Type 0
-Fits script level (lines.Put key payload) (answers.Put number lamport) = ⊤
+Fits script level (lines.Put key payload) (answers.Put number lamport) = (number < 2 ^ 64) × (lamport < 2 ^ 64)
 Fits script level (lines.Put key payload) answers.Worn = ⊤
 Fits script level (lines.Put key payload) answers.Held = level ≡ Committed
 Fits script level (lines.Get key named) (answers.Got worker shown) = IsShownIn script level key worker shown
-Fits script level (lines.Get key named) (answers.Again asks worker clock) = IsAgainIn script level worker clock
+Fits script level (lines.Get key named) (answers.Again asks worker clock) = IsAgainIn script level asks worker clock
 Fits script level (lines.Await key session count) (answers.Got worker shown) = IsShownIn script level key worker shown
-Fits script level (lines.Await key session count) (answers.Again asks worker clock) = IsAgainIn script level worker clock
+Fits script level (lines.Await key session count) (answers.Again asks worker clock) = IsAgainIn script level asks worker clock
 Fits script level lines.Begin answers.Begun = ⊤
-Fits script level lines.Commit (answers.Committed puts lamport) = puts ≡ 0 → lamport ≡ 0
+Fits script level lines.Commit (answers.Committed puts lamport) = (puts < 2 ^ 32) × (lamport < 2 ^ 64) × (puts ≡ 0 → lamport ≡ 0)
 Fits script level lines.Commit answers.Worn = ⊤
-Fits script level lines.Abort (answers.Aborted puts) = ⊤
+Fits script level lines.Abort (answers.Aborted puts) = puts < 2 ^ 32
 Fits script level line answer = ⊥
 
 -- the replicas of a key, ascending
@@ -94,6 +97,7 @@ final_places script table = flat_map (λ key. map (λ worker. (key, worker)) (re
 -- a final cell in form
 pub record IsFinalIn (script : Script) (cell : FinalCell) : Type 0 where
   pub clock_is : IsClockIn script cell.clock
+  pub top_fits : cell.top < 2 ^ 64
   pub value_is : IsValueIn script (kind_at script.kinds cell.key) cell.value
 
 -- The report has the script's form, where the keys live as the table says.

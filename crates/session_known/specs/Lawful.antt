@@ -7,7 +7,7 @@ use Rattle.composed_value.specs.Sound.{puts_on, IsSound, AreSoundNeeds}
 use Rattle.composed_value.specs.declared.kind.Kind.{Kind}
 use Rattle.composed_value.specs.declared.put.Put as puts
 use Rattle.session_known.specs.Script.{replicas_of, home_at, kind_at}
-use Rattle.session_known.specs.Session.{Party, Knowledge, State, own_count, held_puts, after}
+use Rattle.session_known.specs.Session.{Client, Knowledge, State, own_count, held_puts, after}
 use Rattle.session_known.specs.declared.report.Answer.{Answer}
 use Rattle.session_known.specs.declared.report.Answer.TheVariants as answers
 use Rattle.session_known.specs.declared.report.Shown.{Shown}
@@ -34,10 +34,10 @@ required_by_get Causal knows key = clock_at key knows.known
 required_by_get level knows key = []
 
 -- what a reply to the line must cover; at an await what is known of the key, raised to the awaited count
-abbrev pub required : Party → Knowledge → Line → List (ℕ × ℕ)
-required party knows (lines.Get key named) = required_by_get party.level knows key
-required party knows (lines.Await key session count) = joined_clocks (clock_at key knows.known) (one_count session count)
-required party knows line = []
+abbrev pub required : Client → Knowledge → Line → List (ℕ × ℕ)
+required client knows (lines.Get key named) = required_by_get client.level knows key
+required client knows (lines.Await key session count) = joined_clocks (clock_at key knows.known) (one_count session count)
+required client knows line = []
 
 -- which worker may reply to a get: in a causal session any replica, else the named one or the home
 abbrev pub MayReply : Level → List (List ℕ) → ℕ → ℕ → Option ℕ → ℕ → Type 0
@@ -59,24 +59,24 @@ earlier_from key worker earlier = filter_map (had_from key worker) earlier
 
 -- A clock of the key from a worker: it covers those that the session had from the worker before, and at the session's home it counts
 -- all puts that the session has made on the key.
-pub record IsClockFrom (table : List (List ℕ)) (party : Party) (knows : Knowledge) (earlier : List (Line × Answer)) (key worker : ℕ) (clock : List (ℕ × ℕ)) : Type 0 where
+pub record IsClockFrom (table : List (List ℕ)) (client : Client) (knows : Knowledge) (earlier : List (Line × Answer)) (key worker : ℕ) (clock : List (ℕ × ℕ)) : Type 0 where
   pub covers_earlier : All (λ before. IsTrue (covers clock before)) (earlier_from key worker earlier)
-  pub own_at_home : worker ≡ home_at table party.session key → count_of party.session clock ≡ own_count knows key
+  pub own_at_home : worker ≡ home_at table client.session key → count_of client.session clock ≡ own_count knows key
 
 -- A lawful reply, as far as it is decided inside the session: it counts no later put of the session, and covers what is required.
-pub record IsLawfulReply (table : List (List ℕ)) (party : Party) (knows : Knowledge) (earlier : List (Line × Answer)) (line : Line) (key : ℕ) (named : Option ℕ) (worker : ℕ) (clock : List (ℕ × ℕ)) : Type 0 where
-  pub worker_is : MayReply party.level table party.session key named worker
-  pub clock_is : IsClockFrom table party knows earlier key worker clock
-  pub no_later_put : count_of party.session clock ≤ own_count knows key
-  pub covers_required : IsTrue (covers clock (required party knows line))
+pub record IsLawfulReply (table : List (List ℕ)) (client : Client) (knows : Knowledge) (earlier : List (Line × Answer)) (line : Line) (key : ℕ) (named : Option ℕ) (worker : ℕ) (clock : List (ℕ × ℕ)) : Type 0 where
+  pub worker_is : MayReply client.level table client.session key named worker
+  pub clock_is : IsClockFrom table client knows earlier key worker clock
+  pub no_later_put : count_of client.session clock ≤ own_count knows key
+  pub covers_required : IsTrue (covers clock (required client knows line))
 
 -- A lawful end of asking, as far as it is decided inside the session: each replica was asked 8 times, and the last still lacked something.
-pub record IsLawfulAgain (table : List (List ℕ)) (party : Party) (knows : Knowledge) (earlier : List (Line × Answer)) (line : Line) (key asks worker : ℕ) (clock : List (ℕ × ℕ)) : Type 0 where
-  pub causal : party.level ≡ Causal
+pub record IsLawfulAgain (table : List (List ℕ)) (client : Client) (knows : Knowledge) (earlier : List (Line × Answer)) (line : Line) (key asks worker : ℕ) (clock : List (ℕ × ℕ)) : Type 0 where
+  pub causal : client.level ≡ Causal
   pub asks_are : asks ≡ 8 * length (replicas_of table key)
-  pub worker_is : worker ≡ last_asked table party.session key
-  pub clock_is : IsClockFrom table party knows earlier key worker clock
-  pub lacks_required : IsFalse (covers clock (required party knows line))
+  pub worker_is : worker ≡ last_asked table client.session key
+  pub clock_is : IsClockFrom table client knows earlier key worker clock
+  pub lacks_required : IsFalse (covers clock (required client knows line))
 
 -- a put is accepted outside a transaction, as the session's next on the key, at its next Lamport number
 pub record IsLawfulPut (state : State) (key number lamport : ℕ) : Type 0 where
@@ -98,26 +98,26 @@ pub record IsLawfulCommit (state : State) (puts lamport : ℕ) : Type 0 where
   pub lamport_is : lamport ≡ lamport_of_commit state.knows puts
 
 -- Whether the line may get the answer in this state and behind these answers, as far as it is decided inside the session.
-abbrev pub IsLawful : List (List ℕ) → Party → State → List (Line × Answer) → Line → Answer → Type 0
-IsLawful table party state earlier (lines.Put key payload) (answers.Put number lamport) = IsLawfulPut state key number lamport
-IsLawful table party state earlier (lines.Put key payload) answers.Held = IsSome state.held
-IsLawful table party state earlier (lines.Put key payload) answers.Worn = (state.held ≡ None) × (state.knows.lamport ≡ last_lamport)
-IsLawful table party state earlier lines.Begin answers.Begun = state.held ≡ None
-IsLawful table party state earlier lines.Commit (answers.Committed puts lamport) = IsLawfulCommit state puts lamport
-IsLawful table party state earlier lines.Commit answers.Worn = IsSome state.held × (state.knows.lamport ≡ last_lamport)
-IsLawful table party state earlier lines.Abort (answers.Aborted puts) = IsSome state.held × (puts ≡ length (held_puts state))
-IsLawful table party state earlier (lines.Get key named) (answers.Got worker shown) = IsLawfulReply table party state.knows earlier (lines.Get key named) key named worker shown.clock
-IsLawful table party state earlier (lines.Await key session count) (answers.Got worker shown) = IsLawfulReply table party state.knows earlier (lines.Await key session count) key None worker shown.clock
-IsLawful table party state earlier (lines.Get key named) (answers.Again asks worker clock) = IsLawfulAgain table party state.knows earlier (lines.Get key named) key asks worker clock
-IsLawful table party state earlier (lines.Await key session count) (answers.Again asks worker clock) = IsLawfulAgain table party state.knows earlier (lines.Await key session count) key asks worker clock
-IsLawful table party state earlier line answer = ⊥
+abbrev pub IsLawful : List (List ℕ) → Client → State → List (Line × Answer) → Line → Answer → Type 0
+IsLawful table client state earlier (lines.Put key payload) (answers.Put number lamport) = IsLawfulPut state key number lamport
+IsLawful table client state earlier (lines.Put key payload) answers.Held = IsSome state.held
+IsLawful table client state earlier (lines.Put key payload) answers.Worn = (state.held ≡ None) × (state.knows.lamport ≡ last_lamport)
+IsLawful table client state earlier lines.Begin answers.Begun = state.held ≡ None
+IsLawful table client state earlier lines.Commit (answers.Committed puts lamport) = IsLawfulCommit state puts lamport
+IsLawful table client state earlier lines.Commit answers.Worn = IsSome state.held × (state.knows.lamport ≡ last_lamport)
+IsLawful table client state earlier lines.Abort (answers.Aborted puts) = IsSome state.held × (puts ≡ length (held_puts state))
+IsLawful table client state earlier (lines.Get key named) (answers.Got worker shown) = IsLawfulReply table client state.knows earlier (lines.Get key named) key named worker shown.clock
+IsLawful table client state earlier (lines.Await key session count) (answers.Got worker shown) = IsLawfulReply table client state.knows earlier (lines.Await key session count) key None worker shown.clock
+IsLawful table client state earlier (lines.Get key named) (answers.Again asks worker clock) = IsLawfulAgain table client state.knows earlier (lines.Get key named) key asks worker clock
+IsLawful table client state earlier (lines.Await key session count) (answers.Again asks worker clock) = IsLawfulAgain table client state.knows earlier (lines.Await key session count) key asks worker clock
+IsLawful table client state earlier line answer = ⊥
 
 -- each line of a session has a lawful answer, from a state and the answers before it on
-abbrev pub AreLawful : List (List ℕ) → Party → State → List (Line × Answer) → List Line → List Answer → Type 0
-AreLawful table party state earlier [] [] = ⊤
-AreLawful table party state earlier (line ∷ lines) (answer ∷ answers) =
-    IsLawful table party state earlier line answer × AreLawful table party (after party state line answer) (earlier ++ (line, answer) ∷ []) lines answers
-AreLawful table party state earlier lines answers = ⊥
+abbrev pub AreLawful : List (List ℕ) → Client → State → List (Line × Answer) → List Line → List Answer → Type 0
+AreLawful table client state earlier [] [] = ⊤
+AreLawful table client state earlier (line ∷ lines) (answer ∷ answers) =
+    IsLawful table client state earlier line answer × AreLawful table client (after client state line answer) (earlier ++ (line, answer) ∷ []) lines answers
+AreLawful table client state earlier lines answers = ⊥
 
 -- the needs of a reply are sound where they are shown
 abbrev pub AreSoundWhereShown : List (ℕ × puts.Put) → ℕ → List (ℕ × ℕ) → Option (List (ℕ × List (ℕ × ℕ))) → Type 0

@@ -21,7 +21,7 @@ use Rattle.session_known.specs.Lawful.{required_by_get, IsLawful, AreLawful, IsT
 use Rattle.session_known.specs.Legal.{AreLawfulFrom, IsLawfulFinal, IsLegalAt}
 use Rattle.session_known.specs.Numbered.{made_on, AreNext, number_at, numbered_from_next, accepted_are_next}
 use Rattle.session_known.specs.Script.{kind_at}
-use Rattle.session_known.specs.Session.{Party, State, start, after}
+use Rattle.session_known.specs.Session.{Client, State, start, after}
 use Rattle.session_known.specs.declared.report.Answer.{Answer}
 use Rattle.session_known.specs.declared.report.Answer.TheVariants.{Got}
 use Rattle.session_known.specs.declared.report.FinalCell.{FinalCell}
@@ -99,17 +99,17 @@ shown_is_clock script line answer key clock fits (by_get its_key named worker sh
 shown_is_clock script line answer key clock fits (by_await its_key session count worker shown) = fits.clock_is.is_clock
 
 -- it is known once it is shown
-known_once_shown : (party : Party) (state : State) (line : Line) (answer : Answer) (key : ℕ) (clock : List (ℕ × ℕ)) → IsClock clock → ShowsAt line answer key clock → CountsAtMost clock (clock_at key (after party state line answer).knows.known)
-known_once_shown party state line answer key clock is (by_get its_key named worker shown) = shown_is_known party state.knows its_key shown is.ascending
-known_once_shown party state line answer key clock is (by_await its_key session count worker shown) = shown_is_known party state.knows its_key shown is.ascending
+known_once_shown : (client : Client) (state : State) (line : Line) (answer : Answer) (key : ℕ) (clock : List (ℕ × ℕ)) → IsClock clock → ShowsAt line answer key clock → CountsAtMost clock (clock_at key (after client state line answer).knows.known)
+known_once_shown client state line answer key clock is (by_get its_key named worker shown) = shown_is_known client state.knows its_key shown is.ascending
+known_once_shown client state line answer key clock is (by_await its_key session count worker shown) = shown_is_known client state.knows its_key shown is.ascending
 
 -- in a causal session a lawful reply counts at least what is known
-counts_what_is_known : (table : List (List ℕ)) (party : Party) (state : State) (before : List (Line × Answer)) (line : Line) (answer : Answer) (key : ℕ) (clock : List (ℕ × ℕ)) → party.level ≡ Causal → IsLawful table party state before line answer → ShowsAt line answer key clock
+counts_what_is_known : (table : List (List ℕ)) (client : Client) (state : State) (before : List (Line × Answer)) (line : Line) (answer : Answer) (key : ℕ) (clock : List (ℕ × ℕ)) → client.level ≡ Causal → IsLawful table client state before line answer → ShowsAt line answer key clock
     → CountsAtMost (clock_at key state.knows.known) clock
-counts_what_is_known table party state before line answer key clock causal lawful (by_get its_key named worker shown) =
+counts_what_is_known table client state before line answer key clock causal lawful (by_get its_key named worker shown) =
     let covered : IsTrue (covers shown.clock (clock_at its_key state.knows.known)) = subst (λ level. IsTrue (covers shown.clock (required_by_get level state.knows its_key))) causal lawful.covers_required in
     counts_from_covers shown.clock (clock_at its_key state.knows.known) covered
-counts_what_is_known table party state before line answer key clock causal lawful (by_await its_key session count worker shown) = λ of_session.
+counts_what_is_known table client state before line answer key clock causal lawful (by_await its_key session count worker shown) = λ of_session.
     let known : List (ℕ × ℕ) = clock_at its_key state.knows.known in
     let raised : List (ℕ × ℕ) = joined_clocks known (one_count session count) in
     let first = first_at_most known (one_count session count) of_session in
@@ -117,41 +117,41 @@ counts_what_is_known table party state before line answer key clock causal lawfu
     omega (arith, first, second)
 
 -- and so does any later one
-counts_what_was_known : (table : List (List ℕ)) (party : Party) (state : State) (before : List (Line × Answer)) (lines : List Line) (answers : List Answer) (place key : ℕ) (clock : List (ℕ × ℕ)) → party.level ≡ Causal → AreLawful table party state before lines answers
+counts_what_was_known : (table : List (List ℕ)) (client : Client) (state : State) (before : List (Line × Answer)) (lines : List Line) (answers : List Answer) (place key : ℕ) (clock : List (ℕ × ℕ)) → client.level ≡ Causal → AreLawful table client state before lines answers
     → place < length lines → IsReplyAt lines answers place key clock → CountsAtMost (clock_at key state.knows.known) clock
-counts_what_was_known table party state before [] answers place key clock causal lawful within reply = absurd (omega (arith, within))
-counts_what_was_known table party state before (line ∷ lines) [] place key clock causal lawful within reply = absurd lawful
-counts_what_was_known table party state before (line ∷ lines) (answer ∷ answers) zero key clock causal lawful within reply =
+counts_what_was_known table client state before [] answers place key clock causal lawful within reply = absurd (omega (arith, within))
+counts_what_was_known table client state before (line ∷ lines) [] place key clock causal lawful within reply = absurd lawful
+counts_what_was_known table client state before (line ∷ lines) (answer ∷ answers) zero key clock causal lawful within reply =
     let shows : ShowsAt line answer key clock = subst₂ (λ l a. ShowsAt l a key clock) reply.line_is reply.answer_is reply.shows in
-    counts_what_is_known table party state before line answer key clock causal lawful.0 shows
-counts_what_was_known table party state before (line ∷ lines) (answer ∷ answers) (suc place) key clock causal lawful within reply = λ session.
+    counts_what_is_known table client state before line answer key clock causal lawful.0 shows
+counts_what_was_known table client state before (line ∷ lines) (answer ∷ answers) (suc place) key clock causal lawful within reply = λ session.
     let rest : IsReplyAt lines answers place key clock = record { line = reply.line; answer = reply.answer; line_is = reply.line_is; answer_is = reply.answer_is; shows = reply.shows } in
-    let later = counts_what_was_known table party (after party state line answer) (before ++ (line, answer) ∷ []) lines answers place key clock causal lawful.1 (omega (arith, within)) rest session in
-    omega (arith, known_at_line party state line answer key session, later)
+    let later = counts_what_was_known table client (after client state line answer) (before ++ (line, answer) ∷ []) lines answers place key clock causal lawful.1 (omega (arith, within)) rest session in
+    omega (arith, known_at_line client state line answer key session, later)
 
 -- in a causal session a later reply on a key covers the earlier ones, from any state on
-covers_earlier : (script : Script) (table : List (List ℕ)) (party : Party) (state : State) (before : List (Line × Answer)) (lines : List Line) (answers : List Answer) (i j key : ℕ) (earlier later : List (ℕ × ℕ)) → party.level ≡ Causal → AreLawful table party state before lines answers
+covers_earlier : (script : Script) (table : List (List ℕ)) (client : Client) (state : State) (before : List (Line × Answer)) (lines : List Line) (answers : List Answer) (i j key : ℕ) (earlier later : List (ℕ × ℕ)) → client.level ≡ Causal → AreLawful table client state before lines answers
     → AllZip (Fits script Causal) lines answers → i < j → j < length lines → IsReplyAt lines answers i key earlier → IsReplyAt lines answers j key later → IsTrue (covers later earlier)
-covers_earlier script table party state before [] answers i j key earlier later causal lawful fits is_before within reply_i reply_j = absurd (omega (arith, within))
-covers_earlier script table party state before (line ∷ lines) [] i j key earlier later causal lawful fits is_before within reply_i reply_j = absurd lawful
-covers_earlier script table party state before (line ∷ lines) (answer ∷ answers) i zero key earlier later causal lawful fits is_before within reply_i reply_j = absurd (omega (arith, is_before))
-covers_earlier script table party state before (line ∷ lines) (answer ∷ answers) zero (suc j) key earlier later causal lawful fits is_before within reply_i reply_j =
+covers_earlier script table client state before [] answers i j key earlier later causal lawful fits is_before within reply_i reply_j = absurd (omega (arith, within))
+covers_earlier script table client state before (line ∷ lines) [] i j key earlier later causal lawful fits is_before within reply_i reply_j = absurd lawful
+covers_earlier script table client state before (line ∷ lines) (answer ∷ answers) i zero key earlier later causal lawful fits is_before within reply_i reply_j = absurd (omega (arith, is_before))
+covers_earlier script table client state before (line ∷ lines) (answer ∷ answers) zero (suc j) key earlier later causal lawful fits is_before within reply_i reply_j =
     let shows : ShowsAt line answer key earlier = subst₂ (λ l a. ShowsAt l a key earlier) reply_i.line_is reply_i.answer_is reply_i.shows in
     let is_clock = shown_is_clock script line answer key earlier fits.0 shows in
-    let known = known_once_shown party state line answer key earlier is_clock shows in
+    let known = known_once_shown client state line answer key earlier is_clock shows in
     let rest : IsReplyAt lines answers j key later = record { line = reply_j.line; answer = reply_j.answer; line_is = reply_j.line_is; answer_is = reply_j.answer_is; shows = reply_j.shows } in
-    let counted = counts_what_was_known table party (after party state line answer) (before ++ (line, answer) ∷ []) lines answers j key later causal lawful.1 (omega (arith, within)) rest in
+    let counted = counts_what_was_known table client (after client state line answer) (before ++ (line, answer) ∷ []) lines answers j key later causal lawful.1 (omega (arith, within)) rest in
     covers_from_counts later earlier is_clock (λ session. omega (arith, known session, counted session))
-covers_earlier script table party state before (line ∷ lines) (answer ∷ answers) (suc i) (suc j) key earlier later causal lawful fits is_before within reply_i reply_j =
-    covers_earlier script table party (after party state line answer) (before ++ (line, answer) ∷ []) lines answers i j key earlier later causal lawful.1 fits.1 (omega (arith, is_before)) (omega (arith, within))
+covers_earlier script table client state before (line ∷ lines) (answer ∷ answers) (suc i) (suc j) key earlier later causal lawful fits is_before within reply_i reply_j =
+    covers_earlier script table client (after client state line answer) (before ++ (line, answer) ∷ []) lines answers i j key earlier later causal lawful.1 fits.1 (omega (arith, is_before)) (omega (arith, within))
     (record { line = reply_i.line; answer = reply_i.answer; line_is = reply_i.line_is; answer_is = reply_i.answer_is; shows = reply_i.shows })
     (record { line = reply_j.line; answer = reply_j.answer; line_is = reply_j.line_is; answer_is = reply_j.answer_is; shows = reply_j.shows })
 
 -- in a causal session a later reply on a key covers the earlier ones
-pub later_covers_earlier : (script : Script) (table : List (List ℕ)) (party : Party) (lines : List Line) (answers : List Answer) → party.level ≡ Causal → AreLawful table party start [] lines answers → AllZip (Fits script Causal) lines answers
+pub later_covers_earlier : (script : Script) (table : List (List ℕ)) (client : Client) (lines : List Line) (answers : List Answer) → client.level ≡ Causal → AreLawful table client start [] lines answers → AllZip (Fits script Causal) lines answers
     → (i j key : ℕ) (line_i line_j : Line) (answer_i answer_j : Answer) (earlier later : List (ℕ × ℕ)) → i < j → j < length lines
     → line_i ≡ slice_index_or lines i line_i → line_j ≡ slice_index_or lines j line_j → answer_i ≡ slice_index_or answers i answer_i → answer_j ≡ slice_index_or answers j answer_j
     → ShowsAt line_i answer_i key earlier → ShowsAt line_j answer_j key later → IsTrue (covers later earlier)
-later_covers_earlier script table party lines answers causal lawful fits i j key line_i line_j answer_i answer_j earlier later before within is_i is_j of_i of_j shows_i shows_j =
-    covers_earlier script table party start [] lines answers i j key earlier later causal lawful fits before within
+later_covers_earlier script table client lines answers causal lawful fits i j key line_i line_j answer_i answer_j earlier later before within is_i is_j of_i of_j shows_i shows_j =
+    covers_earlier script table client start [] lines answers i j key earlier later causal lawful fits before within
     (record { line = line_i; answer = answer_i; line_is = is_i; answer_is = of_i; shows = shows_i }) (record { line = line_j; answer = answer_j; line_is = is_j; answer_is = of_j; shows = shows_j })

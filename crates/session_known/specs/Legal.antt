@@ -6,7 +6,7 @@ use Rattle.clock_lattice.specs.Clock.{count_of}
 use Rattle.composed_value.specs.Sound.{puts_on, IsSound}
 use Rattle.composed_value.specs.declared.kind.Kind.{Kind}
 use Rattle.composed_value.specs.declared.put.Put as puts
-use Rattle.session_known.specs.Accepted.{party_of, accepted}
+use Rattle.session_known.specs.Accepted.{client_of, accepted}
 use Rattle.session_known.specs.Form.{HasForm}
 use Rattle.session_known.specs.Lawful.{AreLawful, IsTrueOf}
 use Rattle.session_known.specs.Script.{kind_at}
@@ -20,7 +20,7 @@ use Rattle.session_known.specs.declared.script.SessionPlan.{SessionPlan}
 -- the answers of each session are lawful, of the sessions from a number on
 abbrev pub AreLawfulFrom : List (List ℕ) → ℕ → List SessionPlan → List (List Answer) → Type 0
 AreLawfulFrom table number [] [] = ⊤
-AreLawfulFrom table number (plan ∷ plans) (answers ∷ others) = AreLawful table (party_of number plan) start [] plan.lines answers × AreLawfulFrom table (number + 1) plans others
+AreLawfulFrom table number (plan ∷ plans) (answers ∷ others) = AreLawful table (client_of number plan) start [] plan.lines answers × AreLawfulFrom table (number + 1) plans others
 AreLawfulFrom table number plans answers = ⊥
 
 -- the final cell of a replica is sound, and counts every accepted put of its key

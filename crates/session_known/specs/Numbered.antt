@@ -16,10 +16,10 @@ use Rattle.composed_value.specs.PlainValue.{puts_of_session}
 use Rattle.composed_value.specs.Sound.{puts_on, AreNumbered}
 use Rattle.composed_value.specs.declared.payload.Payload.{Payload}
 use Rattle.composed_value.specs.declared.put.Put as puts
-use Rattle.session_known.specs.Accepted.{party_of, accepted_from}
+use Rattle.session_known.specs.Accepted.{client_of, accepted_from}
 use Rattle.session_known.specs.Lawful.{IsLawful, AreLawful}
 use Rattle.session_known.specs.Legal.{AreLawfulFrom}
-use Rattle.session_known.specs.Session.{Party, Knowledge, State, start, own_count, put_made, knows_put, puts_committed, knows_committed, held_puts, after, puts_by, puts_from}
+use Rattle.session_known.specs.Session.{Client, Knowledge, State, start, own_count, put_made, knows_put, puts_committed, knows_committed, held_puts, after, puts_by, puts_from}
 use Rattle.session_known.specs.declared.report.Answer.{Answer}
 use Rattle.session_known.specs.declared.report.Answer.TheVariants as answers
 use Rattle.session_known.specs.declared.script.Line.{Line}
@@ -130,95 +130,95 @@ next_of_both session key first middle last made more of_made of_more =
     })
 
 -- a session's next put on a key follows its count there
-next_of_put : (party : Party) (knows : Knowledge) (its_key : ℕ) (payload : Payload) (number lamport place key : ℕ) → number ≡ own_count knows its_key + 1
-    → AreNextUpTo (own_count knows key) (made_on party.session key ((its_key, put_made party knows its_key payload number lamport place) ∷ [])) (own_count (knows_put party knows its_key number lamport) key)
-next_of_put party knows its_key payload number lamport place key next =
-    let put : puts.Put = put_made party knows its_key payload number lamport place in
-    let count : ℕ = own_count (knows_put party knows its_key number lamport) key in
+next_of_put : (client : Client) (knows : Knowledge) (its_key : ℕ) (payload : Payload) (number lamport place key : ℕ) → number ≡ own_count knows its_key + 1
+    → AreNextUpTo (own_count knows key) (made_on client.session key ((its_key, put_made client knows its_key payload number lamport place) ∷ [])) (own_count (knows_put client knows its_key number lamport) key)
+next_of_put client knows its_key payload number lamport place key next =
+    let put : puts.Put = put_made client knows its_key payload number lamport place in
+    let count : ℕ = own_count (knows_put client knows its_key number lamport) key in
     elim (eqb_tells its_key key) [
       | inl same ↦
           let next_here : number ≡ own_count knows key + 1 = subst (λ k. number ≡ own_count knows k + 1) same.1 next in
           let counts : count ≡ number = subst (λ k. count_of key (joined_clocks knows.own (one_count k number)) ≡ number) (sym same.1) (count_put knows.own key number next_here) in
-          subst (λ made. AreNextUpTo (own_count knows key) made count) (sym (made_here party.session its_key key put same.1 refl)) (record { next = (next_here, tt); last_is = omega (arith, counts, next_here) })
+          subst (λ made. AreNextUpTo (own_count knows key) made count) (sym (made_here client.session its_key key put same.1 refl)) (record { next = (next_here, tt); last_is = omega (arith, counts, next_here) })
       | inr other ↦
-          subst (λ made. AreNextUpTo (own_count knows key) made count) (sym (made_elsewhere party.session its_key key put other.1))
+          subst (λ made. AreNextUpTo (own_count knows key) made count) (sym (made_elsewhere client.session its_key key put other.1))
           (record { next = tt; last_is = count_put_elsewhere knows.own its_key key number other.1 ∙ omega arith })
     ]
 
 -- and so do the puts of a commit
-next_of_commit : (party : Party) (knows : Knowledge) (lamport place : ℕ) (held : List (ℕ × Payload)) (key : ℕ) → AreNextUpTo (own_count knows key) (made_on party.session key (puts_committed party knows lamport place held)) (own_count (knows_committed party knows lamport held) key)
-next_of_commit party knows lamport place [] key = next_of_none (own_count knows key)
-next_of_commit party knows lamport place (held ∷ others) key =
+next_of_commit : (client : Client) (knows : Knowledge) (lamport place : ℕ) (held : List (ℕ × Payload)) (key : ℕ) → AreNextUpTo (own_count knows key) (made_on client.session key (puts_committed client knows lamport place held)) (own_count (knows_committed client knows lamport held) key)
+next_of_commit client knows lamport place [] key = next_of_none (own_count knows key)
+next_of_commit client knows lamport place (held ∷ others) key =
     let number : ℕ = own_count knows held.0 + 1 in
-    let behind : Knowledge = knows_put party knows held.0 number lamport in
-    next_of_both party.session key (own_count knows key) (own_count behind key) (own_count (knows_committed party behind lamport others) key)
-    ((held.0, put_made party knows held.0 held.1 number lamport place) ∷ []) (puts_committed party behind lamport (place + 1) others)
-    (next_of_put party knows held.0 held.1 number lamport place key refl) (next_of_commit party behind lamport (place + 1) others key)
+    let behind : Knowledge = knows_put client knows held.0 number lamport in
+    next_of_both client.session key (own_count knows key) (own_count behind key) (own_count (knows_committed client behind lamport others) key)
+    ((held.0, put_made client knows held.0 held.1 number lamport place) ∷ []) (puts_committed client behind lamport (place + 1) others)
+    (next_of_put client knows held.0 held.1 number lamport place key refl) (next_of_commit client behind lamport (place + 1) others key)
 
 -- and those of any line with a lawful answer
-next_of_line : (table : List (List ℕ)) (party : Party) (state : State) (earlier : List (Line × Answer)) (line : Line) (answer : Answer) (key : ℕ) → IsLawful table party state earlier line answer
-    → AreNextUpTo (own_count state.knows key) (made_on party.session key (puts_by party state line answer)) (own_count (after party state line answer).knows key)
-next_of_line table party state earlier (lines.Put its_key payload) (answers.Put number lamport) key lawful = next_of_put party state.knows its_key payload number lamport 0 key lawful.number_is
-next_of_line table party state earlier lines.Commit (answers.Committed committed lamport) key lawful = next_of_commit party state.knows lamport 0 (held_puts state) key
-next_of_line table party state earlier (lines.Get its_key named) (answers.Got worker shown) key lawful = next_of_none (own_count state.knows key)
-next_of_line table party state earlier (lines.Await its_key session count) (answers.Got worker shown) key lawful = next_of_none (own_count state.knows key)
-next_of_line table party state earlier lines.Begin answers.Begun key lawful = next_of_none (own_count state.knows key)
-next_of_line table party state earlier lines.Abort (answers.Aborted aborted) key lawful = next_of_none (own_count state.knows key)
-next_of_line table party state earlier line answer key lawful = next_of_none (own_count state.knows key)
+next_of_line : (table : List (List ℕ)) (client : Client) (state : State) (earlier : List (Line × Answer)) (line : Line) (answer : Answer) (key : ℕ) → IsLawful table client state earlier line answer
+    → AreNextUpTo (own_count state.knows key) (made_on client.session key (puts_by client state line answer)) (own_count (after client state line answer).knows key)
+next_of_line table client state earlier (lines.Put its_key payload) (answers.Put number lamport) key lawful = next_of_put client state.knows its_key payload number lamport 0 key lawful.number_is
+next_of_line table client state earlier lines.Commit (answers.Committed committed lamport) key lawful = next_of_commit client state.knows lamport 0 (held_puts state) key
+next_of_line table client state earlier (lines.Get its_key named) (answers.Got worker shown) key lawful = next_of_none (own_count state.knows key)
+next_of_line table client state earlier (lines.Await its_key session count) (answers.Got worker shown) key lawful = next_of_none (own_count state.knows key)
+next_of_line table client state earlier lines.Begin answers.Begun key lawful = next_of_none (own_count state.knows key)
+next_of_line table client state earlier lines.Abort (answers.Aborted aborted) key lawful = next_of_none (own_count state.knows key)
+next_of_line table client state earlier line answer key lawful = next_of_none (own_count state.knows key)
 
 -- and those of all its lines
-next_of_lines : (table : List (List ℕ)) (party : Party) (state : State) (earlier : List (Line × Answer)) (lines : List Line) (answers : List Answer) (key : ℕ) → AreLawful table party state earlier lines answers
-    → AreNext (own_count state.knows key) (made_on party.session key (puts_from party state lines answers))
-next_of_lines table party state earlier (line ∷ lines) (answer ∷ answers) key lawful =
-    let behind : State = after party state line answer in
-    let here = next_of_line table party state earlier line answer key lawful.0 in
-    let later = next_of_lines table party behind (earlier ++ (line, answer) ∷ []) lines answers key lawful.1 in
-    subst (AreNext (own_count state.knows key)) (sym (made_on-append party.session key (puts_by party state line answer) (puts_from party behind lines answers)))
-    (next-append (own_count state.knows key) (made_on party.session key (puts_by party state line answer)) (made_on party.session key (puts_from party behind lines answers)) here.next
-    (subst (λ n. AreNext n (made_on party.session key (puts_from party behind lines answers))) here.last_is later))
-next_of_lines table party state earlier lines answers key lawful = tt
+next_of_lines : (table : List (List ℕ)) (client : Client) (state : State) (earlier : List (Line × Answer)) (lines : List Line) (answers : List Answer) (key : ℕ) → AreLawful table client state earlier lines answers
+    → AreNext (own_count state.knows key) (made_on client.session key (puts_from client state lines answers))
+next_of_lines table client state earlier (line ∷ lines) (answer ∷ answers) key lawful =
+    let behind : State = after client state line answer in
+    let here = next_of_line table client state earlier line answer key lawful.0 in
+    let later = next_of_lines table client behind (earlier ++ (line, answer) ∷ []) lines answers key lawful.1 in
+    subst (AreNext (own_count state.knows key)) (sym (made_on-append client.session key (puts_by client state line answer) (puts_from client behind lines answers)))
+    (next-append (own_count state.knows key) (made_on client.session key (puts_by client state line answer)) (made_on client.session key (puts_from client behind lines answers)) here.next
+    (subst (λ n. AreNext n (made_on client.session key (puts_from client behind lines answers))) here.last_is later))
+next_of_lines table client state earlier lines answers key lawful = tt
 
 -- a session commits no puts of another
-none_committed : (party : Party) (knows : Knowledge) (lamport place : ℕ) (held : List (ℕ × Payload)) (session key : ℕ) → session ≢ party.session → made_on session key (puts_committed party knows lamport place held) ≡ []
-none_committed party knows lamport place [] session key other = refl
-none_committed party knows lamport place (held ∷ others) session key other =
+none_committed : (client : Client) (knows : Knowledge) (lamport place : ℕ) (held : List (ℕ × Payload)) (session key : ℕ) → session ≢ client.session → made_on session key (puts_committed client knows lamport place held) ≡ []
+none_committed client knows lamport place [] session key other = refl
+none_committed client knows lamport place (held ∷ others) session key other =
     let number : ℕ = own_count knows held.0 + 1 in
-    let put : puts.Put = put_made party knows held.0 held.1 number lamport place in
-    let behind : Knowledge = knows_put party knows held.0 number lamport in
-    none_in_both session key ((held.0, put) ∷ []) (puts_committed party behind lamport (place + 1) others) (made_by_other session held.0 key put other) (none_committed party behind lamport (place + 1) others session key other)
+    let put : puts.Put = put_made client knows held.0 held.1 number lamport place in
+    let behind : Knowledge = knows_put client knows held.0 number lamport in
+    none_in_both session key ((held.0, put) ∷ []) (puts_committed client behind lamport (place + 1) others) (made_by_other session held.0 key put other) (none_committed client behind lamport (place + 1) others session key other)
 
 -- nor does it make any in a line
-none_by_line : (party : Party) (state : State) (line : Line) (answer : Answer) (session key : ℕ) → session ≢ party.session → made_on session key (puts_by party state line answer) ≡ []
-none_by_line party state (lines.Put its_key payload) (answers.Put number lamport) session key other = made_by_other session its_key key (put_made party state.knows its_key payload number lamport 0) other
-none_by_line party state lines.Commit (answers.Committed committed lamport) session key other = none_committed party state.knows lamport 0 (held_puts state) session key other
-none_by_line party state line answer session key other = refl
+none_by_line : (client : Client) (state : State) (line : Line) (answer : Answer) (session key : ℕ) → session ≢ client.session → made_on session key (puts_by client state line answer) ≡ []
+none_by_line client state (lines.Put its_key payload) (answers.Put number lamport) session key other = made_by_other session its_key key (put_made client state.knows its_key payload number lamport 0) other
+none_by_line client state lines.Commit (answers.Committed committed lamport) session key other = none_committed client state.knows lamport 0 (held_puts state) session key other
+none_by_line client state line answer session key other = refl
 
 -- nor in all its lines
-none_by_lines : (party : Party) (state : State) (lines : List Line) (answers : List Answer) (session key : ℕ) → session ≢ party.session → made_on session key (puts_from party state lines answers) ≡ []
-none_by_lines party state (line ∷ lines) (answer ∷ answers) session key other =
-    let behind : State = after party state line answer in
-    none_in_both session key (puts_by party state line answer) (puts_from party behind lines answers) (none_by_line party state line answer session key other) (none_by_lines party behind lines answers session key other)
-none_by_lines party state lines answers session key other = refl
+none_by_lines : (client : Client) (state : State) (lines : List Line) (answers : List Answer) (session key : ℕ) → session ≢ client.session → made_on session key (puts_from client state lines answers) ≡ []
+none_by_lines client state (line ∷ lines) (answer ∷ answers) session key other =
+    let behind : State = after client state line answer in
+    none_in_both session key (puts_by client state line answer) (puts_from client behind lines answers) (none_by_line client state line answer session key other) (none_by_lines client behind lines answers session key other)
+none_by_lines client state lines answers session key other = refl
 
 -- later sessions make no puts of an earlier one
 none_by_later : (number : ℕ) (plans : List SessionPlan) (answers : List (List Answer)) (session key : ℕ) → session < number → made_on session key (accepted_from number plans answers) ≡ []
 none_by_later number (plan ∷ plans) (answers ∷ others) session key earlier =
-    none_in_both session key (puts_from (party_of number plan) start plan.lines answers) (accepted_from (number + 1) plans others)
-    (none_by_lines (party_of number plan) start plan.lines answers session key (λ same. omega (arith, same, earlier))) (none_by_later (number + 1) plans others session key (omega (arith, earlier)))
+    none_in_both session key (puts_from (client_of number plan) start plan.lines answers) (accepted_from (number + 1) plans others)
+    (none_by_lines (client_of number plan) start plan.lines answers session key (λ same. omega (arith, same, earlier))) (none_by_later (number + 1) plans others session key (omega (arith, earlier)))
 none_by_later number plans answers session key earlier = refl
 
 -- the accepted puts of a session on a key follow 0
 pub accepted_are_next : (table : List (List ℕ)) (number : ℕ) (plans : List SessionPlan) (answers : List (List Answer)) → AreLawfulFrom table number plans answers → (session key : ℕ) → AreNext 0 (made_on session key (accepted_from number plans answers))
 accepted_are_next table number (plan ∷ plans) (answers ∷ others) lawful session key =
-    let made : List (ℕ × puts.Put) = puts_from (party_of number plan) start plan.lines answers in
+    let made : List (ℕ × puts.Put) = puts_from (client_of number plan) start plan.lines answers in
     let more : List (ℕ × puts.Put) = accepted_from (number + 1) plans others in
     subst (AreNext 0) (sym (made_on-append session key made more)) (elim (eqb_tells session number) as (λ _. AreNext 0 (made_on session key made ++ made_on session key more)) [
       | inl same ↦
-          let here : AreNext 0 (made_on session key made) = subst (λ s. AreNext 0 (made_on s key made)) (sym same.1) (next_of_lines table (party_of number plan) start [] plan.lines answers key lawful.0) in
+          let here : AreNext 0 (made_on session key made) = subst (λ s. AreNext 0 (made_on s key made)) (sym same.1) (next_of_lines table (client_of number plan) start [] plan.lines answers key lawful.0) in
           next-append 0 (made_on session key made) (made_on session key more) here
           (subst (AreNext (0 + length (made_on session key made))) (sym (none_by_later (number + 1) plans others session key (omega (arith, same.1)))) tt)
       | inr other ↦
-          subst (λ xs. AreNext 0 (xs ++ made_on session key more)) (sym (none_by_lines (party_of number plan) start plan.lines answers session key other.1))
+          subst (λ xs. AreNext 0 (xs ++ made_on session key more)) (sym (none_by_lines (client_of number plan) start plan.lines answers session key other.1))
           (accepted_are_next table (number + 1) plans others lawful.1 session key)
     ])
 accepted_are_next table number plans answers lawful session key = tt

@@ -13,11 +13,12 @@ use Rattle.session_known.specs.declared.script.Line.{Line}
 use Rattle.session_known.specs.declared.script.Line.TheVariants as lines
 
 -- a session of a run: its number and its level
-pub record Party : Type 0 where
+pub record Client : Type 0 where
   pub session : ℕ
   pub level : Level
 
--- what a session knows: the clock seen of each key, the greatest Lamport number seen or used, and how many puts it has made on each key
+-- what a session knows: of each key a clock (of puts that replies have shown, that it made, or that a shown put depends on), the greatest
+-- Lamport number seen or used, and how many puts it has made on each key
 pub record Knowledge : Type 0 where
   pub known : List (ℕ × List (ℕ × ℕ))
   pub lamport : ℕ
@@ -43,42 +44,42 @@ own_count knows key = count_of key knows.own
 abbrev pub known_raised : Knowledge → ℕ → ℕ → ℕ → List (ℕ × ℕ)
 known_raised knows key session number = joined_clocks (clock_at key knows.known) (one_count session number)
 
--- what a put has to have been seen with it: in a causal session all that is known before it
+-- the causal dependencies of a put: in a causal session all that is known before it, else none
 abbrev pub needs_by : Level → Knowledge → List (ℕ × List (ℕ × ℕ))
 needs_by Causal knows = knows.known
 needs_by level knows = []
 
 -- the put that a session makes, at a Lamport number and place
-abbrev pub put_made : Party → Knowledge → ℕ → Payload → ℕ → ℕ → ℕ → puts.Put
-put_made party knows key payload number lamport place = record {
-  session = party.session;
+abbrev pub put_made : Client → Knowledge → ℕ → Payload → ℕ → ℕ → ℕ → puts.Put
+put_made client knows key payload number lamport place = record {
+  session = client.session;
   number = number;
   lamport = lamport;
   place = place;
-  seen = known_raised knows key party.session number;
-  needs = needs_by party.level knows;
+  seen = known_raised knows key client.session number;
+  needs = needs_by client.level knows;
   payload = payload;
 }
 
 -- what is known once the put is made
-abbrev pub knows_put : Party → Knowledge → ℕ → ℕ → ℕ → Knowledge
-knows_put party knows key number lamport = record {
-  known = joined_needs knows.known (one_need key (one_count party.session number));
+abbrev pub knows_put : Client → Knowledge → ℕ → ℕ → ℕ → Knowledge
+knows_put client knows key number lamport = record {
+  known = joined_needs knows.known (one_need key (one_count client.session number));
   lamport = lamport;
   own = joined_clocks knows.own (one_count key number);
 }
 
 -- the held puts in order, each the session's next on its key, at one Lamport number, in places from the given one on
-abbrev pub puts_committed : Party → Knowledge → ℕ → ℕ → List (ℕ × Payload) → List (ℕ × puts.Put)
-puts_committed party knows lamport place [] = []
-puts_committed party knows lamport place (held ∷ others) =
+abbrev pub puts_committed : Client → Knowledge → ℕ → ℕ → List (ℕ × Payload) → List (ℕ × puts.Put)
+puts_committed client knows lamport place [] = []
+puts_committed client knows lamport place (held ∷ others) =
     let number = own_count knows held.0 + 1 in
-    (held.0, put_made party knows held.0 held.1 number lamport place) ∷ puts_committed party (knows_put party knows held.0 number lamport) lamport (place + 1) others
+    (held.0, put_made client knows held.0 held.1 number lamport place) ∷ puts_committed client (knows_put client knows held.0 number lamport) lamport (place + 1) others
 
 -- what is known once they are made
-abbrev pub knows_committed : Party → Knowledge → ℕ → List (ℕ × Payload) → Knowledge
-knows_committed party knows lamport [] = knows
-knows_committed party knows lamport (held ∷ others) = knows_committed party (knows_put party knows held.0 (own_count knows held.0 + 1) lamport) lamport others
+abbrev pub knows_committed : Client → Knowledge → ℕ → List (ℕ × Payload) → Knowledge
+knows_committed client knows lamport [] = knows
+knows_committed client knows lamport (held ∷ others) = knows_committed client (knows_put client knows held.0 (own_count knows held.0 + 1) lamport) lamport others
 
 -- what a session learns of the needs that a reply shows: all of them in a causal session, and else nothing
 abbrev pub needs_learned : Level → Option (List (ℕ × List (ℕ × ℕ))) → List (ℕ × List (ℕ × ℕ))
@@ -86,9 +87,9 @@ needs_learned Causal (Some needs) = needs
 needs_learned level shown = []
 
 -- what is known once a reply has shown a cell of the key
-abbrev pub knows_shown : Party → Knowledge → ℕ → Shown → Knowledge
-knows_shown party knows key shown = record {
-  known = joined_needs (joined_needs knows.known (one_need key shown.clock)) (needs_learned party.level shown.needs);
+abbrev pub knows_shown : Client → Knowledge → ℕ → Shown → Knowledge
+knows_shown client knows key shown = record {
+  known = joined_needs (joined_needs knows.known (one_need key shown.clock)) (needs_learned client.level shown.needs);
   lamport = max knows.lamport shown.top;
   own = knows.own;
 }
@@ -98,29 +99,29 @@ abbrev pub held_puts : State → List (ℕ × Payload)
 held_puts state = unwrap_or state.held []
 
 -- the state once the line has its answer
-abbrev pub after : Party → State → Line → Answer → State
-after party state (lines.Put key payload) (answers.Put number lamport) = record { knows = knows_put party state.knows key number lamport; held = state.held }
-after party state (lines.Put key payload) answers.Held = record { knows = state.knows; held = Some (held_puts state ++ (key, payload) ∷ []) }
-after party state lines.Begin answers.Begun = record { knows = state.knows; held = Some [] }
-after party state lines.Commit (answers.Committed puts lamport) = record { knows = knows_committed party state.knows lamport (held_puts state); held = None }
-after party state lines.Commit answers.Worn = record { knows = state.knows; held = None }
-after party state lines.Abort (answers.Aborted puts) = record { knows = state.knows; held = None }
-after party state (lines.Get key named) (answers.Got worker shown) = record { knows = knows_shown party state.knows key shown; held = state.held }
-after party state (lines.Await key session count) (answers.Got worker shown) = record { knows = knows_shown party state.knows key shown; held = state.held }
-after party state line answer = state
+abbrev pub after : Client → State → Line → Answer → State
+after client state (lines.Put key payload) (answers.Put number lamport) = record { knows = knows_put client state.knows key number lamport; held = state.held }
+after client state (lines.Put key payload) answers.Held = record { knows = state.knows; held = Some (held_puts state ++ (key, payload) ∷ []) }
+after client state lines.Begin answers.Begun = record { knows = state.knows; held = Some [] }
+after client state lines.Commit (answers.Committed puts lamport) = record { knows = knows_committed client state.knows lamport (held_puts state); held = None }
+after client state lines.Commit answers.Worn = record { knows = state.knows; held = None }
+after client state lines.Abort (answers.Aborted puts) = record { knows = state.knows; held = None }
+after client state (lines.Get key named) (answers.Got worker shown) = record { knows = knows_shown client state.knows key shown; held = state.held }
+after client state (lines.Await key session count) (answers.Got worker shown) = record { knows = knows_shown client state.knows key shown; held = state.held }
+after client state line answer = state
 
 -- the puts that the line's answer accepts, each with its key
-abbrev pub puts_by : Party → State → Line → Answer → List (ℕ × puts.Put)
-puts_by party state (lines.Put key payload) (answers.Put number lamport) = (key, put_made party state.knows key payload number lamport 0) ∷ []
-puts_by party state lines.Commit (answers.Committed puts lamport) = puts_committed party state.knows lamport 0 (held_puts state)
-puts_by party state line answer = []
+abbrev pub puts_by : Client → State → Line → Answer → List (ℕ × puts.Put)
+puts_by client state (lines.Put key payload) (answers.Put number lamport) = (key, put_made client state.knows key payload number lamport 0) ∷ []
+puts_by client state lines.Commit (answers.Committed puts lamport) = puts_committed client state.knows lamport 0 (held_puts state)
+puts_by client state line answer = []
 
 -- the puts that a session's answers accept, in the order of its lines, from a state on
-abbrev pub puts_from : Party → State → List Line → List Answer → List (ℕ × puts.Put)
-puts_from party state (line ∷ lines) (answer ∷ answers) = puts_by party state line answer ++ puts_from party (after party state line answer) lines answers
-puts_from party state lines answers = []
+abbrev pub puts_from : Client → State → List Line → List Answer → List (ℕ × puts.Put)
+puts_from client state (line ∷ lines) (answer ∷ answers) = puts_by client state line answer ++ puts_from client (after client state line answer) lines answers
+puts_from client state lines answers = []
 
 -- the state behind all its lines
-abbrev pub state_behind : Party → State → List Line → List Answer → State
-state_behind party state (line ∷ lines) (answer ∷ answers) = state_behind party (after party state line answer) lines answers
-state_behind party state lines answers = state
+abbrev pub state_behind : Client → State → List Line → List Answer → State
+state_behind client state (line ∷ lines) (answer ∷ answers) = state_behind client (after client state line answer) lines answers
+state_behind client state lines answers = state

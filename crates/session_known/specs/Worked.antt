@@ -1,4 +1,4 @@
--- Four scripts, each with a report that `WorkedLaws` proves legal. Beside each script stands the report.
+-- Four scripts, each with a report that `WorkedLaws` proves legal. Beside each script stands the report, abridged.
 use Rattle.std.specs.Prelude.{ℕ, List, [], ◌∷◌, Some, None, codes}
 use Rattle.lattice_laws.specs.declared.maybe.Maybe.TheVariants.{Is}
 use Rattle.basic_lattices.specs.declared.stamped.Stamped.{Stamped}

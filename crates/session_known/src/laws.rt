@@ -11,7 +11,7 @@ ghost use Rattle.session_known.specs.Form.{Fits};
 ghost use Rattle.session_known.specs.Lawful.{AreLawful, IsTrueOf, CountsAccepted};
 ghost use Rattle.session_known.specs.Laws.{ShowsAt};
 ghost use Rattle.session_known.specs.Legal.{AreLawfulFrom, IsLegalAt};
-ghost use Rattle.session_known.specs.Session.{Party, start};
+ghost use Rattle.session_known.specs.Session.{Client, start};
 ghost use Rattle.session_known.specs.declared.report.Answer.{Answer};
 ghost use Rattle.session_known.specs.declared.report.FinalCell.{FinalCell};
 ghost use Rattle.session_known.specs.declared.report.Report.{Report};
@@ -39,5 +39,5 @@ pub fn replies_count_accepted_puts()
 /// In a causal session a later reply on a key covers the earlier ones: nothing that was seen of the
 /// key is unseen again.
 pub fn causal_replies_cover_earlier_ones()
-    ensures { (script : Script) (table : List (List ℕ)) (party : Party) (lines : List Line) (answers : List Answer) → party.level ≡ Causal → AreLawful table party start [] lines answers → AllZip (Fits script Causal) lines answers → (i j key : ℕ) (line_i line_j : Line) (answer_i answer_j : Answer) (earlier later : List (ℕ × ℕ)) → i < j → j < length lines → line_i ≡ slice_index_or lines i line_i → line_j ≡ slice_index_or lines j line_j → answer_i ≡ slice_index_or answers i answer_i → answer_j ≡ slice_index_or answers j answer_j → ShowsAt line_i answer_i key earlier → ShowsAt line_j answer_j key later → IsTrue (covers later earlier) }
+    ensures { (script : Script) (table : List (List ℕ)) (client : Client) (lines : List Line) (answers : List Answer) → client.level ≡ Causal → AreLawful table client start [] lines answers → AllZip (Fits script Causal) lines answers → (i j key : ℕ) (line_i line_j : Line) (answer_i answer_j : Answer) (earlier later : List (ℕ × ℕ)) → i < j → j < length lines → line_i ≡ slice_index_or lines i line_i → line_j ≡ slice_index_or lines j line_j → answer_i ≡ slice_index_or answers i answer_i → answer_j ≡ slice_index_or answers j answer_j → ShowsAt line_i answer_i key earlier → ShowsAt line_j answer_j key later → IsTrue (covers later earlier) }
 {}

@@ -2,7 +2,7 @@
 //!
 //! A [`Script`] has keys and sessions; a [`Report`] has an answer for each command line and the final
 //! cell of every replica. The definitions in `specs/`, one topic a file, say what a store with these
-//! consistency levels owes whoever runs the script, and mention no worker, mailbox or proxy:
+//! consistency levels owes whoever runs the script, and mention no worker's state, no mailbox and no proxy:
 //! `specs/Session.antt` what a session knows between its lines, `specs/Accepted.antt` which puts a
 //! report accepts, `specs/Form.antt` when a report has a script's form, `specs/Lawful.antt` which answers
 //! are lawful, `specs/Legal.antt` which reports are legal, and `specs/Requests.antt` what a session sends.

@@ -41,7 +41,8 @@ pub enum Answer {
         worker: u16,
         shown: Shown,
     },
-    /// After this many asks no replica had what was required; the last asked showed this clock.
+    /// This many asks, 8 of each replica, were each answered by a replica that lacked something of what
+    /// was required then; the last showed this clock.
     Again {
         asks: u32,
         worker: u16,

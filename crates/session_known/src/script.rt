@@ -4,15 +4,17 @@ use composed_value::{Kind, Payload};
 use lattice_laws::Items;
 use placement::{Config, Name};
 
-/// What a session promises itself.
+/// What a session is promised.
 #[derive(Clone, Copy, Debug, PartialEq, Eq)]
 pub enum Level {
     /// Puts go out at once, and a get shows what one replica has.
     Eventual,
-    /// The same, and puts between begin and commit go out at the commit, under one Lamport number.
+    /// The same, and puts between begin and commit are held until the commit, and then share one Lamport
+    /// number. No reply shows them before; gets do not show held puts, and behind the commit another
+    /// session may be shown some of them and not yet others.
     Committed,
-    /// A reply covers all that the session has seen of the key, and each put says what its session
-    /// had seen.
+    /// A reply covers all that the session knows of the key, and each put depends on all that its
+    /// session knew.
     Causal,
 }
 
@@ -21,9 +23,11 @@ pub enum Level {
 pub enum Line {
     /// Puts the payload to the key.
     Put { key: u16, payload: Payload },
-    /// Gets the key, of the named replica or else of the session's home.
+    /// Gets the key, of the named replica or else of the session's home; a causal session asks its home
+    /// first and then the other replicas, and any of them may answer.
     Get { key: u16, worker: Option<u16> },
-    /// Gets the key once it counts that many puts of the other session.
+    /// Gets the key where it counts that many puts of the named session, and all that is known of the
+    /// key; it may give up.
     Await { key: u16, session: u16, count: u64 },
     /// Begins a transaction: puts are held from here on.
     Begin,
