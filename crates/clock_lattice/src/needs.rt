@@ -15,8 +15,8 @@ use std::marker::Model;
 
 /// Causal dependencies: for each key a clock, empty for most. Whoever is shown something with these
 /// needs in a causal session must from then on be shown at least these clocks of these keys. A merge
-/// joins the clocks of each key. Contracts see the entries (key, clock) in the order of the keys; a key whose clock is
-/// empty has none.
+/// joins the clocks of each key. Contracts see the entries (key, clock) in the order of the keys; a
+/// key whose clock is empty has none.
 #[derive(Debug, Drop)]
 pub struct Needs {
     clocks: Vec<(u16, SomeClock)>,

@@ -8,13 +8,14 @@
 //! [`Lattice`] says what a merge is and which laws it keeps. [`AllFit`] marks the lattices whose
 //! values all merge with one another, and [`Maybe`] adds a bottom to such a lattice. [`join_all`]
 //! joins a list, and [`joins_by_members_alone`] says that neither order nor repetition changes what
-//! comes out. [`entries`] has maps from a [`MapKey`] to such values, joined key by key in one pass.
-//! [`Items`] is the list type of all fields that contracts see as lists, and [`test_spelling`] what
-//! names and words have in common.
+//! comes out. [`entries`] has maps from a [`MapKey`] to such values, joined key by key in one pass; a
+//! map to [`Member`] is a set. [`Items`] is the list type of all fields that contracts see as lists,
+//! and [`test_spelling`] what names and words have in common.
 //!
-//! This crate stands on no other; it offers the words of `specs/Lattice.antt`, `specs/Joins.antt`
-//! and `specs/Entries.antt` to the layers above, with the laws that `specs/JoinsLaws.antt` and
-//! `specs/EntriesLaws.antt` prove of them.
+//! This crate stands on no other; it offers the words of `specs/` to the layers above: what a lattice
+//! is (`Lattice.antt`), joins of lists (`Joins.antt`), maps (`Entries.antt`), sets (`Sets.antt`) and the
+//! greatest of a list (`Greatest.antt`), each with the laws that the file beside it proves
+//! (`JoinsLaws.antt` and so on), and membership of lists (`Members.antt`).
 #![tactic(auto)]
 
 pub mod entries;

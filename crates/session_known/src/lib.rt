@@ -10,7 +10,8 @@
 //! That they mean something is carried by functions that do nothing: [`worked_reports_are_legal`] and
 //! [`changed_reports_are_refused`] have examples, and [`accepted_puts_are_numbered`],
 //! [`final_cells_agree`], [`replies_count_accepted_puts`] and [`causal_replies_cover_earlier_ones`] what
-//! holds of every report. The crate stands on `composed_value` and `placement` and those below them.
+//! holds of every legal report. The crate stands on `composed_value` and `placement` and those below
+//! them.
 #![tactic(auto)]
 
 mod laws;

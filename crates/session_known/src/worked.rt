@@ -16,8 +16,8 @@ pub fn worked_reports_are_legal()
     ensures causal { (table : List (List ℕ)) → IsPlacement causal_script.config table → EachHasReplicas causal_script.config causal_script.config.keys table → IsValidScript causal_script table × IsLegal causal_script causal_report }
 {}
 
-/// The changed reports of `specs/Spoilt.antt` are not legal; each clause is named for what was changed,
-/// and its proof takes the one condition that refuses it.
+/// The changed reports of `specs/Spoilt.antt` are not legal where their script's keys live; each clause
+/// is named for what was changed, and its proof takes the one condition that refuses it.
 pub fn changed_reports_are_refused()
     ensures put_numbered_zero { IsLegalAt first_table first_script put_numbered_zero → ⊥ }
     ensures put_at_a_later_lamport { IsLegalAt first_table first_script put_at_a_later_lamport → ⊥ }

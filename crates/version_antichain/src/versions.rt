@@ -21,8 +21,7 @@ use std::marker::Model;
 
 /// The versions of a register of which none was overtaken: no clock is strictly below another's.
 /// Equal clocks with different words stand side by side. Contracts see the versions in order, each
-/// once. A merge compares pairs; in a run
-/// a register holds few versions, at most one of each session.
+/// once. A merge compares pairs; in a run a register holds few versions, at most one of each session.
 #[derive(Debug, Drop)]
 pub struct Versions {
     versions: Vec<(Version, Member)>,
