@@ -1,7 +1,7 @@
 -- Which configs are valid, and where keys live.
 use Rattle.std.specs.Prelude.{◌≡◌, ℕ, ◌-◌, ◌%◌, ◌≤◌, List, [], ◌∷◌, All, map, length, slice_index_or, IsSorted, IsPermutation, AllPairs, ◌≢◌}
 use Rattle.placement.specs.Hash.{hash_of}
-use Rattle.placement.specs.Ring.{point_cmp, points_of, walked}
+use Rattle.placement.specs.Ring.{point_cmp, points_of, ring_of, walked}
 use Rattle.placement.specs.declared.ring.Point.{Point}
 use Rattle.placement.specs.declared.config.KeyPlace.{KeyPlace}
 use Rattle.placement.specs.declared.config.Config.{Config}
@@ -50,6 +50,10 @@ pub record IsPlacement (config : Config) (table : List (List ℕ)) : Type 0 wher
   pub ring : List Point
   pub is_ring : IsRing config.workers ring
   pub replicas : table ≡ map (replicas_on ring config) config.keys
+
+-- the replicas of each key of the config, in the order of the keys
+unfoldable pub placed : Config → List (List ℕ)
+placed config = map (replicas_on (ring_of config.workers) config) config.keys
 
 -- the replica that takes a session's puts on a key with these replicas
 abbrev pub home_of : List ℕ → ℕ → ℕ

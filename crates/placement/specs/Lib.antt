@@ -1,4 +1,6 @@
 pub mod Config
+pub mod ConfigLaws
 pub mod Hash
 pub mod Name
 pub mod Ring
+pub mod SortedLaws

@@ -8,12 +8,14 @@
 
 mod config;
 mod hash;
+mod laws;
 mod name;
 mod ring;
 mod table;
 
 pub use config::{Config, KeyPlace};
 pub use hash::fnv1a64;
+pub use laws::placements_are_single;
 pub use name::{Name, NameFault};
 pub use ring::{Point, walk};
 pub use table::Placement;
