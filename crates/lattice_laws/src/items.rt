@@ -1,6 +1,7 @@
 //! A vector that contracts see as the list of its items.
-ghost use Rattle.std.specs.Prelude.{◌≡◌};
+ghost use Rattle.std.specs.Prelude.{◌≡◌, ◌++◌, ◌∷◌, [], MatchResult};
 
+use crate::NoMemory;
 use std::marker::Model;
 
 /// A list of items. Contracts see the items in order, and nothing of capacity, so that two lists
@@ -33,6 +34,18 @@ impl<T> Items<T> {
         self.items.as_slice()
     }
 
+    /// Adds an item at the end. After `NoMemory` the items are as before, and the item is dropped.
+    pub fn push(&mut self, item: T) -> Result<(), NoMemory>
+    where
+        T: Drop,
+        ensures { MatchResult result (λ _. self.new ≡ self.old ++ item ∷ []) (λ _. self.new ≡ self.old) }
+    {
+        match self.items.push(item) {
+            Ok(()) => Ok(()),
+            Err(_) => Err(NoMemory),
+        }
+    }
+
     /// The items as a vector. Takes no memory.
     pub fn into_vec(self) -> Vec<T>
         ensures { result.items ≡ self }
@@ -46,5 +59,21 @@ impl<T> From<Vec<T>> for Items<T> {
 
     fn from(items: Vec<T>) -> Items<T> {
         Items::new(items)
+    }
+}
+
+#[cfg(test)]
+mod tests {
+    use super::*;
+    use std::test::Fail;
+
+    #[test]
+    fn keeps_items_in_order(rt: HostRuntime) -> Result<(), Fail> {
+        let mut items = Items::new(Vec::new(rt.alloc()));
+        items.push(3)?;
+        items.push(1)?;
+        assert_eq!(rt; items.as_slice(), [3, 1].as_slice());
+        assert_eq!(rt; items.into_vec().len(), 2);
+        Ok(())
     }
 }

@@ -33,4 +33,4 @@ pub use lattice::{AllFit, Lattice, NoMemory};
 pub use map_key::MapKey;
 pub use maybe::Maybe;
 pub use member::Member;
-pub use spelling::{Misspelled, is_spelling_byte, test_spelling};
+pub use spelling::{Misspelled, test_spelling};

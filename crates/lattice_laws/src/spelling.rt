@@ -12,7 +12,7 @@ pub enum Misspelled {
 }
 
 /// Whether a byte may stand in a name or a word: one of `A-Z a-z 0-9 _ . -`.
-pub fn is_spelling_byte(byte: u8) -> bool
+fn is_spelling_byte(byte: u8) -> bool
     ensures { result ≡ spelling_byte byte }
 {
     byte.is_ascii_alphanumeric() || byte == b'_' || byte == b'.' || byte == b'-'
