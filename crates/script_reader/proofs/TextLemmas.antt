@@ -41,7 +41,7 @@ lines_of-none (b ∷ text) h none =
     lines_without b text (λ k below. fails_before_first is_line_feed (b ∷ text) k 0 (let behind = no_place (position_or_len is_line_feed (b ∷ text)) (length (b ∷ text)) none in omega arith))
 
 -- digits are ASCII, and so are text
-digits_ascii : (digits : List ℕ) → AllDigits 10 digits → IsAscii digits
+pub digits_ascii : (digits : List ℕ) → AllDigits 10 digits → IsAscii digits
 digits_ascii digits all i = elim (cases_lt i (length digits)) [ inl below ↦ let digit = digit_at digits i all below in omega arith | inr past ↦ let none = get_or_past digits i 0 past in omega arith ]
 
 pub number_is_text : (word : List ℕ) (n : ℕ) → IsNumber word n → IsUtf8 word

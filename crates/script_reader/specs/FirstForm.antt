@@ -6,8 +6,8 @@ use Rattle.placement.specs.Name.{IsName}
 use Rattle.script_reader.specs.declared.first.FirstLine.{FirstLine}
 use Rattle.script_reader.specs.declared.first.FirstLine.TheVariants.{Put, Get}
 use Rattle.script_reader.specs.declared.first.FirstScript.{FirstScript}
-use Rattle.script_reader.specs.declared.first.ScriptFault.{ScriptFault}
-use Rattle.script_reader.specs.declared.first.ScriptFault.TheVariants.{Refused, NoMemory}
+use Rattle.script_reader.specs.declared.fault.ScriptFault.{ScriptFault}
+use Rattle.script_reader.specs.declared.fault.ScriptFault.TheVariants.{Refused, NoMemory}
 
 -- a script as plain data
 pub record Script : Type 0 where

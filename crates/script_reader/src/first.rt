@@ -5,6 +5,7 @@ ghost use Rattle.script_reader.specs.FirstForm.{Script, seen, IsFirstScript, IsR
 ghost use Rattle.script_reader.specs.declared.first.FirstLine.{FirstLine};
 ghost use Rattle.script_reader.specs.FirstDraft.{SaysNext, IsFaultBehind};
 
+use crate::fault::ScriptFault;
 use crate::text::{behind, cut_line, name_between, number};
 use std::alloc::{AllocError, AllocFailed, Global};
 
@@ -42,15 +43,6 @@ pub struct FirstScript {
     pub key: Vec<u8>,
     pub session: Vec<u8>,
     pub lines: Vec<FirstLine>,
-}
-
-/// Why a text was not read as a script.
-#[derive(Clone, Copy, Debug, PartialEq, Eq)]
-pub enum ScriptFault {
-    /// It is none: the first line at fault, counted from 1, or 0 for the whole text, and why.
-    Refused { line: u32, code: u8 },
-    /// There was no room for the script.
-    NoMemory,
 }
 
 /// Why a line was not read.

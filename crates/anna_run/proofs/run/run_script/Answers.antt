@@ -1,6 +1,6 @@
 use Rattle.std.proofs.Common.{ℕ, List, Option, Err, sym, subst, ◌∙◌, arith}
 use Rattle.script_reader.specs.FirstForm.{seen, IsFirstScript, IsReadAs}
-use Rattle.script_reader.specs.declared.first.ScriptFault.{ScriptFault}
+use Rattle.script_reader.specs.declared.fault.ScriptFault.{ScriptFault}
 use Rattle.script_reader.specs.Outside.{TookMost}
 use Rattle.anna_run.specs.FirstReport.{seen_report}
 use Rattle.anna_run.specs.Run.{most_taken}

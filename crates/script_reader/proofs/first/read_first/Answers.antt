@@ -1,8 +1,8 @@
 use Rattle.std.proofs.Common.{ℕ, List, Result, Ok, Err, IfOk, IfErr}
 use Rattle.script_reader.specs.FirstForm.{Script, seen, IsFirstScript, IsRefused, IsWhyNot, IsReadAs, IsRefusedAs}
 use Rattle.script_reader.specs.declared.first.FirstScript.{FirstScript}
-use Rattle.script_reader.specs.declared.first.ScriptFault.{ScriptFault}
-use Rattle.script_reader.specs.declared.first.ScriptFault.TheVariants.{Refused, NoMemory}
+use Rattle.script_reader.specs.declared.fault.ScriptFault.{ScriptFault}
+use Rattle.script_reader.specs.declared.fault.ScriptFault.TheVariants.{Refused, NoMemory}
 use Rattle.script_reader.proofs.FirstLaws.{script_not_refused, one_script, one_refusal}
 use Rattle.script_reader.proofs.first.read_first.Goals as goal
 

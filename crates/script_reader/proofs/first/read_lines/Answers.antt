@@ -2,7 +2,7 @@ use Rattle.std.proofs.Common.{◌≡◌, ℕ, eqb, true, sym, subst, ◌∙◌, 
 use Rattle.std.proofs.lemmas.Bool.Decides.{nat_tests}
 use Rattle.script_reader.specs.FirstForm.{IsWhyNot}
 use Rattle.script_reader.specs.declared.first.Draft.{Draft}
-use Rattle.script_reader.specs.declared.first.ScriptFault.{ScriptFault}
+use Rattle.script_reader.specs.declared.fault.ScriptFault.{ScriptFault}
 use Rattle.script_reader.proofs.ReadFirst.{ReadSoFar, read_line, read_no_end, read_script}
 use Rattle.script_reader.proofs.first.read_lines.Goals as goal
 

@@ -1,0 +1,81 @@
+-- Tests of words, and what they say.
+use Rattle.std.proofs.Common.{◌≡◌, ℕ, ◌<◌, ◌^◌, Bool, true, false, cond, ◌&&◌, nat_lt, List, [], ◌∷◌, length, None, Some, Result, Ok, Err, MatchResult, is_ok, ◌≢◌, inl, inr, refl, sym, ap, ◌∙◌, arith}
+use Rattle.std.specs.Char.{is_ascii_digit}
+use Rattle.std.specs.List.{list_all}
+use Rattle.std.specs.Result.{OkIff, result_ok}
+use Rattle.std.specs.Str.{IsUtf8, all_ascii_digits}
+use Rattle.std.specs.Str.Parse.{digits_value, ParsesUnsigned}
+use Rattle.std.proofs.lemmas.Bool.Decides.{nat_tests}
+use Rattle.std.proofs.lemmas.List.Sums.{AllPass-from_list_all, list_all-from_AllPass}
+use Rattle.std.proofs.lemmas.Str.{IsUtf8-from_ascii}
+use Rattle.std.proofs.lemmas.Str.Parse.{IsNumeralModel, tells_all_ascii_digits, numerals_by_value, parse_digits}
+use Rattle.basic_lattices.specs.Word.{IsWhyNoWord}
+use Rattle.basic_lattices.specs.declared.word.WordFault.{WordFault}
+use Rattle.basic_lattices.specs.declared.word.WordFault.TheVariants as faults
+use Rattle.lattice_laws.specs.Spelling.{is_spelling_byte, IsSpelled, IsWhyMisspelled}
+use Rattle.lattice_laws.specs.declared.spelling.Misspelled.{Misspelled}
+use Rattle.lattice_laws.specs.declared.spelling.Misspelled.TheVariants.{Length, Byte}
+use Rattle.script_reader.proofs.TextLemmas.{digits_ascii}
+use Rattle.script_reader.specs.Words.{is_spelled, is_numeral, number_said, word_said}
+
+-- a test that holds of just what meets the property
+from_test : (P : Type 0) (test : Bool) → (test ≡ true → P) → (P → ⊥) → test ≡ false
+from_test P true holds fails = absurd (fails (holds refl))
+from_test P false holds fails = refl
+
+-- the bytes of a word are one
+spelled_is : (most : ℕ) (word : List ℕ) → IsSpelled most word → is_spelled most word ≡ true
+spelled_is most word is = grind (arith, nat_tests, list_all-from_AllPass is_spelling_byte word is.allowed)
+
+is_spelled_is : (most : ℕ) (word : List ℕ) → is_spelled most word ≡ true → IsSpelled most word
+is_spelled_is most word is =
+    let all : list_all is_spelling_byte word ≡ true = grind (arith, nat_tests) in
+    record { some = grind (arith, nat_tests); short = grind (arith, nat_tests); allowed = AllPass-from_list_all is_spelling_byte word all }
+
+not_spelled : (most : ℕ) (word : List ℕ) (fault : Misspelled) → IsWhyMisspelled most word fault → IsSpelled most word → ⊥
+not_spelled most word Length why is = elim why [ inl few ↦ omega (arith, is.some) | inr many ↦ omega (arith, is.short) ]
+not_spelled most word Byte why is = why.2 is.allowed
+
+-- what test_spelling answers
+pub spelling_tested : (most : ℕ) (word : List ℕ) (result : Result (Unit {0}) Misspelled) → MatchResult result (λ _. IsSpelled most word) (IsWhyMisspelled most word) → is_ok result ≡ is_spelled most word
+spelling_tested most word (Ok _) is = sym (spelled_is most word is)
+spelling_tested most word (Err fault) why = sym (from_test (IsSpelled most word) (is_spelled most word) (is_spelled_is most word) (not_spelled most word fault why))
+
+-- a word of a value says itself
+pub word_is : (word : List ℕ) → IsSpelled 64 word → word_said word ≡ Some word
+word_is word is = ap (λ t. cond t (Some word) None) (spelled_is 64 word is)
+
+-- and other bytes say none
+pub no_word : (word : List ℕ) (fault : WordFault) → IsWhyNoWord word fault → fault ≢ faults.NoMemory → word_said word ≡ None
+no_word word faults.Length why other = ap (λ t. cond t (Some word) None) (from_test (IsSpelled 64 word) (is_spelled 64 word) (is_spelled_is 64 word) (not_spelled 64 word Length why))
+no_word word faults.Byte why other = ap (λ t. cond t (Some word) None) (from_test (IsSpelled 64 word) (is_spelled 64 word) (is_spelled_is 64 word) (not_spelled 64 word Byte why))
+no_word word faults.NoMemory why other = absurd (other refl)
+
+-- the digits that parse reads
+digits_read : IsNumeralModel (λ word. all_ascii_digits word ≡ true) (digits_value 10)
+digits_read = numerals_by_value _ tells_all_ascii_digits
+
+number_from : {E : Type 0} (word : List ℕ) (result : Result ℕ E) → is_numeral word ≡ true → OkIff result ((0 < length word) × (digits_value 10 word < 2 ^ 64)) (digits_value 10 word) → result_ok result ≡ number_said word
+number_from word (Ok n) is reads =
+    let test : (is_numeral word && nat_lt (digits_value 10 word) (2 ^ 64)) ≡ true = grind (arith, nat_tests, is) in
+    ap Some reads.1 ∙ sym (ap (λ t. cond t (Some (digits_value 10 word)) None) test)
+number_from word (Err fault) is fails =
+    let test : (is_numeral word && nat_lt (digits_value 10 word) (2 ^ 64)) ≡ false = from_test _ _ (λ t. (grind (arith, nat_tests), grind (arith, nat_tests))) fails in
+    sym (ap (λ t. cond t (Some (digits_value 10 word)) None) test)
+
+-- what parse reads of digits is the number that they say
+pub number_parsed : {E : Type 0} (word : List ℕ) (result : Result ℕ E) → is_numeral word ≡ true → ParsesUnsigned 64 10 word result → result_ok result ≡ number_said word
+number_parsed word result is reads =
+    let digits : all_ascii_digits word ≡ true = grind (arith, nat_tests) in
+    number_from word result is (parse_digits digits_read 64 word result reads digits)
+
+-- digits are text
+pub numeral_is_text : (word : List ℕ) → is_numeral word ≡ true → IsUtf8 word
+numeral_is_text word is =
+    let digits : all_ascii_digits word ≡ true = grind (arith, nat_tests) in
+    IsUtf8-from_ascii word (digits_ascii word (digits_read.to word digits))
+
+-- each byte of a word of digits is one
+pub each_digit : (word : List ℕ) → list_all is_ascii_digit word ≡ all_ascii_digits word
+each_digit [] = refl
+each_digit (b ∷ word) = ap (λ t. is_ascii_digit b && t) (each_digit word)

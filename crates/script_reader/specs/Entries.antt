@@ -1,0 +1,41 @@
+-- Which words an entry was read from.
+use Rattle.std.specs.Prelude.{◌≡◌, ℕ, true, List, [], ◌∷◌, map, drop, slice_index_or, Some}
+use Rattle.composed_value.specs.declared.kind.Kind.{Kind}
+use Rattle.session_known.specs.declared.script.Level.{Level}
+use Rattle.script_reader.specs.Words.{kind_said, level_said}
+use Rattle.script_reader.specs.Faults.{may_have}
+use Rattle.script_reader.specs.declared.entry.Bare.TheVariants as bares
+use Rattle.script_reader.specs.declared.entry.Entry.{Entry}
+use Rattle.script_reader.specs.declared.entry.Entry.TheVariants as entries
+use Rattle.script_reader.specs.declared.keyword.Keyword.{Keyword}
+use Rattle.script_reader.specs.declared.keyword.Keyword.TheVariants as keywords
+
+-- the words behind `key`: a name, a kind, and pins where there are any
+pub record AreKeyWords (words : List (List ℕ)) (name : List ℕ) (kind : Kind) (pins : List (List ℕ)) : Type 0 where
+  pub may_stand : may_have keywords.Key words ≡ true
+  pub name_is : slice_index_or words 0 [] ≡ name
+  pub kind_is : kind_said (slice_index_or words 1 []) ≡ Some kind
+  pub pins_are : drop 3 words ≡ pins
+
+-- the words behind `session`: a name and a level
+pub record AreSessionWords (words : List (List ℕ)) (name : List ℕ) (level : Level) : Type 0 where
+  pub may_stand : may_have keywords.Session words ≡ true
+  pub name_is : slice_index_or words 0 [] ≡ name
+  pub level_is : level_said (slice_index_or words 1 []) ≡ Some level
+
+-- The entry says what stands behind the first word, and there may stand as much.
+abbrev pub Shows : Entry → Keyword → List (List ℕ) → Type 0
+Shows (entries.Header version) keyword words = (keyword ≡ keywords.Anna) × (words ≡ version.now ∷ [])
+Shows (entries.Workers number) keyword words = (keyword ≡ keywords.Workers) × (words ≡ number.now ∷ [])
+Shows (entries.Factor number) keyword words = (keyword ≡ keywords.Factor) × (words ≡ number.now ∷ [])
+Shows (entries.Round number) keyword words = (keyword ≡ keywords.Round) × (words ≡ number.now ∷ [])
+Shows (entries.Key name kind pins) keyword words = (keyword ≡ keywords.Key) × AreKeyWords words name.now kind (map (λ word. word.now) pins.now)
+Shows (entries.Session name level) keyword words = (keyword ≡ keywords.Session) × AreSessionWords words name.now level
+Shows (entries.Put key payload) keyword words = (keyword ≡ keywords.Put) × (may_have keywords.Put words ≡ true) × (words ≡ key.now ∷ map (λ word. word.now) payload.now)
+Shows (entries.Get key) keyword words = (keyword ≡ keywords.Get) × (words ≡ key.now ∷ [])
+Shows (entries.GetFrom key worker) keyword words = (keyword ≡ keywords.Get) × (words ≡ key.now ∷ worker.now ∷ [])
+Shows (entries.Await key session count) keyword words = (keyword ≡ keywords.Await) × (words ≡ key.now ∷ session.now ∷ count.now ∷ [])
+Shows (entries.Bare bares.Begin) keyword words = (keyword ≡ keywords.Begin) × (words ≡ [])
+Shows (entries.Bare bares.Commit) keyword words = (keyword ≡ keywords.Commit) × (words ≡ [])
+Shows (entries.Bare bares.Abort) keyword words = (keyword ≡ keywords.Abort) × (words ≡ [])
+Shows (entries.Bare bares.End) keyword words = (keyword ≡ keywords.End) × (words ≡ [])

@@ -1,0 +1,41 @@
+-- How lines are read one after another.
+use Rattle.std.specs.Prelude.{◌≡◌, ℕ, Bool, false, if◌then◌else◌, List, ◌⊎◌, Option, Some, None, ⊤}
+use Rattle.script_reader.specs.Codes.{number_of_code}
+use Rattle.script_reader.specs.Faults.{Setting, code_said}
+use Rattle.script_reader.specs.Grammar.{IsFirstFault, IsEndMissing}
+use Rattle.script_reader.specs.Keywords.{is_end, is_session}
+use Rattle.script_reader.specs.Lines.{Statement, word}
+use Rattle.script_reader.specs.Reader.{seen, IsKept}
+use Rattle.script_reader.specs.Said.{with_name}
+use Rattle.script_reader.specs.Steps.{after}
+use Rattle.script_reader.specs.declared.fault.ScriptFault.{ScriptFault}
+use Rattle.script_reader.specs.declared.fault.ScriptFault.TheVariants.{Refused, NoMemory}
+use Rattle.script_reader.specs.declared.reader.LineFault.{LineFault}
+use Rattle.script_reader.specs.declared.reader.LineFault.TheVariants as line_faults
+use Rattle.script_reader.specs.declared.reader.Reader.{Reader}
+
+-- A line was read behind others, of which one is an end line where `ended` is true; `now` says the same with it.
+abbrev pub HasReadLine : Reader → Reader → Bool → Bool → List ℕ → Option Statement → Type 0
+HasReadLine old new ended now line None = (new ≡ old) × (now ≡ ended)
+HasReadLine old new ended now line (Some statement) =
+    (code_said (seen old) ended line (Some statement) ≡ None) × IsKept new × (seen new ≡ after (seen old) statement.keyword statement.words) × (now ≡ is_end statement.keyword)
+
+-- The names with that of a session line, where it is one.
+abbrev pub named_after : List (List ℕ) → Option Statement → List (List ℕ)
+named_after names None = names
+named_after names (Some statement) = if is_session statement.keyword then with_name names (word 0 statement) else names
+
+-- the line is an end line
+abbrev pub says_end : Option Statement → Bool
+says_end None = false
+says_end (Some statement) = is_end statement.keyword
+
+-- the refusal of a line, counted from 1
+abbrev pub told : ℕ → LineFault → ScriptFault
+told line (line_faults.Code code) = Refused line (number_of_code code)
+told line line_faults.NoMemory = NoMemory
+
+-- The fault says why the lines are no script; of want of memory nothing is said.
+abbrev pub IsWhyNoLines : Setting → List (List ℕ) → ScriptFault → Type 0
+IsWhyNoLines setting lines (Refused at code) = IsFirstFault setting lines at code ⊎ IsEndMissing setting lines at code
+IsWhyNoLines setting lines NoMemory = ⊤

@@ -1,0 +1,50 @@
+-- The lines of a script, and what they say.
+use Rattle.std.specs.Prelude.{ℕ, Bool, ◌==◌, if◌then◌else◌, List, [], ◌∷◌, map, slice_index_or, Option, Some, None, filter}
+use Rattle.std.specs.List.{slice_split, slice_index, filter_map, list_any}
+use Rattle.std.specs.Str.Lines.{strip_carriage_return}
+use Rattle.script_reader.specs.Keywords.{keyword_of, is_end}
+use Rattle.script_reader.specs.Text.{is_line_feed, words_of}
+use Rattle.script_reader.specs.declared.keyword.Keyword.{Keyword}
+
+-- what stands behind the last line feed is a line where it has a byte
+abbrev pub without_empty_last : List (List ℕ) → List (List ℕ)
+without_empty_last [] = []
+without_empty_last ([] ∷ []) = []
+without_empty_last ((b ∷ line) ∷ []) = (b ∷ line) ∷ []
+without_empty_last (line ∷ next ∷ lines) = line ∷ without_empty_last (next ∷ lines)
+
+-- the lines of a script, which is cut at each line feed; a carriage return at the end of a line belongs to the line's end
+abbrev pub script_lines : List ℕ → List (List ℕ)
+script_lines text = without_empty_last (map strip_carriage_return (slice_split is_line_feed text))
+
+-- what a line says: its first word as a keyword, and the words behind it
+pub record Statement : Type 0 where
+  pub keyword : Keyword
+  pub words : List (List ℕ)
+
+-- the words of a line say nothing where there are none, or the first begins with `#`
+abbrev pub statement_in : List (List ℕ) → Option Statement
+statement_in [] = None
+statement_in (first ∷ words) = if slice_index first 0 == 35 then None else Some (record { keyword = keyword_of first; words = words })
+
+-- blank lines and comments say nothing
+abbrev pub statement_of : List ℕ → Option Statement
+statement_of line = statement_in (words_of line)
+
+abbrev pub statements_of : List (List ℕ) → List Statement
+statements_of lines = filter_map statement_of lines
+
+-- those of a keyword
+abbrev pub those : (Keyword → Bool) → List Statement → List Statement
+those test statements = filter (λ statement. test statement.keyword) statements
+
+-- a word of a statement, counted from 0 behind the first word
+abbrev pub word : ℕ → Statement → List ℕ
+word i statement = slice_index_or statement.words i []
+
+abbrev pub is_end_line : Statement → Bool
+is_end_line statement = is_end statement.keyword
+
+-- one of the lines is an end line
+abbrev pub has_end : List (List ℕ) → Bool
+has_end lines = list_any is_end_line (statements_of lines)

@@ -1,0 +1,64 @@
+-- What every context behind faultless lines has.
+use Rattle.std.specs.Prelude.{◌≡◌, ◌≢◌, ℕ, ◌≤◌, Bool, true, false, IsTrue, IsFalse, List, [], ◌∷◌, map, length, sum_by, All, AllPairs}
+use Rattle.composed_value.specs.Kind.{kind_of}
+use Rattle.composed_value.specs.declared.kind.Kind.{Kind}
+use Rattle.placement.specs.Config.{ArePins, placed}
+use Rattle.placement.specs.declared.config.Config.{Config}
+use Rattle.script_reader.specs.Faults.{Context}
+use Rattle.session_known.specs.Script.{IsOneOf, MayName, kind_at, replicas_of}
+use Rattle.session_known.specs.declared.script.Level.{Level}
+use Rattle.session_known.specs.declared.script.Level.TheVariants.{Committed, Causal}
+use Rattle.session_known.specs.declared.script.Line.{Line}
+use Rattle.session_known.specs.declared.script.Line.TheVariants.{Put, Get, Await, Begin, Commit, Abort}
+use Rattle.session_known.specs.declared.script.SessionPlan.{SessionPlan}
+
+-- A line that a session of the level may have, where there are this many keys, of these kinds, and an await may name this many sessions.
+abbrev pub Stands : ℕ → List Kind → ℕ → List (List ℕ) → Level → Line → Type 0
+Stands keys of_keys named table level (Put key payload) = IsOneOf keys key × (kind_of payload ≡ kind_at of_keys key)
+Stands keys of_keys named table level (Get key worker) = IsOneOf keys key × MayName level (replicas_of table key) worker
+Stands keys of_keys named table level (Await key session count) = IsOneOf keys key × IsOneOf named session × (level ≡ Causal)
+Stands keys of_keys named table level Begin = level ≡ Committed
+Stands keys of_keys named table level Commit = level ≡ Committed
+Stands keys of_keys named table level Abort = level ≡ Committed
+
+-- The lines begin and end transactions in turn; `begun` says whether one is begun before the first line, and `behind` behind the last.
+abbrev pub Leads : Bool → List Line → Bool → Type 0
+Leads begun [] behind = begun ≡ behind
+Leads begun (Begin ∷ lines) behind = IsFalse begun × Leads true lines behind
+Leads begun (Commit ∷ lines) behind = IsTrue begun × Leads false lines behind
+Leads begun (Abort ∷ lines) behind = IsTrue begun × Leads false lines behind
+Leads begun (line ∷ lines) behind = Leads begun lines behind
+
+-- each session but the last has ended its transactions, and `begun` says whether the last has one begun
+abbrev pub AreLed : List SessionPlan → Bool → Type 0
+AreLed [] begun = IsFalse begun
+AreLed (plan ∷ []) begun = Leads false plan.lines begun
+AreLed (plan ∷ other ∷ plans) begun = Leads false plan.lines false × AreLed (other ∷ plans) begun
+
+-- the names are pairwise different
+abbrev pub AreApart : List (List ℕ) → Type 0
+AreApart names = AllPairs (λ name other. name ≢ other) names
+
+-- the keys of a config are few, pinned to its workers, each of a kind, and have different names
+pub record AreKeys (config : Config) (of_keys : List Kind) : Type 0 where
+  pub few : length config.keys ≤ 128
+  pub pins : All (λ key. ArePins config.workers key.pins) config.keys
+  pub kinds : length of_keys ≡ length config.keys
+  pub names : AreApart (map (λ key. key.name) config.keys)
+
+-- The sessions are few, have few lines and different names, each of their lines may stand, and only the last may have a transaction begun.
+pub record AreSessions (keys : ℕ) (of_keys : List Kind) (named : ℕ) (table : List (List ℕ)) (begun : Bool) (sessions : List SessionPlan) : Type 0 where
+  pub names : AreApart (map (λ plan. plan.name) sessions)
+  pub few : length sessions ≤ 16
+  pub few_lines : sum_by (λ plan. length plan.lines) sessions ≤ 4096
+  pub stand : All (λ plan. All (Stands keys of_keys named table plan.level) plan.lines) sessions
+  pub led : AreLed sessions begun
+
+-- The context is one that faultless lines leave.
+pub record IsValidContext (context : Context) : Type 0 where
+  pub header : IsTrue context.has_workers → IsTrue context.has_header
+  pub workers : IsTrue context.has_workers → IsOneOf 8 context.script.config.workers × IsOneOf context.script.config.workers context.script.config.factor
+  pub bare : IsFalse context.has_workers → (length context.script.config.keys ≤ 0) × (length context.script.sessions ≤ 0) × (context.script.config.factor ≡ 1)
+  pub round : IsOneOf 64 context.script.round
+  pub keys : AreKeys context.script.config context.script.kinds
+  pub sessions : AreSessions (length context.script.config.keys) context.script.kinds (length context.named) (placed context.script.config) context.begun context.script.sessions

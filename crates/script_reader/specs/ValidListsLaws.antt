@@ -1,0 +1,166 @@
+-- What the tests of lines say of lists, of names and of payloads.
+use Rattle.std.specs.Prelude.{◌≡◌, ◌≢◌, ℕ, ◌+◌, ◌-◌, ◌<◌, ◌≤◌, Bool, true, false, ◌==◌, not, nat_le, List, [], ◌∷◌, ◌++◌, length, codes, cond, slice_index_or, Option, Some, None, is_some, unwrap_or, All, Contains}
+use Rattle.std.specs.List.{list_any, slice_get, position_or_len}
+use Rattle.std.specs.Option.{option_map, option_map_or, option_and_then}
+use Rattle.std.specs.Str.{bytes_eq}
+use Rattle.std.proofs.Common.{zero, suc, refl, sym, ap, subst, ◌∙◌, arith}
+use Rattle.std.proofs.lemmas.Bool.{ltb-false, true≢false, false≢true, both_ways, not-false, leb-true, eqb-true, eqb-false, and_parts, or_parts}
+use Rattle.std.proofs.lemmas.List.{get_or_default}
+use Rattle.std.proofs.lemmas.List.Elements.{All-nil, All-cons}
+use Rattle.std.proofs.lemmas.List.Folds.{Any-from_list_any, list_any_none}
+use Rattle.std.proofs.lemmas.List.Quantifiers.{all_pairs_push, position-Some}
+use Rattle.std.proofs.lemmas.List.Sums.{fails_before_first}
+use Rattle.std.proofs.lemmas.Option.{get_or_from_slice_get, same_Some, cond_some}
+use Rattle.std.proofs.lemmas.Slice.Eq.{bytes_eq-Decides}
+use Rattle.composed_value.specs.Kind.{kind_of}
+use Rattle.composed_value.specs.declared.kind.Kind.{Kind}
+use Rattle.composed_value.specs.declared.kind.Kind.TheVariants as kinds
+use Rattle.composed_value.specs.declared.payload.Payload.{Payload}
+use Rattle.composed_value.specs.declared.payload.Payload.TheVariants as payloads
+use Rattle.placement.specs.Config.{AreDifferent, IsWorker}
+use Rattle.script_reader.specs.Faults.{has_repeat, is_within}
+use Rattle.script_reader.specs.Said.{place_of, number_in, session_number, payload_for}
+use Rattle.script_reader.specs.ValidContext.{AreApart}
+use Rattle.script_reader.specs.Words.{number_said, word_said, payload_said}
+use Rattle.session_known.specs.Script.{IsOneOf, kind_at, replicas_of}
+
+-- a number within bounds is one of them
+pub within_is : (least greatest n : ℕ) → is_within least greatest n ≡ true → (least ≤ n) × (n ≤ greatest)
+within_is least greatest n is =
+    let both = and_parts (nat_le least n) (nat_le n greatest) is in
+    (leb-true least n both.0, leb-true n greatest both.1)
+
+-- where a test passes nowhere, it fails at each element
+pub none_passes : {X : Type 0} (test : X → Bool) (xs : List X) → list_any test xs ≡ false → All (λ x. test x ≡ false) xs
+none_passes test [] none = All-nil (λ x. test x ≡ false)
+none_passes test (x ∷ xs) none =
+    let both = or_parts (test x) (list_any test xs) none in
+    All-cons (λ x. test x ≡ false) x xs both.0 (none_passes test xs both.1)
+
+-- each of the numbers is a worker, where none is out of the bounds
+pub are_workers : (workers : ℕ) (pins : List ℕ) → list_any (λ pin. not (is_within 1 workers pin)) pins ≡ false → All (IsWorker workers) pins
+are_workers workers pins none =
+    let each = none_passes (λ pin. not (is_within 1 workers pin)) pins none in
+    λ k d lt. within_is 1 workers (slice_index_or pins k d) (not-false _ (each k d lt))
+
+-- a first number that is none of the others, which are different, leaves all different
+different_cons : (n : ℕ) (numbers : List ℕ) → All (λ other. other ≢ n) numbers → AreDifferent numbers → AreDifferent (n ∷ numbers)
+different_cons n numbers others rest zero zero d i<j j< = absurd (omega arith)
+different_cons n numbers others rest zero (suc j) d i<j j< = λ e. others j d (omega arith) (sym e)
+different_cons n numbers others rest (suc i) zero d i<j j< = absurd (omega arith)
+different_cons n numbers others rest (suc i) (suc j) d i<j j< = rest i j d (omega arith) (omega arith)
+
+-- numbers without a repeat are different
+pub no_repeat : (numbers : List ℕ) → has_repeat numbers ≡ false → AreDifferent numbers
+no_repeat [] none = λ i j d i<j j<. absurd (omega arith)
+no_repeat (n ∷ numbers) none =
+    let both = or_parts (list_any (λ other. other == n) numbers) (has_repeat numbers) none in
+    let others = none_passes (λ other. other == n) numbers both.0 in
+    different_cons n numbers (λ k d lt. eqb-false (slice_index_or numbers k d) n (others k d lt)) (no_repeat numbers both.1)
+
+-- names that are apart stay so with a new one
+pub apart_push : (names : List (List ℕ)) (name : List ℕ) → AreApart names → list_any (bytes_eq name) names ≡ false → AreApart (names ++ name ∷ [])
+apart_push names name apart new =
+    let others = none_passes (bytes_eq name) names new in
+    all_pairs_push (λ a b. a ≢ b) names name apart (λ k d lt same. both_ways _ (others k d lt) ((bytes_eq-Decides name (slice_index_or names k d)).1 (sym same)))
+
+-- what a place among names says of the number of the name
+placed_within : (count : ℕ) (place : Option ℕ) → ((p : ℕ) → place ≡ Some p → p < count) → is_some place ≡ true → IsOneOf count (unwrap_or place 0 + 1)
+placed_within count None below some = absurd (false≢true some)
+placed_within count (Some p) below some = let lt = below p refl in (omega arith, omega arith)
+
+-- a place among names is below their number
+place_below : (names : List (List ℕ)) (name : List ℕ) (p : ℕ) → place_of names name ≡ Some p → p < length names
+place_below names name p is = (position-Some (bytes_eq name) names p [] is).0
+
+-- a name that has a place has a number
+pub number_within : (names : List (List ℕ)) (name : List ℕ) → is_some (place_of names name) ≡ true → IsOneOf (length names) (number_in names name)
+number_within names name some = placed_within (length names) (place_of names name) (place_below names name) some
+
+-- and so does its number as a session's
+pub session_within : (names : List (List ℕ)) (name : List ℕ) → is_some (place_of names name) ≡ true → IsOneOf (length names) (session_number names name)
+session_within names name some =
+    let within = number_within names name some in
+    (omega (arith, within.0), omega (arith, within.1))
+
+-- a test that gives nothing fails
+gives_none : (test : Bool) (n : ℕ) → is_some (cond test (Some n) None) ≡ false → test ≡ false
+gives_none true n none = absurd (true≢false none)
+gives_none false n none = refl
+
+-- a name that has no place is new
+pub name_new : (names : List (List ℕ)) (name : List ℕ) → is_some (place_of names name) ≡ false → list_any (bytes_eq name) names ≡ false
+name_new names name none =
+    let past = ltb-false (position_or_len (bytes_eq name) names) (length names) (gives_none _ (position_or_len (bytes_eq name) names) none) in
+    list_any_none (bytes_eq name) names (λ k d lt. fails_before_first (bytes_eq name) names k d (omega arith))
+
+-- a payload made of what a word says is of the kind that all payloads made so are
+made_kind : {A : Type 0} (make : A → Payload) (kind : Kind) (said : Option A) (payload : Payload) → ((a : A) → kind_of (make a) ≡ kind) → option_map make said ≡ Some payload → kind_of payload ≡ kind
+made_kind make kind None payload each is = absurd cc
+made_kind make kind (Some a) payload each is = sym (ap kind_of (same_Some (make a) payload is)) ∙ each a
+
+-- the same of a payload of a field and its number
+field_kind : (field : Option (List ℕ)) (number : Option ℕ) (payload : Payload) → option_and_then (λ name. option_map (payloads.Field name) number) field ≡ Some payload → kind_of payload ≡ kinds.Map
+field_kind None number payload is = absurd cc
+field_kind (Some name) number payload is = made_kind (payloads.Field name) kinds.Map number payload (λ a. refl) is
+
+-- a payload that words say for a kind is of that kind
+pub said_kind : (kind : Kind) (words : List (List ℕ)) (payload : Payload) → payload_said kind words ≡ Some payload → kind_of payload ≡ kind
+said_kind kinds.Max [] payload is = absurd cc
+said_kind kinds.Max (value ∷ []) payload is = made_kind payloads.Max kinds.Max (number_said value) payload (λ a. refl) is
+said_kind kinds.Max (value ∷ other ∷ words) payload is = absurd cc
+said_kind kinds.Or [] payload is = absurd cc
+said_kind kinds.Or (value ∷ []) payload is = sym (ap kind_of (cond_some (bytes_eq value (codes "on")) payloads.On payload is).1)
+said_kind kinds.Or (value ∷ other ∷ words) payload is = absurd cc
+said_kind kinds.Set [] payload is = absurd cc
+said_kind kinds.Set (value ∷ []) payload is = made_kind payloads.Add kinds.Set (word_said value) payload (λ a. refl) is
+said_kind kinds.Set (value ∷ other ∷ words) payload is = absurd cc
+said_kind kinds.Map [] payload is = absurd cc
+said_kind kinds.Map (field ∷ []) payload is = absurd cc
+said_kind kinds.Map (field ∷ value ∷ []) payload is = field_kind (word_said field) (number_said value) payload is
+said_kind kinds.Map (field ∷ value ∷ other ∷ words) payload is = absurd cc
+said_kind kinds.Last [] payload is = absurd cc
+said_kind kinds.Last (value ∷ []) payload is = made_kind payloads.Last kinds.Last (word_said value) payload (λ a. refl) is
+said_kind kinds.Last (value ∷ other ∷ words) payload is = absurd cc
+said_kind kinds.Versions [] payload is = absurd cc
+said_kind kinds.Versions (value ∷ []) payload is = made_kind payloads.Version kinds.Versions (word_said value) payload (λ a. refl) is
+said_kind kinds.Versions (value ∷ other ∷ words) payload is = absurd cc
+
+-- where words say a payload, it is of the kind
+fits_kind : (kind : Kind) (words : List (List ℕ)) (said : Option Payload) → payload_said kind words ≡ said → is_some said ≡ true → kind_of (unwrap_or said payloads.On) ≡ kind
+fits_kind kind words None is some = absurd (false≢true some)
+fits_kind kind words (Some payload) is some = said_kind kind words payload is
+
+-- the kind at the place of a key is that of its payload
+placed_kind : (of_keys : List Kind) (words : List (List ℕ)) (p : ℕ) (kind : Option Kind) → slice_get of_keys p ≡ kind → is_some (option_and_then (λ kind. payload_said kind words) kind) ≡ true → kind_of (unwrap_or (option_and_then (λ kind. payload_said kind words) kind) payloads.On) ≡ kind_at of_keys (p + 1)
+placed_kind of_keys words p None is some = absurd (false≢true some)
+placed_kind of_keys words p (Some kind) is some =
+    let back : p + 1 - 1 ≡ p = omega arith in
+    fits_kind kind words (payload_said kind words) refl some ∙ sym (ap (λ i. slice_index_or of_keys i kinds.Max) back ∙ get_or_from_slice_get of_keys p kind kinds.Max is)
+
+-- the same of the number of a key
+put_kind : (of_keys : List Kind) (words : List (List ℕ)) (place : Option ℕ) → is_some (option_and_then (λ kind. payload_said kind words) (option_and_then (λ p. slice_get of_keys p) place)) ≡ true → kind_of (unwrap_or (option_and_then (λ kind. payload_said kind words) (option_and_then (λ p. slice_get of_keys p) place)) payloads.On) ≡ kind_at of_keys (unwrap_or place 0 + 1)
+put_kind of_keys words None some = absurd (false≢true some)
+put_kind of_keys words (Some p) some = placed_kind of_keys words p (slice_get of_keys p) refl some
+
+-- the payload that words say for a key is of the key's kind
+pub payload_kind : (names : List (List ℕ)) (of_keys : List Kind) (key : List ℕ) (words : List (List ℕ)) → is_some (payload_for names of_keys key words) ≡ true → kind_of (unwrap_or (payload_for names of_keys key words) payloads.On) ≡ kind_at of_keys (number_in names key)
+payload_kind names of_keys key words some = put_kind of_keys words (place_of names key) some
+
+-- a number that a list has is contained in it
+pub has_contains : (numbers : List ℕ) (n : ℕ) → list_any (λ other. other == n) numbers ≡ true → Contains numbers n
+has_contains numbers n has =
+    let at = Any-from_list_any (λ other. other == n) numbers has in
+    let same : at.1 ≡ n = eqb-true at.1 n at.4 in
+    (at.0, at.2, get_or_default numbers at.0 n at.1 at.2 ∙ at.3 ∙ same)
+
+-- the replicas at the place of a key are those at its number
+replica_at : (table : List (List ℕ)) (worker : ℕ) (place : Option ℕ) → list_any (λ replica. replica == worker) (option_map_or (λ p. slice_index_or table p []) place []) ≡ true → Contains (replicas_of table (unwrap_or place 0 + 1)) worker
+replica_at table worker None has = absurd (false≢true has)
+replica_at table worker (Some p) has =
+    let back : p ≡ p + 1 - 1 = omega arith in
+    subst (λ i. Contains (slice_index_or table i []) worker) back (has_contains (slice_index_or table p []) worker has)
+
+-- a replica of a key is among those that the table has at its number
+pub replica_contained : (names : List (List ℕ)) (key : List ℕ) (table : List (List ℕ)) (worker : ℕ) → list_any (λ replica. replica == worker) (option_map_or (λ p. slice_index_or table p []) (place_of names key) []) ≡ true → Contains (replicas_of table (number_in names key)) worker
+replica_contained names key table worker has = replica_at table worker (place_of names key) has

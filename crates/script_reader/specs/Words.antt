@@ -1,0 +1,77 @@
+-- What a word of a line can be: a name, a number, a word of a value, a kind, a level.
+use Rattle.std.specs.Prelude.{ℕ, ◌^◌, Bool, false, ◌&&◌, not, nat_lt, nat_le, if◌then◌else◌, List, [], ◌∷◌, length, codes, Option, Some, None, is_some, unwrap_or}
+use Rattle.std.specs.List.{list_all}
+use Rattle.std.specs.Option.{option_map, option_and_then}
+use Rattle.std.specs.Str.{bytes_eq, all_ascii_digits}
+use Rattle.std.specs.Str.Parse.{digits_value}
+use Rattle.lattice_laws.specs.Spelling.{is_spelling_byte}
+use Rattle.composed_value.specs.declared.kind.Kind.{Kind}
+use Rattle.composed_value.specs.declared.kind.Kind.TheVariants as kinds
+use Rattle.composed_value.specs.declared.payload.Payload.{Payload}
+use Rattle.composed_value.specs.declared.payload.Payload.TheVariants as payloads
+use Rattle.session_known.specs.declared.script.Level.{Level}
+use Rattle.session_known.specs.declared.script.Level.TheVariants.{Eventual, Committed, Causal}
+
+-- 1 to `most` bytes of A-Z a-z 0-9 _ . -
+abbrev pub is_spelled : ℕ → List ℕ → Bool
+is_spelled most word = nat_le 1 (length word) && (nat_le (length word) most && list_all is_spelling_byte word)
+
+abbrev pub is_name : List ℕ → Bool
+is_name word = is_spelled 32 word
+
+abbrev pub is_value_word : List ℕ → Bool
+is_value_word word = is_spelled 64 word
+
+-- one decimal digit or more, and nothing else
+abbrev pub is_numeral : List ℕ → Bool
+is_numeral word = nat_lt 0 (length word) && all_ascii_digits word
+
+-- the number that a word writes: digits alone, leading zeros among them, that say at most 18446744073709551615
+abbrev pub number_said : List ℕ → Option ℕ
+number_said word = if is_numeral word && nat_lt (digits_value 10 word) (2 ^ 64) then Some (digits_value 10 word) else None
+
+abbrev pub is_number : List ℕ → Bool
+is_number word = is_some (number_said word)
+
+-- the number that a word writes, of a word that is one
+abbrev pub number_of : List ℕ → ℕ
+number_of word = unwrap_or (number_said word) 0
+
+-- digits alone that say more than a number may
+abbrev pub is_too_great : List ℕ → Bool
+is_too_great word = is_numeral word && not (is_number word)
+
+abbrev pub kind_said : List ℕ → Option Kind
+kind_said word =
+    if bytes_eq word (codes "max") then Some kinds.Max else
+    (if bytes_eq word (codes "or") then Some kinds.Or else
+    (if bytes_eq word (codes "set") then Some kinds.Set else
+    (if bytes_eq word (codes "map") then Some kinds.Map else
+    (if bytes_eq word (codes "last") then Some kinds.Last else
+    (if bytes_eq word (codes "versions") then Some kinds.Versions else None)))))
+
+abbrev pub level_said : List ℕ → Option Level
+level_said word =
+    if bytes_eq word (codes "eventual") then Some Eventual else
+    (if bytes_eq word (codes "committed") then Some Committed else
+    (if bytes_eq word (codes "causal") then Some Causal else None))
+
+-- the word of a value
+abbrev pub word_said : List ℕ → Option (List ℕ)
+word_said word = if is_value_word word then Some word else None
+
+-- the payload that the words behind `put KEY` say, where they fit the key's kind
+abbrev pub payload_said : Kind → List (List ℕ) → Option Payload
+payload_said kinds.Max (value ∷ []) = option_map payloads.Max (number_said value)
+payload_said kinds.Or (value ∷ []) = if bytes_eq value (codes "on") then Some payloads.On else None
+payload_said kinds.Set (value ∷ []) = option_map payloads.Add (word_said value)
+payload_said kinds.Map (field ∷ value ∷ []) = option_and_then (λ name. option_map (payloads.Field name) (number_said value)) (word_said field)
+payload_said kinds.Last (value ∷ []) = option_map payloads.Last (word_said value)
+payload_said kinds.Versions (value ∷ []) = option_map payloads.Version (word_said value)
+payload_said kind words = None
+
+-- the number of the payload says more than a number may
+abbrev pub is_payload_too_great : Kind → List (List ℕ) → Bool
+is_payload_too_great kinds.Max (value ∷ []) = is_too_great value
+is_payload_too_great kinds.Map (field ∷ value ∷ []) = is_too_great value
+is_payload_too_great kind words = false

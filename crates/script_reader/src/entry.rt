@@ -1,0 +1,178 @@
+//! Lines told apart by their first words.
+ghost use Rattle.std.specs.Prelude.{◌≡◌, ◌≢◌, ◌∷◌, [], false, length, map, MatchOption};
+ghost use Rattle.script_reader.specs.declared.entry.Entry.TheVariants as entries;
+ghost use Rattle.script_reader.specs.Entries.{Shows};
+ghost use Rattle.script_reader.specs.Faults.{may_have};
+
+use crate::keyword::Keyword;
+use crate::words::{kind, level};
+use composed_value::Kind;
+use session_known::Level;
+
+/// A line of one word.
+#[derive(Clone, Copy, Debug, PartialEq, Eq)]
+pub(crate) enum Bare {
+    Begin,
+    Commit,
+    Abort,
+    End,
+}
+
+/// A line with as many words as its first word may have, of which those are read that are given: `'w`
+/// are its words, and `'a` is the text.
+#[derive(Clone, Copy)]
+pub(crate) enum Entry<'w, 'a> {
+    Header {
+        version: &'a [u8],
+    },
+    Workers {
+        number: &'a [u8],
+    },
+    Factor {
+        number: &'a [u8],
+    },
+    Round {
+        number: &'a [u8],
+    },
+    Key {
+        name: &'a [u8],
+        kind: Kind,
+        pins: &'w [&'a [u8]],
+    },
+    Session {
+        name: &'a [u8],
+        level: Level,
+    },
+    Put {
+        key: &'a [u8],
+        payload: &'w [&'a [u8]],
+    },
+    Get {
+        key: &'a [u8],
+    },
+    GetFrom {
+        key: &'a [u8],
+        worker: &'a [u8],
+    },
+    Await {
+        key: &'a [u8],
+        session: &'a [u8],
+        count: &'a [u8],
+    },
+    Bare(Bare),
+}
+
+/// Tells a line apart, where its words are as many as may stand behind its first word, and those that
+/// are given are right.
+pub(crate) fn tell_apart<'w, 'a>(keyword: Keyword, words: &'w [&'a [u8]]) -> Option<Entry<'w, 'a>>
+    ensures { MatchOption result (may_have keyword (map (λ word. word.now) words.now) ≡ false) (λ entry. Shows entry keyword (map (λ word. word.now) words.now)) }
+{
+    match keyword {
+        Keyword::Anna => one_word(words).map(|version| Entry::Header { version }),
+        Keyword::Workers => one_word(words).map(|number| Entry::Workers { number }),
+        Keyword::Factor => one_word(words).map(|number| Entry::Factor { number }),
+        Keyword::Round => one_word(words).map(|number| Entry::Round { number }),
+        Keyword::Key => key_entry(words),
+        Keyword::Session => session_entry(words),
+        Keyword::Put => put_entry(words),
+        Keyword::Get => get_entry(words),
+        Keyword::Await => await_entry(words),
+        Keyword::Begin => bare_entry(words, Bare::Begin),
+        Keyword::Commit => bare_entry(words, Bare::Commit),
+        Keyword::Abort => bare_entry(words, Bare::Abort),
+        Keyword::End => bare_entry(words, Bare::End),
+        Keyword::Unknown => None,
+    }
+}
+
+/// The line of one word, where no words stand behind it.
+fn bare_entry<'w, 'a>(words: &'w [&'a [u8]], bare: Bare) -> Option<Entry<'w, 'a>>
+    ensures { MatchOption result (length words.now ≢ 0) (λ entry. (entry ≡ entries.Bare bare) × (words.now ≡ [])) }
+{
+    if words.is_empty() {
+        Some(Entry::Bare(bare))
+    } else {
+        None
+    }
+}
+
+/// The word, where there is one.
+fn one_word<'w, 'a>(words: &'w [&'a [u8]]) -> Option<&'a [u8]>
+    ensures { MatchOption result (length words.now ≢ 1) (λ word. map (λ word. word.now) words.now ≡ word.now ∷ []) }
+{
+    match words {
+        [word] => Some(word),
+        _ => None,
+    }
+}
+
+/// A key and its kind, and pins where there are any.
+fn key_entry<'w, 'a>(words: &'w [&'a [u8]]) -> Option<Entry<'w, 'a>>
+    ensures { MatchOption result (may_have Keyword.Key (map (λ word. word.now) words.now) ≡ false) (λ entry. Shows entry Keyword.Key (map (λ word. word.now) words.now)) }
+{
+    match words {
+        [name, word] => Some(Entry::Key {
+            name,
+            kind: kind(word)?,
+            pins: &[],
+        }),
+        [name, word, at, pins @ ..] if *at == b"at".as_slice() && !pins.is_empty() => {
+            Some(Entry::Key {
+                name,
+                kind: kind(word)?,
+                pins,
+            })
+        }
+        _ => None,
+    }
+}
+
+/// A session and its level.
+fn session_entry<'w, 'a>(words: &'w [&'a [u8]]) -> Option<Entry<'w, 'a>>
+    ensures { MatchOption result (may_have Keyword.Session (map (λ word. word.now) words.now) ≡ false) (λ entry. Shows entry Keyword.Session (map (λ word. word.now) words.now)) }
+{
+    match words {
+        [name, word] => Some(Entry::Session {
+            name,
+            level: level(word)?,
+        }),
+        _ => None,
+    }
+}
+
+/// A key, and one or two words of a payload.
+fn put_entry<'w, 'a>(words: &'w [&'a [u8]]) -> Option<Entry<'w, 'a>>
+    ensures { MatchOption result (may_have Keyword.Put (map (λ word. word.now) words.now) ≡ false) (λ entry. Shows entry Keyword.Put (map (λ word. word.now) words.now)) }
+{
+    match words {
+        [key, payload @ ..] if payload.len() == 1 || payload.len() == 2 => {
+            Some(Entry::Put { key, payload })
+        }
+        _ => None,
+    }
+}
+
+/// A key, and a worker where one is named.
+fn get_entry<'w, 'a>(words: &'w [&'a [u8]]) -> Option<Entry<'w, 'a>>
+    ensures { MatchOption result (may_have Keyword.Get (map (λ word. word.now) words.now) ≡ false) (λ entry. Shows entry Keyword.Get (map (λ word. word.now) words.now)) }
+{
+    match words {
+        [key] => Some(Entry::Get { key }),
+        [key, worker] => Some(Entry::GetFrom { key, worker }),
+        _ => None,
+    }
+}
+
+/// A key, a session, and a number of its puts.
+fn await_entry<'w, 'a>(words: &'w [&'a [u8]]) -> Option<Entry<'w, 'a>>
+    ensures { MatchOption result (may_have Keyword.Await (map (λ word. word.now) words.now) ≡ false) (λ entry. Shows entry Keyword.Await (map (λ word. word.now) words.now)) }
+{
+    match words {
+        [key, session, count] => Some(Entry::Await {
+            key,
+            session,
+            count,
+        }),
+        _ => None,
+    }
+}

@@ -1,0 +1,309 @@
+//! Scripts of the whole grammar, and what is refused.
+
+use super::*;
+use composed_value::{Kind, Payload};
+use session_known::{Level, Line};
+use std::test::Fail;
+
+const ALL: Built = Built {
+    workers: true,
+    levels: true,
+};
+
+/// The refusal of a text at a line with a code.
+fn refusal(line: u32, code: u8) -> Option<ScriptFault> {
+    Some(ScriptFault::Refused { line, code })
+}
+
+#[test]
+fn refuses_a_line_with_its_code(rt: HostRuntime) -> Result<(), Fail> {
+    // The fifth line of a script of one worker, a key and an eventual session, and the code.
+    let cases = [
+        ("put a", 2),
+        ("put a 5 6", 7),
+        ("put a x", 7),
+        ("put a 18446744073709551616", 3),
+        ("put b 5", 6),
+        ("put a+ 5", 4),
+        ("begin", 9),
+        ("get a 2", 6),
+        ("get a x", 3),
+        ("await a s 1", 2),
+        ("session s eventual", 5),
+        ("session t lazy", 2),
+        ("key b max", 2),
+        ("round 5", 2),
+        ("put a \u{80}", 13),
+    ];
+    for (line, code) in cases {
+        let text = format!(in rt.alloc();
+            "anna 1\nworkers 1\nkey a max\nsession s eventual\n{line}\nput a 3\nget a\nend\n"
+        )?;
+        let fault = read_script(rt.alloc(), text.as_bytes()).err();
+        assert_eq!(rt; fault, refusal(5, code), "{line:?}");
+    }
+    Ok(())
+}
+
+#[test]
+fn tells_the_least_code_of_a_line(rt: HostRuntime) -> Result<(), Fail> {
+    // A script whose last line meets the conditions of more than one code, and that line's number and code.
+    let cases = [
+        ("end", 1, 1),
+        ("workers 9", 1, 1),
+        ("anna 1\nworkers x y", 2, 2),
+        ("anna 1\nworkers 2\nkey a+ lazy", 3, 2),
+        ("anna 1\nworkers 2\nkey a+ max at x", 3, 3),
+        ("anna 1\nworkers 2\nkey a+ max at 1 1", 3, 4),
+        ("anna 1\nworkers 2\nkey a max at 9 9", 3, 5),
+        ("anna 1\nworkers 2\nkey a max at 1 01", 3, 5),
+        ("anna 1\nworkers 2\nkey a max at 0", 3, 6),
+        ("anna 1\nworkers 2\nfactor 1\nfactor 3", 4, 5),
+        ("anna 1\nworkers 2\nround 1\nround 65", 4, 5),
+        (
+            "anna 1\nworkers 1\nkey a max\nsession s causal\nget a+ x",
+            5,
+            2,
+        ),
+        (
+            "anna 1\nworkers 1\nkey a max\nsession s causal\nawait b t x",
+            5,
+            3,
+        ),
+        (
+            "anna 1\nworkers 1\nkey a max\nsession s causal\nawait a t+ 1",
+            5,
+            4,
+        ),
+        (
+            "anna 1\nworkers 1\nkey a max\nsession s causal\nawait b t 1",
+            5,
+            6,
+        ),
+        (
+            "anna 1\nworkers 1\nkey a map\nsession s causal\nput a f+ 18446744073709551616",
+            5,
+            3,
+        ),
+        (
+            "anna 1\nworkers 1\nkey a map\nsession s causal\nput b f+ 18446744073709551616",
+            5,
+            6,
+        ),
+        (
+            "anna 1\nworkers 1\nkey a or\nsession s causal\nput b off",
+            5,
+            6,
+        ),
+        (
+            "anna 1\nworkers 1\nsession s committed\nbegin\nsession s causal",
+            5,
+            5,
+        ),
+    ];
+    for (text, line, code) in cases {
+        let fault = read_script(rt.alloc(), text.as_bytes()).err();
+        assert_eq!(rt; fault, refusal(line, code), "{text:?}");
+    }
+    Ok(())
+}
+
+#[test]
+fn refuses_the_first_line_at_fault(rt: HostRuntime) -> Result<(), Fail> {
+    let cases = [
+        ("", 1, 10),
+        ("\r", 1, 10),
+        ("\n\r", 2, 10),
+        ("anna 1\nworkers 1", 3, 10),
+        ("# \x07\n\nanna 2", 3, 1),
+        ("anna 1\nend", 2, 2),
+        ("anna 1\nworkers 9", 2, 8),
+        ("anna 1\nworkers 0", 2, 8),
+        ("anna 1\nworkers 2\nfactor 3", 3, 8),
+        ("anna 1\nworkers 2\nround 65", 3, 8),
+        ("anna 1\nworkers 2\nround 0", 3, 8),
+        ("anna 1\nworkers 18446744073709551616", 2, 3),
+        ("anna 1\nworkers 2\nput a 1", 3, 2),
+        ("anna 1\nworkers 1\nend\nput a 9", 4, 11),
+        ("anna 1\nworkers 1\nend\n\n# \x07\n\x07", 6, 11),
+        ("anna 1\nworkers 1\nend x\nend", 3, 2),
+        ("anna 1\nwork\rers 1", 2, 13),
+        ("anna 1\r\r\n", 1, 13),
+        ("anna\u{b}1", 1, 13),
+        ("anna 1\nworkers 1\nsession s committed\ncommit", 4, 9),
+        ("anna 1\nworkers 1\nsession s committed\nbegin\nbegin", 5, 9),
+        ("anna 1\nworkers 1\nsession s committed\nbegin\nend", 5, 9),
+        (
+            "anna 1\nworkers 1\nsession s committed\nbegin\nsession t causal",
+            5,
+            9,
+        ),
+        ("anna 1\nworkers 1\nsession s causal\nabort", 4, 9),
+    ];
+    for (text, line, code) in cases {
+        let fault = read_script(rt.alloc(), text.as_bytes()).err();
+        assert_eq!(rt; fault, refusal(line, code), "{text:?}");
+    }
+    Ok(())
+}
+
+#[test]
+fn serves_the_forms_that_are_built(rt: HostRuntime) -> Result<(), Fail> {
+    let one = Built {
+        workers: false,
+        levels: true,
+    };
+    let eventual = Built {
+        workers: true,
+        levels: false,
+    };
+    let cases = [
+        ("anna 1\nworkers 02\nend", one, refusal(2, 2)),
+        ("anna 1\nworkers 9\nend", one, refusal(2, 8)),
+        ("anna 1\nworkers 1\nsession s causal\nend", one, None),
+        ("anna 1\nworkers 8\nsession s eventual\nend", eventual, None),
+        (
+            "anna 1\nworkers 1\nsession s causal\nend",
+            eventual,
+            refusal(3, 2),
+        ),
+        (
+            "anna 1\nworkers 1\nsession s committed\nend",
+            eventual,
+            refusal(3, 2),
+        ),
+        ("anna 1\nworkers 8\nsession s committed\nend", ALL, None),
+    ];
+    for (text, built, want) in cases {
+        let fault = read_script_built(rt.alloc(), text.as_bytes(), built).err();
+        assert_eq!(rt; fault, want, "{text:?}");
+    }
+    Ok(())
+}
+
+#[test]
+fn reads_what_a_script_declares(rt: HostRuntime) -> Result<(), Fail> {
+    let text =
+        "\r\n  # a shop \x07\r\nanna\t1\r\nworkers 03 \r\nround 7\r\nfactor 2\r\nkey s set\r\nkey b max at 3 01\r\nsession s causal\r\nawait b t 0\r\nsession t eventual\r\nend";
+    let script = read_script(rt.alloc(), text.as_bytes())?;
+    assert_eq!(rt; script.config.workers, 3);
+    assert_eq!(rt; script.config.factor, 2);
+    assert_eq!(rt; script.round, 7);
+    assert_eq!(rt; script.kinds.as_slice(), [Kind::Set, Kind::Max].as_slice());
+    let [first, second] = script.config.keys.as_slice() else {
+        return Err("two keys".into());
+    };
+    assert_eq!(rt; first.name.as_bytes(), b"s".as_slice());
+    assert!(rt; first.pins.as_slice().is_empty());
+    assert_eq!(rt; second.name.as_bytes(), b"b".as_slice());
+    assert_eq!(rt; second.pins.as_slice(), [3, 1].as_slice());
+    Ok(())
+}
+
+#[test]
+fn reads_the_commands_of_sessions(rt: HostRuntime) -> Result<(), Fail> {
+    let text =
+        "anna 1\nworkers 2\nkey m map\nkey a max at 2\nsession s causal\nput m f 018446744073709551615\nawait a t 7\nsession t committed\nbegin\nget a 2\ncommit\nend\n";
+    let script = read_script(rt.alloc(), text.as_bytes())?;
+    assert_eq!(rt; script.round, 4);
+    assert_eq!(rt; script.config.factor, 1);
+    let [first, second] = script.sessions.as_slice() else {
+        return Err("two sessions".into());
+    };
+    assert_eq!(rt; first.name.as_bytes(), b"s".as_slice());
+    assert!(rt; first.level == Level::Causal && second.level == Level::Committed);
+    assert!(rt;
+        matches!(
+            first.lines.as_slice(),
+            [
+                Line::Put {
+                    key: 1,
+                    payload: Payload::Field(_, u64::MAX)
+                },
+                Line::Await {
+                    key: 2,
+                    session: 2,
+                    count: 7
+                }
+            ]
+        )
+    );
+    assert!(rt;
+        matches!(
+            second.lines.as_slice(),
+            [
+                Line::Begin,
+                Line::Get {
+                    key: 2,
+                    worker: Some(2)
+                },
+                Line::Commit
+            ]
+        )
+    );
+    Ok(())
+}
+
+#[test]
+fn takes_as_much_as_there_may_be(rt: HostRuntime) -> Result<(), Fail> {
+    for (keys, sessions, commands, want) in [
+        (128, 16, 4096, None),
+        (129, 0, 0, refusal(131, 8)),
+        (1, 17, 0, refusal(20, 8)),
+        (128, 16, 4097, refusal(4243, 8)),
+    ] {
+        let mut text = String::from_str(rt.alloc(), "anna 1\nworkers 8\n")?;
+        for key in 1..=keys {
+            text.push_str(format!(in rt.alloc(); "key k{key} max\n")?.as_str())?;
+        }
+        for session in 1..=sessions {
+            text.push_str(format!(in rt.alloc(); "session s{session} eventual\n")?.as_str())?;
+        }
+        for _ in 0..commands {
+            text.push_str("get k1\n")?;
+        }
+        text.push_str("end\n")?;
+        assert_eq!(rt; read_script(rt.alloc(), text.as_bytes()).err(), want);
+    }
+    Ok(())
+}
+
+#[test]
+fn takes_names_and_words_as_long_as_there_may_be(rt: HostRuntime) -> Result<(), Fail> {
+    for (name, word, want) in [
+        (32, 64, None),
+        (33, 64, refusal(3, 4)),
+        (32, 65, refusal(5, 7)),
+    ] {
+        let mut text = String::from_str(rt.alloc(), "anna 1\nworkers 1\nkey ")?;
+        for _ in 0..name {
+            text.push_str("k")?;
+        }
+        text.push_str(" set\nsession s eventual\nput ")?;
+        for _ in 0..name {
+            text.push_str("k")?;
+        }
+        text.push_str(" ")?;
+        for _ in 0..word {
+            text.push_str("w")?;
+        }
+        text.push_str("\nend\n")?;
+        assert_eq!(rt; read_script(rt.alloc(), text.as_bytes()).err(), want);
+    }
+    Ok(())
+}
+
+#[test]
+fn takes_as_many_bytes_as_there_may_be(rt: HostRuntime) -> Result<(), Fail> {
+    let mut text = String::from_str(rt.alloc(), "anna 1\nworkers 1\nend\n#")?;
+    for _ in text.len()..MOST_BYTES {
+        text.push_str(" ")?;
+    }
+    assert_eq!(rt; read_script(rt.alloc(), text.as_bytes()).err(), None);
+    text.push_str(" ")?;
+    assert_eq!(rt;
+        read_script(rt.alloc(), text.as_bytes()).err(),
+        refusal(0, 12)
+    );
+    Ok(())
+}

@@ -1,0 +1,65 @@
+//! The pins of a key.
+ghost use Rattle.std.specs.Prelude.{◌≡◌, ◌≤◌, true, false, not, map, All, IfOk, MatchOption};
+ghost use Rattle.std.specs.List.{list_any};
+ghost use Rattle.script_reader.specs.Faults.{has_repeat as repeats, is_within as within};
+ghost use Rattle.script_reader.specs.Words.{is_number, number_of};
+
+use crate::words::number;
+use indexmap::IndexSet;
+use lattice_laws::NoMemory;
+use std::alloc::Global;
+
+/// Whether a number lies between two others, these included.
+pub(crate) fn is_within(least: u64, greatest: u64, n: u64) -> bool
+    ensures { result ≡ within least greatest n }
+{
+    least <= n && n <= greatest
+}
+
+/// The numbers that words write, where each of them writes one.
+pub(crate) fn numbers(alloc: Global, words: &[&[u8]]) -> Result<Option<Vec<u64>>, NoMemory>
+    ensures { IfOk result (λ numbers. MatchOption numbers
+        (list_any (λ word. not (is_number word)) (map (λ word. word.now) words.now) ≡ true)
+        (λ numbers. (list_any (λ word. not (is_number word)) (map (λ word. word.now) words.now) ≡ false) × (numbers.items ≡ map number_of (map (λ word. word.now) words.now)))) }
+{
+    let mut numbers = Vec::new(alloc);
+    for word in words {
+        let Some(n) = number(word) else {
+            return Ok(None);
+        };
+        numbers.push(n)?;
+    }
+    Ok(Some(numbers))
+}
+
+/// Whether a number stands twice. Takes linear time on average.
+pub(crate) fn has_repeat(alloc: Global, numbers: &[u64]) -> Result<bool, NoMemory>
+    ensures { IfOk result (λ found. found ≡ repeats numbers.now) }
+{
+    let mut met = IndexSet::new(alloc);
+    for n in numbers {
+        if !met.insert(*n)? {
+            return Ok(true);
+        }
+    }
+    Ok(false)
+}
+
+/// Whether each number is a worker's, from 1 to `workers`.
+pub(crate) fn are_workers(workers: u16, numbers: &[u64]) -> bool
+    ensures { result ≡ not (list_any (λ n. not (within 1 workers n)) numbers.now) }
+{
+    numbers.iter().all(|n| is_within(1, u64::from(workers), *n))
+}
+
+/// The numbers as workers.
+pub(crate) fn pins(alloc: Global, numbers: &[u64]) -> Result<Vec<u16>, NoMemory>
+    requires { All (λ n. n ≤ 8) numbers.now }
+    ensures { IfOk result (λ pins. pins.items ≡ numbers.now) }
+{
+    let mut pins = Vec::new(alloc);
+    for n in numbers {
+        pins.push(*n as u16)?;
+    }
+    Ok(pins)
+}

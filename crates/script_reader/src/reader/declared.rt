@@ -1,0 +1,216 @@
+//! Reads the lines that declare: workers, options, keys, sessions, and the end.
+ghost use Rattle.std.specs.Prelude.{◌≡◌, ◌<◌, List, ℕ, ◌∷◌, [], true, false, map, length, MatchResult};
+ghost use Rattle.std.specs.List.{list_any};
+ghost use Rattle.std.specs.Str.{bytes_eq};
+ghost use Rattle.script_reader.specs.Entries.{AreKeyWords, AreSessionWords};
+ghost use Rattle.script_reader.specs.Faults.{sessions_of};
+ghost use Rattle.script_reader.specs.Reader.{seen, begun_of, IsKept, MayStand, Reads, IsNameFault, HasOpened};
+ghost use Rattle.script_reader.specs.Words.{is_name};
+ghost use Rattle.script_reader.specs.declared.keyword.Keyword.TheVariants as keywords;
+
+use crate::code::Code;
+use crate::pins::{are_workers, has_repeat, is_within, numbers, pins};
+use crate::reader::{LineFault, Reader, Sessions};
+use crate::words::number;
+use composed_value::Kind;
+use lattice_laws::Items;
+use placement::{KeyPlace, Name, NameFault, Placement};
+use session_known::{Level, SessionPlan};
+use std::alloc::Global;
+use std::mem;
+
+/// The name that a word spells.
+fn read_name(alloc: Global, word: &[u8]) -> Result<Name, LineFault>
+    ensures { MatchResult result (λ name. (name ≡ word.now) × (is_name word.now ≡ true)) (IsNameFault word.now) }
+{
+    match Name::of(alloc, word) {
+        Ok(name) => Ok(name),
+        Err(NameFault::Length) => Err(LineFault::Code(Code::Name)),
+        Err(NameFault::Byte) => Err(LineFault::Code(Code::Name)),
+        Err(NameFault::NoMemory) => Err(LineFault::NoMemory),
+    }
+}
+
+impl<'a> Reader<'a> {
+    /// Reads the number of workers.
+    pub(crate) fn take_workers(&mut self, word: &[u8]) -> Result<(), LineFault>
+        requires kept { IsKept self.old }
+        requires stands { MayStand (seen self.old) keywords.Workers (word.now ∷ []) }
+        ensures { Reads self.old result self.new keywords.Workers (word.now ∷ []) }
+    {
+        let Some(workers) = number(word) else {
+            return Err(LineFault::Code(Code::Number));
+        };
+        if !is_within(1, 8, workers) {
+            return Err(LineFault::Code(Code::Limit));
+        }
+        self.config.workers = workers as u16;
+        self.has_workers = true;
+        Ok(())
+    }
+
+    /// Reads the replication factor.
+    pub(crate) fn take_factor(&mut self, word: &[u8]) -> Result<(), LineFault>
+        requires kept { IsKept self.old }
+        requires stands { MayStand (seen self.old) keywords.Factor (word.now ∷ []) }
+        ensures { Reads self.old result self.new keywords.Factor (word.now ∷ []) }
+    {
+        let Some(factor) = number(word) else {
+            return Err(LineFault::Code(Code::Number));
+        };
+        if self.has_factor {
+            return Err(LineFault::Code(Code::Twice));
+        }
+        if !is_within(1, u64::from(self.config.workers), factor) {
+            return Err(LineFault::Code(Code::Limit));
+        }
+        self.config.factor = factor as u16;
+        self.has_factor = true;
+        Ok(())
+    }
+
+    /// Reads the number of requests between rounds of gossip.
+    pub(crate) fn take_round(&mut self, word: &[u8]) -> Result<(), LineFault>
+        requires kept { IsKept self.old }
+        requires stands { MayStand (seen self.old) keywords.Round (word.now ∷ []) }
+        ensures { Reads self.old result self.new keywords.Round (word.now ∷ []) }
+    {
+        let Some(round) = number(word) else {
+            return Err(LineFault::Code(Code::Number));
+        };
+        if self.has_round {
+            return Err(LineFault::Code(Code::Twice));
+        }
+        if !is_within(1, 64, round) {
+            return Err(LineFault::Code(Code::Limit));
+        }
+        self.round = round as u32;
+        self.has_round = true;
+        Ok(())
+    }
+
+    /// Reads a key.
+    pub(crate) fn take_key(
+        &mut self,
+        alloc: Global,
+        name: &'a [u8],
+        kind: Kind,
+        pin_words: &[&[u8]],
+    ) -> Result<(), LineFault>
+        requires kept { IsKept self.old }
+        ensures { (words : List (List ℕ)) → AreKeyWords words name.now kind (map (λ word. word.now) pin_words.now) → MayStand (seen self.old) keywords.Key words → Reads self.old result self.new keywords.Key words }
+    {
+        let Some(numbers) = numbers(alloc, pin_words)? else {
+            return Err(LineFault::Code(Code::Number));
+        };
+        let key_name = read_name(alloc, name)?;
+        if self.keys.place_of(name).is_some() || has_repeat(alloc, &numbers)? {
+            return Err(LineFault::Code(Code::Twice));
+        }
+        if !are_workers(self.config.workers, &numbers) {
+            return Err(LineFault::Code(Code::Unknown));
+        }
+        if self.config.keys.as_slice().len() >= 128 {
+            return Err(LineFault::Code(Code::Limit));
+        }
+        let pins = Items::new(pins(alloc, &numbers)?);
+        self.keys.add(name)?;
+        self.kinds.push(kind)?;
+        self.config.keys.push(KeyPlace {
+            name: key_name,
+            pins,
+        })?;
+        Ok(())
+    }
+
+    /// Whether a session has the name.
+    fn has_session(&self, name: &[u8]) -> bool
+        ensures { result ≡ list_any (bytes_eq name.now) (sessions_of (seen self.now)) }
+    {
+        let Some(sessions) = &self.sessions else {
+            return false;
+        };
+        sessions
+            .done
+            .iter()
+            .any(|plan| name == plan.name.as_bytes())
+            || name == sessions.last.name.as_bytes()
+    }
+
+    /// The number of sessions.
+    fn sessions_len(&self) -> usize
+        requires kept { IsKept self.now }
+        ensures { result ≡ length (seen self.now).script.sessions }
+    {
+        match &self.sessions {
+            Some(sessions) => sessions.done.len() + 1,
+            None => 0,
+        }
+    }
+
+    /// Whether a transaction is begun.
+    pub(crate) fn is_begun(&self) -> bool
+        ensures { result ≡ begun_of self.now.sessions }
+    {
+        match &self.sessions {
+            Some(sessions) => sessions.begun,
+            None => false,
+        }
+    }
+
+    /// Reads the beginning of a session.
+    pub(crate) fn take_session(
+        &mut self,
+        alloc: Global,
+        name: &[u8],
+        level: Level,
+    ) -> Result<(), LineFault>
+        requires kept { IsKept self.old }
+        requires workers { self.old.has_workers ≡ true }
+        ensures { (words : List (List ℕ)) → AreSessionWords words name.now level → MayStand (seen self.old) keywords.Session words → Reads self.old result self.new keywords.Session words }
+    {
+        let session_name = read_name(alloc, name)?;
+        if self.has_session(name) {
+            return Err(LineFault::Code(Code::Twice));
+        }
+        if self.sessions_len() >= 16 {
+            return Err(LineFault::Code(Code::Limit));
+        }
+        if self.is_begun() {
+            return Err(LineFault::Code(Code::Transaction));
+        }
+        let plan = SessionPlan {
+            name: session_name,
+            level,
+            lines: Items::new(Vec::new(alloc)),
+        };
+        self.open(alloc, plan)
+    }
+
+    /// Begins a session.
+    fn open(&mut self, alloc: Global, plan: SessionPlan) -> Result<(), LineFault>
+        requires kept { IsKept self.old }
+        requires workers { self.old.has_workers ≡ true }
+        requires room { length (seen self.old).script.sessions < 16 }
+        requires empty { plan.lines ≡ [] }
+        requires ended { (seen self.old).begun ≡ false }
+        ensures { MatchResult result (λ _. HasOpened self.old self.new plan) (λ fault. fault ≡ LineFault.NoMemory) }
+    {
+        match &mut self.sessions {
+            Some(sessions) => {
+                let before = mem::replace(&mut sessions.last, plan);
+                sessions.done.push(before)?;
+            }
+            None => {
+                self.sessions = Some(Sessions {
+                    placement: Placement::build(alloc, &self.config)?,
+                    done: Vec::new(alloc),
+                    last: plan,
+                    commands: 0,
+                    begun: false,
+                });
+            }
+        }
+        Ok(())
+    }
+}
