@@ -6,7 +6,7 @@ use Rattle.std.specs.Result.{OkIff, result_ok}
 use Rattle.std.specs.Str.{IsUtf8, all_ascii_digits}
 use Rattle.std.specs.Str.Parse.{digits_value, ParsesUnsigned}
 use Rattle.std.proofs.lemmas.Bool.Decides.{nat_tests}
-use Rattle.std.proofs.lemmas.List.Sums.{AllPass-from_list_all, list_all-from_AllPass}
+use Rattle.std.proofs.lemmas.List.Sums.{list_all-from_AllPass}
 use Rattle.std.proofs.lemmas.Str.{IsUtf8-from_ascii}
 use Rattle.std.proofs.lemmas.Str.Parse.{IsNumeralModel, tells_all_ascii_digits, numerals_by_value, parse_digits}
 use Rattle.basic_lattices.specs.Word.{IsWhyNoWord}
@@ -16,6 +16,7 @@ use Rattle.lattice_laws.specs.Spelling.{is_spelling_byte, IsSpelled, IsWhyMisspe
 use Rattle.lattice_laws.specs.declared.spelling.Misspelled.{Misspelled}
 use Rattle.lattice_laws.specs.declared.spelling.Misspelled.TheVariants.{Length, Byte}
 use Rattle.script_reader.proofs.TextLemmas.{digits_ascii}
+use Rattle.script_reader.specs.ValidListsLaws.{is_spelling}
 use Rattle.script_reader.specs.Words.{is_spelled, is_numeral, number_said, word_said}
 
 -- a test that holds of just what meets the property
@@ -27,11 +28,6 @@ from_test P false holds fails = refl
 spelled_is : (most : ℕ) (word : List ℕ) → IsSpelled most word → is_spelled most word ≡ true
 spelled_is most word is = grind (arith, nat_tests, list_all-from_AllPass is_spelling_byte word is.allowed)
 
-is_spelled_is : (most : ℕ) (word : List ℕ) → is_spelled most word ≡ true → IsSpelled most word
-is_spelled_is most word is =
-    let all : list_all is_spelling_byte word ≡ true = grind (arith, nat_tests) in
-    record { some = grind (arith, nat_tests); short = grind (arith, nat_tests); allowed = AllPass-from_list_all is_spelling_byte word all }
-
 not_spelled : (most : ℕ) (word : List ℕ) (fault : Misspelled) → IsWhyMisspelled most word fault → IsSpelled most word → ⊥
 not_spelled most word Length why is = elim why [ inl few ↦ omega (arith, is.some) | inr many ↦ omega (arith, is.short) ]
 not_spelled most word Byte why is = why.2 is.allowed
@@ -39,7 +35,7 @@ not_spelled most word Byte why is = why.2 is.allowed
 -- what test_spelling answers
 pub spelling_tested : (most : ℕ) (word : List ℕ) (result : Result (Unit {0}) Misspelled) → MatchResult result (λ _. IsSpelled most word) (IsWhyMisspelled most word) → is_ok result ≡ is_spelled most word
 spelling_tested most word (Ok _) is = sym (spelled_is most word is)
-spelling_tested most word (Err fault) why = sym (from_test (IsSpelled most word) (is_spelled most word) (is_spelled_is most word) (not_spelled most word fault why))
+spelling_tested most word (Err fault) why = sym (from_test (IsSpelled most word) (is_spelled most word) (is_spelling most word) (not_spelled most word fault why))
 
 -- a word of a value says itself
 pub word_is : (word : List ℕ) → IsSpelled 64 word → word_said word ≡ Some word
@@ -47,8 +43,8 @@ word_is word is = ap (λ t. cond t (Some word) None) (spelled_is 64 word is)
 
 -- and other bytes say none
 pub no_word : (word : List ℕ) (fault : WordFault) → IsWhyNoWord word fault → fault ≢ faults.NoMemory → word_said word ≡ None
-no_word word faults.Length why other = ap (λ t. cond t (Some word) None) (from_test (IsSpelled 64 word) (is_spelled 64 word) (is_spelled_is 64 word) (not_spelled 64 word Length why))
-no_word word faults.Byte why other = ap (λ t. cond t (Some word) None) (from_test (IsSpelled 64 word) (is_spelled 64 word) (is_spelled_is 64 word) (not_spelled 64 word Byte why))
+no_word word faults.Length why other = ap (λ t. cond t (Some word) None) (from_test (IsSpelled 64 word) (is_spelled 64 word) (is_spelling 64 word) (not_spelled 64 word Length why))
+no_word word faults.Byte why other = ap (λ t. cond t (Some word) None) (from_test (IsSpelled 64 word) (is_spelled 64 word) (is_spelling 64 word) (not_spelled 64 word Byte why))
 no_word word faults.NoMemory why other = absurd (other refl)
 
 -- the digits that parse reads

@@ -1,8 +1,10 @@
 -- What every context behind faultless lines has.
 use Rattle.std.specs.Prelude.{◌≡◌, ◌≢◌, ℕ, ◌≤◌, Bool, true, false, IsTrue, IsFalse, List, [], ◌∷◌, map, length, sum_by, All, AllPairs}
 use Rattle.composed_value.specs.Kind.{kind_of}
+use Rattle.composed_value.specs.Put.{IsPayload}
 use Rattle.composed_value.specs.declared.kind.Kind.{Kind}
 use Rattle.placement.specs.Config.{ArePins, placed}
+use Rattle.placement.specs.Name.{IsName}
 use Rattle.placement.specs.declared.config.Config.{Config}
 use Rattle.script_reader.specs.Faults.{Context}
 use Rattle.session_known.specs.Script.{IsOneOf, MayName, kind_at, replicas_of}
@@ -14,7 +16,7 @@ use Rattle.session_known.specs.declared.script.SessionPlan.{SessionPlan}
 
 -- A line that a session of the level may have, where there are this many keys, of these kinds, and an await may name this many sessions.
 abbrev pub Stands : ℕ → List Kind → ℕ → List (List ℕ) → Level → Line → Type 0
-Stands keys of_keys named table level (Put key payload) = IsOneOf keys key × (kind_of payload ≡ kind_at of_keys key)
+Stands keys of_keys named table level (Put key payload) = IsOneOf keys key × IsPayload payload × (kind_of payload ≡ kind_at of_keys key)
 Stands keys of_keys named table level (Get key worker) = IsOneOf keys key × MayName level (replicas_of table key) worker
 Stands keys of_keys named table level (Await key session count) = IsOneOf keys key × IsOneOf named session × (level ≡ Causal)
 Stands keys of_keys named table level Begin = level ≡ Committed
@@ -35,9 +37,10 @@ AreLed [] begun = IsFalse begun
 AreLed (plan ∷ []) begun = Leads false plan.lines begun
 AreLed (plan ∷ other ∷ plans) begun = Leads false plan.lines false × AreLed (other ∷ plans) begun
 
--- the names are pairwise different
-abbrev pub AreApart : List (List ℕ) → Type 0
-AreApart names = AllPairs (λ name other. name ≢ other) names
+-- the names are names, and pairwise different
+pub record AreApart (names : List (List ℕ)) : Type 0 where
+  pub named : All IsName names
+  pub different : AllPairs (λ name other. name ≢ other) names
 
 -- the keys of a config are few, pinned to its workers, each of a kind, and have different names
 pub record AreKeys (config : Config) (of_keys : List Kind) : Type 0 where

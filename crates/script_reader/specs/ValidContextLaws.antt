@@ -8,14 +8,15 @@ use Rattle.std.proofs.lemmas.List.{map_push, length_push, length-map}
 use Rattle.std.proofs.lemmas.List.Elements.{All-nil, All-push}
 use Rattle.composed_value.specs.declared.kind.Kind.{Kind}
 use Rattle.placement.specs.Config.{ArePins, placed}
+use Rattle.placement.specs.Name.{IsName}
 use Rattle.placement.specs.declared.config.KeyPlace.{KeyPlace}
-use Rattle.script_reader.specs.Faults.{Setting, Context, context_of, keys_of, level_of, commands_of, is_declared, is_causal, is_committed, may_follow, may_have, suits, repeats, is_unknown, misfits, passes_limit, breaks_transaction, code_of}
-use Rattle.script_reader.specs.FaultsLaws.{word_fine, twice_fine, unknown_fine, kind_fine, limit_fine, transaction_fine}
+use Rattle.script_reader.specs.Faults.{Setting, Context, context_of, keys_of, level_of, commands_of, is_declared, is_causal, is_committed, may_follow, may_have, suits, lacks_name, repeats, is_unknown, misfits, passes_limit, breaks_transaction, code_of}
+use Rattle.script_reader.specs.FaultsLaws.{word_fine, name_fine, twice_fine, unknown_fine, kind_fine, limit_fine, transaction_fine}
 use Rattle.script_reader.specs.Lines.{Statement}
 use Rattle.script_reader.specs.Said.{key_said, kind_in, pins_said, number_in, line_said}
 use Rattle.script_reader.specs.Steps.{after, new_session, with_line, with_factor}
 use Rattle.script_reader.specs.ValidContext.{AreApart, AreKeys, AreSessions, IsValidContext, Leads, Stands}
-use Rattle.script_reader.specs.ValidListsLaws.{within_is, are_workers, no_repeat, apart_push, number_within, session_within, name_new, payload_kind, replica_contained}
+use Rattle.script_reader.specs.ValidListsLaws.{within_is, are_workers, no_repeat, apart_push, number_within, session_within, name_new, payload_kind, payload_is, is_spelling, replica_contained}
 use Rattle.script_reader.specs.ValidSessionsLaws.{sessions_line, sessions_push, sessions_none}
 use Rattle.script_reader.specs.Words.{number_of}
 use Rattle.script_reader.specs.declared.keyword.Keyword.{Keyword}
@@ -31,6 +32,7 @@ record IsFaultless (context : Context) (keyword : Keyword) (words : List (List �
   follows : may_follow context keyword ≡ true
   has : may_have keyword words ≡ true
   suited : suits (level_of context) keyword words ≡ true
+  named : lacks_name keyword words ≡ false
   twice : repeats context keyword words ≡ false
   unknown : is_unknown context keyword words ≡ false
   kind : misfits context keyword words ≡ false
@@ -48,6 +50,7 @@ faultless context keyword words none =
       follows = follows.0;
       has = has.0;
       suited = suited.0;
+      named = name_fine context keyword words none;
       twice = twice_fine context keyword words none;
       unknown = unknown_fine context keyword words none;
       kind = kind_fine context keyword words none;
@@ -66,10 +69,10 @@ start setting = record {
     few = omega arith;
     pins = All-nil (λ (key : KeyPlace). ArePins 0 key.pins);
     kinds = refl;
-    names = λ i j d i<j j<. absurd (omega arith);
+    names = record { named = λ k d lt. absurd (omega arith); different = λ i j d i<j j<. absurd (omega arith) };
   };
   sessions = record {
-    names = λ i j d i<j j<. absurd (omega arith);
+    names = record { named = λ k d lt. absurd (omega arith); different = λ i j d i<j j<. absurd (omega arith) };
     few = omega arith;
     few_lines = omega arith;
     stand = λ k d lt. absurd (omega arith);
@@ -149,12 +152,12 @@ step_round context (number ∷ words) valid fine =
     behind_workers context Round (number ∷ words) valid follows.0 (valid.workers follows.0) (within_is 1 64 (number_of number) (not-false _ fine.limit)) valid.keys valid.sessions
 
 -- the keys of a config with one more
-keys_push : (workers factor : ℕ) (keys : List KeyPlace) (of_keys : List Kind) (key : KeyPlace) (kind : Kind) → AreKeys (record { workers = workers; factor = factor; keys = keys }) of_keys → length keys < 128 → ArePins workers key.pins → list_any (bytes_eq key.name) (map (λ key. key.name) keys) ≡ false → AreKeys (record { workers = workers; factor = factor; keys = keys ++ key ∷ [] }) (of_keys ++ kind ∷ [])
-keys_push workers factor keys of_keys key kind are room pins new = record {
+keys_push : (workers factor : ℕ) (keys : List KeyPlace) (of_keys : List Kind) (key : KeyPlace) (kind : Kind) → AreKeys (record { workers = workers; factor = factor; keys = keys }) of_keys → length keys < 128 → ArePins workers key.pins → IsName key.name → list_any (bytes_eq key.name) (map (λ key. key.name) keys) ≡ false → AreKeys (record { workers = workers; factor = factor; keys = keys ++ key ∷ [] }) (of_keys ++ kind ∷ [])
+keys_push workers factor keys of_keys key kind are room pins is_name new = record {
   few = omega (arith, length_push keys key);
   pins = All-push (λ key. ArePins workers key.pins) keys key are.pins pins;
   kinds = let kinds = are.kinds in omega (arith, length_push keys key, length_push of_keys kind);
-  names = subst AreApart (sym (map_push (λ key. key.name) keys key)) (apart_push (map (λ key. key.name) keys) key.name are.names new);
+  names = subst AreApart (sym (map_push (λ key. key.name) keys key)) (apart_push (map (λ key. key.name) keys) key.name are.names is_name new);
 }
 
 -- a key
@@ -166,7 +169,7 @@ step_key context (name ∷ words) valid fine =
     let config = context.script.config in
     let pins : ArePins config.workers (pins_said (name ∷ words)) = record { are_workers = are_workers config.workers (pins_said (name ∷ words)) fine.unknown; different = no_repeat (pins_said (name ∷ words)) twice.1 } in
     let statement : Statement = record { keyword = Key; words = name ∷ words } in
-    let keys = keys_push config.workers config.factor config.keys context.script.kinds (key_said statement) (kind_in statement) valid.keys (leb-false _ _ fine.limit) pins (name_new (keys_of context) name twice.0) in
+    let keys = keys_push config.workers config.factor config.keys context.script.kinds (key_said statement) (kind_in statement) valid.keys (leb-false _ _ fine.limit) pins (is_spelling 32 name (not-false _ fine.named)) (name_new (keys_of context) name twice.0) in
     behind_workers context Key (name ∷ words) valid follows.0 (valid.workers follows.0) valid.round keys (sessions_none _ _ _ _ _ _ _ _ _ (leb-true _ _ follows.1) valid.sessions)
 
 -- a session
@@ -175,7 +178,7 @@ step_session context [] valid fine = absurd (false≢true fine.has)
 step_session context (name ∷ words) valid fine =
     let statement : Statement = record { keyword = Session; words = name ∷ words } in
     behind_workers context Session (name ∷ words) valid fine.follows (valid.workers fine.follows) valid.round valid.keys
-    (sessions_push _ _ _ _ _ context.script.sessions (new_session statement) valid.sessions fine.transaction refl (leb-false _ _ fine.limit) fine.twice)
+    (sessions_push _ _ _ _ _ context.script.sessions (new_session statement) valid.sessions fine.transaction refl (leb-false _ _ fine.limit) (is_spelling 32 name (not-false _ fine.named)) fine.twice)
 
 -- the end
 step_end : (context : Context) (words : List (List ℕ)) → IsValidContext context → IsFaultless context End words → IsValidContext (after context End words)
@@ -203,9 +206,10 @@ step_put context [] valid fine = absurd (false≢true fine.has)
 step_put context (key ∷ words) valid fine =
     let follows = command_follows context fine.follows in
     let within = key_within context key (not-false _ fine.unknown) in
+    let payload = payload_is (keys_of context) context.script.kinds key words (not-false _ fine.kind) in
     let kind = payload_kind (keys_of context) context.script.kinds key words (not-false _ fine.kind) in
     behind_workers context Put (key ∷ words) valid follows.0 (valid.workers follows.0) valid.round valid.keys
-    (takes_line context context.begun (line_said (keys_of context) context.script.kinds context.named Put (key ∷ words)) valid follows.1 fine.limit (within, kind) refl)
+    (takes_line context context.begun (line_said (keys_of context) context.script.kinds context.named Put (key ∷ words)) valid follows.1 fine.limit (within, payload, kind) refl)
 
 -- a session that is not causal may name a replica
 may_name : (level : Level) (replicas : List ℕ) (worker : ℕ) → not (is_causal level) ≡ true → Contains replicas worker → MayName level replicas (Some worker)

@@ -11,6 +11,7 @@ use Rattle.std.proofs.lemmas.List.Folds.{list_any-append}
 use Rattle.composed_value.specs.declared.kind.Kind.{Kind}
 use Rattle.placement.specs.Config.{placed}
 use Rattle.placement.specs.ConfigLaws.{is_placement}
+use Rattle.placement.specs.Name.{IsName}
 use Rattle.placement.specs.declared.config.KeyPlace.{KeyPlace}
 use Rattle.script_reader.specs.Faults.{Setting, Context, context_of, code_of, code_said, is_text_byte}
 use Rattle.script_reader.specs.Grammar.{AreInOrder, IsScript, IsScriptOf, setting_of}
@@ -121,7 +122,11 @@ pairs_apart : {X : Type 0} (name_of : X → List ℕ) (xs : List X) → AreApart
 pairs_apart name_of xs apart i j d i<j j< same =
     let i< : i < length xs = omega arith in
     let j<' : j < length (map name_of xs) = omega (arith, length-map xs name_of) in
-    apart i j (name_of d) i<j j<' (get_or-map name_of xs i d (name_of d) i< ∙ same ∙ sym (get_or-map name_of xs j d (name_of d) j<))
+    apart.different i j (name_of d) i<j j<' (get_or-map name_of xs i d (name_of d) i< ∙ same ∙ sym (get_or-map name_of xs j d (name_of d) j<))
+
+-- elements with names that are names
+pairs_named : {X : Type 0} (name_of : X → List ℕ) (xs : List X) → AreApart (map name_of xs) → All (λ x. IsName (name_of x)) xs
+pairs_named name_of xs apart k d lt = subst IsName (get_or-map name_of xs k d (name_of d) lt) (apart.named k (name_of d) (omega (arith, length-map xs name_of)))
 
 -- lines that lead to where no transaction is begun have ended all
 leads_end : (begun : Bool) (plan_lines : List Line) → Leads begun plan_lines false → AreEnded begun plan_lines
@@ -166,7 +171,9 @@ valid_closed context valid closed named =
       placed = is_placement context.script.config;
       round = valid.round;
       kinds = valid.keys.kinds;
+      keys_named = pairs_named (λ (key : KeyPlace). key.name) context.script.config.keys valid.keys.names;
       key_names = pairs_apart (λ (key : KeyPlace). key.name) context.script.config.keys valid.keys.names;
+      sessions_named = pairs_named (λ (plan : SessionPlan). plan.name) context.script.sessions valid.sessions.names;
       session_names = pairs_apart (λ (plan : SessionPlan). plan.name) context.script.sessions valid.sessions.names;
       few_sessions = valid.sessions.few;
       few_lines = valid.sessions.few_lines;

@@ -1,27 +1,32 @@
 -- What the tests of lines say of lists, of names and of payloads.
-use Rattle.std.specs.Prelude.{◌≡◌, ◌≢◌, ℕ, ◌+◌, ◌-◌, ◌<◌, ◌≤◌, Bool, true, false, ◌==◌, not, nat_le, List, [], ◌∷◌, ◌++◌, length, codes, cond, slice_index_or, Option, Some, None, is_some, unwrap_or, All, Contains}
+use Rattle.std.specs.Prelude.{◌≡◌, ◌≢◌, ℕ, ◌+◌, ◌-◌, ◌<◌, ◌≤◌, Bool, true, false, ◌==◌, not, nat_le, List, [], ◌∷◌, ◌++◌, length, codes, cond, slice_index_or, Option, Some, None, is_some, unwrap_or, All, Contains, ◌^◌, ◌&&◌, nat_lt}
 use Rattle.std.specs.List.{list_any, slice_get, position_or_len}
 use Rattle.std.specs.Option.{option_map, option_map_or, option_and_then}
 use Rattle.std.specs.Str.{bytes_eq}
+use Rattle.std.specs.Str.Parse.{digits_value}
 use Rattle.std.proofs.Common.{zero, suc, refl, sym, ap, subst, ◌∙◌, arith}
-use Rattle.std.proofs.lemmas.Bool.{ltb-false, true≢false, false≢true, both_ways, not-false, leb-true, eqb-true, eqb-false, and_parts, or_parts}
+use Rattle.std.proofs.lemmas.Bool.{ltb-false, ltb-true, true≢false, false≢true, both_ways, not-false, leb-true, eqb-true, eqb-false, and_parts, or_parts}
 use Rattle.std.proofs.lemmas.List.{get_or_default}
-use Rattle.std.proofs.lemmas.List.Elements.{All-nil, All-cons}
+use Rattle.std.proofs.lemmas.List.Elements.{All-nil, All-cons, All-push}
 use Rattle.std.proofs.lemmas.List.Folds.{Any-from_list_any, list_any_none}
 use Rattle.std.proofs.lemmas.List.Quantifiers.{all_pairs_push, position-Some}
-use Rattle.std.proofs.lemmas.List.Sums.{fails_before_first}
+use Rattle.std.proofs.lemmas.List.Sums.{fails_before_first, AllPass-from_list_all}
 use Rattle.std.proofs.lemmas.Option.{get_or_from_slice_get, same_Some, cond_some}
 use Rattle.std.proofs.lemmas.Slice.Eq.{bytes_eq-Decides}
+use Rattle.lattice_laws.specs.Spelling.{is_spelling_byte, IsSpelled}
+use Rattle.basic_lattices.specs.Word.{IsWord}
 use Rattle.composed_value.specs.Kind.{kind_of}
+use Rattle.composed_value.specs.Put.{IsPayload}
 use Rattle.composed_value.specs.declared.kind.Kind.{Kind}
 use Rattle.composed_value.specs.declared.kind.Kind.TheVariants as kinds
 use Rattle.composed_value.specs.declared.payload.Payload.{Payload}
 use Rattle.composed_value.specs.declared.payload.Payload.TheVariants as payloads
 use Rattle.placement.specs.Config.{AreDifferent, IsWorker}
+use Rattle.placement.specs.Name.{IsName}
 use Rattle.script_reader.specs.Faults.{has_repeat, is_within}
 use Rattle.script_reader.specs.Said.{place_of, number_in, session_number, payload_for}
 use Rattle.script_reader.specs.ValidContext.{AreApart}
-use Rattle.script_reader.specs.Words.{number_said, word_said, payload_said}
+use Rattle.script_reader.specs.Words.{is_spelled, is_value_word, is_numeral, number_said, word_said, payload_said}
 use Rattle.session_known.specs.Script.{IsOneOf, kind_at, replicas_of}
 
 -- a number within bounds is one of them
@@ -58,11 +63,21 @@ no_repeat (n ∷ numbers) none =
     let others = none_passes (λ other. other == n) numbers both.0 in
     different_cons n numbers (λ k d lt. eqb-false (slice_index_or numbers k d) n (others k d lt)) (no_repeat numbers both.1)
 
+-- what passes the test of its bytes is spelled of them
+pub is_spelling : (most : ℕ) (word : List ℕ) → is_spelled most word ≡ true → IsSpelled most word
+is_spelling most word is =
+    let some = and_parts (nat_le 1 (length word)) _ is in
+    let short = and_parts (nat_le (length word) most) _ some.1 in
+    record { some = leb-true _ _ some.0; short = leb-true _ _ short.0; allowed = AllPass-from_list_all is_spelling_byte word short.1 }
+
 -- names that are apart stay so with a new one
-pub apart_push : (names : List (List ℕ)) (name : List ℕ) → AreApart names → list_any (bytes_eq name) names ≡ false → AreApart (names ++ name ∷ [])
-apart_push names name apart new =
+pub apart_push : (names : List (List ℕ)) (name : List ℕ) → AreApart names → IsName name → list_any (bytes_eq name) names ≡ false → AreApart (names ++ name ∷ [])
+apart_push names name apart is new =
     let others = none_passes (bytes_eq name) names new in
-    all_pairs_push (λ a b. a ≢ b) names name apart (λ k d lt same. both_ways _ (others k d lt) ((bytes_eq-Decides name (slice_index_or names k d)).1 (sym same)))
+    record {
+      named = All-push IsName names name apart.named is;
+      different = all_pairs_push (λ a b. a ≢ b) names name apart.different (λ k d lt same. both_ways _ (others k d lt) ((bytes_eq-Decides name (slice_index_or names k d)).1 (sym same)));
+    }
 
 -- what a place among names says of the number of the name
 placed_within : (count : ℕ) (place : Option ℕ) → ((p : ℕ) → place ≡ Some p → p < count) → is_some place ≡ true → IsOneOf count (unwrap_or place 0 + 1)
@@ -146,6 +161,52 @@ put_kind of_keys words (Some p) some = placed_kind of_keys words p (slice_get of
 -- the payload that words say for a key is of the key's kind
 pub payload_kind : (names : List (List ℕ)) (of_keys : List Kind) (key : List ℕ) (words : List (List ℕ)) → is_some (payload_for names of_keys key words) ≡ true → kind_of (unwrap_or (payload_for names of_keys key words) payloads.On) ≡ kind_at of_keys (number_in names key)
 payload_kind names of_keys key words some = put_kind of_keys words (place_of names key) some
+
+-- a payload made of what a word says is one, where each made so is
+made_payload : {A : Type 0} (make : A → Payload) (said : Option A) (payload : Payload) → ((a : A) → said ≡ Some a → IsPayload (make a)) → option_map make said ≡ Some payload → IsPayload payload
+made_payload make None payload each is = absurd cc
+made_payload make (Some a) payload each is = subst IsPayload (same_Some (make a) payload is) (each a refl)
+
+-- a number that a word says has 64 bits
+said_number : (word : List ℕ) (n : ℕ) → number_said word ≡ Some n → n < 2 ^ 64
+said_number word n is =
+    let some = cond_some (is_numeral word && nat_lt (digits_value 10 word) (2 ^ 64)) (digits_value 10 word) n is in
+    subst (λ number. number < 2 ^ 64) some.1 (ltb-true _ _ (and_parts (is_numeral word) _ some.0).1)
+
+-- a word that is said is one
+said_word : (word said : List ℕ) → word_said word ≡ Some said → IsWord said
+said_word word said is =
+    let some = cond_some (is_value_word word) word said is in
+    subst IsWord some.1 (is_spelling 64 word some.0)
+
+-- the payload of a field and its number
+field_payload : (field : Option (List ℕ)) (number : Option ℕ) (payload : Payload) → ((name : List ℕ) → field ≡ Some name → IsWord name) → ((n : ℕ) → number ≡ Some n → n < 2 ^ 64) → option_and_then (λ name. option_map (payloads.Field name) number) field ≡ Some payload → IsPayload payload
+field_payload None number payload is_word is_number is = absurd cc
+field_payload (Some name) number payload is_word is_number is = made_payload (payloads.Field name) number payload (λ n said. (is_word name refl, is_number n said)) is
+
+-- a payload that words say is one
+pub said_payload : (kind : Kind) (words : List (List ℕ)) (payload : Payload) → payload_said kind words ≡ Some payload → IsPayload payload
+said_payload kinds.Max (value ∷ []) payload is = made_payload payloads.Max (number_said value) payload (said_number value) is
+said_payload kinds.Or (value ∷ []) payload is = subst IsPayload (cond_some (bytes_eq value (codes "on")) payloads.On payload is).1 tt
+said_payload kinds.Set (value ∷ []) payload is = made_payload payloads.Add (word_said value) payload (said_word value) is
+said_payload kinds.Map (field ∷ value ∷ []) payload is = field_payload (word_said field) (number_said value) payload (said_word field) (said_number value) is
+said_payload kinds.Last (value ∷ []) payload is = made_payload payloads.Last (word_said value) payload (said_word value) is
+said_payload kinds.Versions (value ∷ []) payload is = made_payload payloads.Version (word_said value) payload (said_word value) is
+said_payload kind words payload is = absurd cc
+
+-- where words say a payload, it is one
+fits_payload : (kind : Kind) (words : List (List ℕ)) (said : Option Payload) → payload_said kind words ≡ said → is_some said ≡ true → IsPayload (unwrap_or said payloads.On)
+fits_payload kind words None is some = absurd (false≢true some)
+fits_payload kind words (Some payload) is some = said_payload kind words payload is
+
+-- the same of a key's kind, where it has one
+placed_payload : (words : List (List ℕ)) (kind : Option Kind) → is_some (option_and_then (λ kind. payload_said kind words) kind) ≡ true → IsPayload (unwrap_or (option_and_then (λ kind. payload_said kind words) kind) payloads.On)
+placed_payload words None some = absurd (false≢true some)
+placed_payload words (Some kind) some = fits_payload kind words (payload_said kind words) refl some
+
+-- the payload that words say for a key is one
+pub payload_is : (names : List (List ℕ)) (of_keys : List Kind) (key : List ℕ) (words : List (List ℕ)) → is_some (payload_for names of_keys key words) ≡ true → IsPayload (unwrap_or (payload_for names of_keys key words) payloads.On)
+payload_is names of_keys key words some = placed_payload words (option_and_then (λ place. slice_get of_keys place) (place_of names key)) some
 
 -- a number that a list has is contained in it
 pub has_contains : (numbers : List ℕ) (n : ℕ) → list_any (λ other. other == n) numbers ≡ true → Contains numbers n

@@ -9,6 +9,7 @@ use Rattle.std.proofs.lemmas.List.Sums.{sum_by-cons, sum_by_push}
 use Rattle.composed_value.specs.declared.kind.Kind.{Kind}
 use Rattle.script_reader.specs.Faults.{last_level}
 use Rattle.script_reader.specs.Steps.{with_line}
+use Rattle.placement.specs.Name.{IsName}
 use Rattle.script_reader.specs.ValidContext.{AreApart, AreLed, AreSessions, Leads, Stands}
 use Rattle.script_reader.specs.ValidListsLaws.{apart_push}
 use Rattle.session_known.specs.declared.script.Level.{Level}
@@ -90,10 +91,10 @@ sessions_line keys of_keys named table begun behind plans line are some room sta
 
 -- sessions that have ended their transactions, and take a session that has no line
 pub sessions_push : (keys : ℕ) (of_keys : List Kind) (named : ℕ) (table : List (List ℕ)) (begun : Bool) (plans : List SessionPlan) (plan : SessionPlan)
-    → AreSessions keys of_keys named table begun plans → begun ≡ false → plan.lines ≡ [] → length plans < 16 → list_any (bytes_eq plan.name) (map (λ plan. plan.name) plans) ≡ false
+    → AreSessions keys of_keys named table begun plans → begun ≡ false → plan.lines ≡ [] → length plans < 16 → IsName plan.name → list_any (bytes_eq plan.name) (map (λ plan. plan.name) plans) ≡ false
     → AreSessions keys of_keys named table begun (plans ++ plan ∷ [])
-sessions_push keys of_keys named table begun plans plan are ended none room new = record {
-  names = subst AreApart (sym (map_push (λ plan. plan.name) plans plan)) (apart_push (map (λ plan. plan.name) plans) plan.name are.names new);
+sessions_push keys of_keys named table begun plans plan are ended none room is_name new = record {
+  names = subst AreApart (sym (map_push (λ plan. plan.name) plans plan)) (apart_push (map (λ plan. plan.name) plans) plan.name are.names is_name new);
   few = omega (arith, length_push plans plan);
   few_lines = let count = sum_by_push (λ (plan : SessionPlan). length plan.lines) plans plan in let few = are.few_lines in let no_lines : length plan.lines ≡ 0 = ap length none in omega arith;
   stand = All-push (λ plan. All (Stands keys of_keys named table plan.level) plan.lines) plans plan are.stand (subst (λ lines. All (Stands keys of_keys named table plan.level) lines) (sym none) (All-nil (Stands keys of_keys named table plan.level)));

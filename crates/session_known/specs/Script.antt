@@ -1,7 +1,9 @@
 -- Which scripts are valid, and what they say of keys and sessions.
 use Rattle.std.specs.Prelude.{◌≡◌, ◌≢◌, ℕ, ◌-◌, ◌≤◌, Bool, true, false, IsTrue, IsFalse, List, [], ◌∷◌, length, sum_by, slice_index_or, Option, Some, None, All, AllPairs, Contains, ⊤}
+use Rattle.placement.specs.Name.{IsName}
 use Rattle.placement.specs.Config.{IsValidConfig, IsPlacement, home_of}
 use Rattle.composed_value.specs.Kind.{kind_of}
+use Rattle.composed_value.specs.Put.{IsPayload}
 use Rattle.composed_value.specs.declared.kind.Kind.{Kind}
 use Rattle.composed_value.specs.declared.kind.Kind.TheVariants as kinds
 use Rattle.session_known.specs.declared.script.Level.{Level}
@@ -36,7 +38,7 @@ MayName level replicas (Some worker) = Contains replicas worker
 -- A line that a session of the level may have: its key and the session that it names are there, its payload is of the key's kind,
 -- only a causal session awaits, and only a committed one begins, commits and aborts.
 abbrev pub MayStand : Script → List (List ℕ) → Level → Line → Type 0
-MayStand script table level (Put key payload) = IsOneOf (length script.config.keys) key × (kind_of payload ≡ kind_at script.kinds key)
+MayStand script table level (Put key payload) = IsOneOf (length script.config.keys) key × IsPayload payload × (kind_of payload ≡ kind_at script.kinds key)
 MayStand script table level (Get key worker) = IsOneOf (length script.config.keys) key × MayName level (replicas_of table key) worker
 MayStand script table level (Await key session count) = IsOneOf (length script.config.keys) key × IsOneOf (length script.sessions) session × (level ≡ Causal)
 MayStand script table level Begin = level ≡ Committed
@@ -62,7 +64,9 @@ pub record IsValidScript (script : Script) (table : List (List ℕ)) : Type 0 wh
   pub placed : IsPlacement script.config table
   pub round : IsOneOf 64 script.round
   pub kinds : length script.kinds ≡ length script.config.keys
+  pub keys_named : All (λ key. IsName key.name) script.config.keys
   pub key_names : AllPairs (λ key other. key.name ≢ other.name) script.config.keys
+  pub sessions_named : All (λ plan. IsName plan.name) script.sessions
   pub session_names : AllPairs (λ plan other. plan.name ≢ other.name) script.sessions
   pub few_sessions : length script.sessions ≤ 16
   pub few_lines : sum_by (λ plan. length plan.lines) script.sessions ≤ 4096

@@ -1,9 +1,13 @@
 -- Where the keys of the worked scripts live, and that the scripts are valid there.
-use Rattle.std.specs.Prelude.{◌≡◌, ◌≢◌, ℕ, false, List, [], ◌∷◌, length, slice_index_or, All, AllPairs, ⊤, codes}
-use Rattle.std.specs.List.{AllByRecursion}
-use Rattle.std.proofs.Common.{refl, sym, ap, subst, ◌∙◌, arith, lit≤}
+use Rattle.std.specs.Prelude.{◌≡◌, ◌≢◌, ℕ, ◌≤◌, true, false, List, [], ◌∷◌, length, slice_index_or, All, AllPairs, ⊤, codes}
+use Rattle.std.specs.List.{AllByRecursion, list_all}
+use Rattle.std.proofs.Common.{refl, sym, ap, subst, ◌∙◌, arith, lit<, lit≤}
 use Rattle.std.proofs.lemmas.List.Elements.{All-from_recursion, All-head}
 use Rattle.std.proofs.lemmas.List.Kept.{AllPairs-cons}
+use Rattle.std.proofs.lemmas.List.Sums.{AllPass-from_list_all}
+use Rattle.lattice_laws.specs.Spelling.{is_spelling_byte}
+use Rattle.basic_lattices.specs.Word.{IsWord}
+use Rattle.placement.specs.Name.{IsName}
 use Rattle.placement.specs.Config.{IsWorker, ArePins, IsPlacement, EachHasReplicas}
 use Rattle.placement.specs.declared.config.KeyPlace.{KeyPlace}
 use Rattle.session_known.specs.Legal.{IsLegalAt, IsLegal}
@@ -63,6 +67,14 @@ pins_are workers pins are different = record { are_workers = All-from_recursion 
 names_differ : (name other : List ℕ) → slice_index_or name 0 0 ≢ slice_index_or other 0 0 → name ≢ other
 names_differ name other apart same = apart (ap (λ (bytes : List ℕ). slice_index_or bytes 0 0) same)
 
+-- allowed bytes are a name, where they are few enough
+name : (bytes : List ℕ) → list_all is_spelling_byte bytes ≡ true → 1 ≤ length bytes → length bytes ≤ 32 → IsName bytes
+name bytes allowed some few = record { some = some; short = few; allowed = AllPass-from_list_all is_spelling_byte bytes allowed }
+
+-- and so a word
+word : (bytes : List ℕ) → list_all is_spelling_byte bytes ≡ true → 1 ≤ length bytes → length bytes ≤ 64 → IsWord bytes
+word bytes allowed some few = record { some = some; short = few; allowed = AllPass-from_list_all is_spelling_byte bytes allowed }
+
 -- a session whose lines may stand and whose transactions are ended
 session_is_valid : (script : Script) (table : List (List ℕ)) {plan : SessionPlan} → AllByRecursion (MayStand script table plan.level) plan.lines → AreEnded false plan.lines → IsValidSession script table plan
 session_is_valid script table {plan} stand ended = record { lines = All-from_recursion (MayStand script table plan.level) plan.lines stand; transactions = ended }
@@ -81,11 +93,13 @@ first_is_valid placed = record {
   placed = placed;
   round = (lit≤ tt, lit≤ tt);
   kinds = refl;
+  keys_named = All-from_recursion (λ (key : KeyPlace). IsName key.name) first_script.config.keys (name (codes "a") refl (lit≤ tt) (lit≤ tt), tt);
   key_names = AllPairs-from_recursion (λ (key other : KeyPlace). key.name ≢ other.name) first_script.config.keys (tt, tt);
+  sessions_named = All-from_recursion (λ (plan : SessionPlan). IsName plan.name) first_script.sessions (name (codes "s") refl (lit≤ tt) (lit≤ tt), tt);
   session_names = AllPairs-from_recursion (λ (plan other : SessionPlan). plan.name ≢ other.name) first_script.sessions (tt, tt);
   few_sessions = lit≤ tt;
   few_lines = lit≤ tt;
-  sessions = All-from_recursion (IsValidSession first_script first_table) first_script.sessions (session_is_valid first_script first_table (((lit≤ tt, lit≤ tt), refl), (((lit≤ tt, lit≤ tt), refl), (((lit≤ tt, lit≤ tt), tt), tt))) refl, tt);
+  sessions = All-from_recursion (IsValidSession first_script first_table) first_script.sessions (session_is_valid first_script first_table (((lit≤ tt, lit≤ tt), lit< tt, refl), (((lit≤ tt, lit≤ tt), lit< tt, refl), (((lit≤ tt, lit≤ tt), tt), tt))) refl, tt);
 }
 
 -- The second script is valid.
@@ -102,11 +116,13 @@ home_is_valid placed = record {
   placed = placed;
   round = (lit≤ tt, lit≤ tt);
   kinds = refl;
+  keys_named = All-from_recursion (λ (key : KeyPlace). IsName key.name) home_script.config.keys (name (codes "a") refl (lit≤ tt) (lit≤ tt), tt);
   key_names = AllPairs-from_recursion (λ (key other : KeyPlace). key.name ≢ other.name) home_script.config.keys (tt, tt);
+  sessions_named = All-from_recursion (λ (plan : SessionPlan). IsName plan.name) home_script.sessions (name (codes "s") refl (lit≤ tt) (lit≤ tt), tt);
   session_names = AllPairs-from_recursion (λ (plan other : SessionPlan). plan.name ≢ other.name) home_script.sessions (tt, tt);
   few_sessions = lit≤ tt;
   few_lines = lit≤ tt;
-  sessions = All-from_recursion (IsValidSession home_script home_table) home_script.sessions (session_is_valid home_script home_table (((lit≤ tt, lit≤ tt), refl), (((lit≤ tt, lit≤ tt), tt), (((lit≤ tt, lit≤ tt), refl), (((lit≤ tt, lit≤ tt), tt), tt)))) refl, tt);
+  sessions = All-from_recursion (IsValidSession home_script home_table) home_script.sessions (session_is_valid home_script home_table (((lit≤ tt, lit≤ tt), word (codes "x") refl (lit≤ tt) (lit≤ tt), refl), (((lit≤ tt, lit≤ tt), tt), (((lit≤ tt, lit≤ tt), word (codes "y") refl (lit≤ tt) (lit≤ tt), refl), (((lit≤ tt, lit≤ tt), tt), tt)))) refl, tt);
 }
 
 -- The third script is valid.
@@ -123,11 +139,13 @@ commit_is_valid placed = record {
   placed = placed;
   round = (lit≤ tt, lit≤ tt);
   kinds = refl;
+  keys_named = All-from_recursion (λ (key : KeyPlace). IsName key.name) commit_script.config.keys (name (codes "a") refl (lit≤ tt) (lit≤ tt), (name (codes "l") refl (lit≤ tt) (lit≤ tt), tt));
   key_names = AllPairs-from_recursion (λ (key other : KeyPlace). key.name ≢ other.name) commit_script.config.keys ((names_differ (codes "a") (codes "l") (λ same. omega (arith, same)), tt), (tt, tt));
+  sessions_named = All-from_recursion (λ (plan : SessionPlan). IsName plan.name) commit_script.sessions (name (codes "s") refl (lit≤ tt) (lit≤ tt), tt);
   session_names = AllPairs-from_recursion (λ (plan other : SessionPlan). plan.name ≢ other.name) commit_script.sessions (tt, tt);
   few_sessions = lit≤ tt;
   few_lines = lit≤ tt;
-  sessions = All-from_recursion (IsValidSession commit_script commit_table) commit_script.sessions (session_is_valid commit_script commit_table (refl, (((lit≤ tt, lit≤ tt), refl), (((lit≤ tt, lit≤ tt), refl), (refl, (refl, (((lit≤ tt, lit≤ tt), refl), (((lit≤ tt, lit≤ tt), refl), (refl, (((lit≤ tt, lit≤ tt), tt), tt))))))))) (refl, (refl, (refl, (refl, refl)))), tt);
+  sessions = All-from_recursion (IsValidSession commit_script commit_table) commit_script.sessions (session_is_valid commit_script commit_table (refl, (((lit≤ tt, lit≤ tt), lit< tt, refl), (((lit≤ tt, lit≤ tt), word (codes "red") refl (lit≤ tt) (lit≤ tt), refl), (refl, (refl, (((lit≤ tt, lit≤ tt), lit< tt, refl), (((lit≤ tt, lit≤ tt), word (codes "red") refl (lit≤ tt) (lit≤ tt), refl), (refl, (((lit≤ tt, lit≤ tt), tt), tt))))))))) (refl, (refl, (refl, (refl, refl)))), tt);
 }
 
 -- The fourth script is valid.
@@ -144,11 +162,13 @@ causal_is_valid placed = record {
   placed = placed;
   round = (lit≤ tt, lit≤ tt);
   kinds = refl;
+  keys_named = All-from_recursion (λ (key : KeyPlace). IsName key.name) causal_script.config.keys (name (codes "a") refl (lit≤ tt) (lit≤ tt), (name (codes "b") refl (lit≤ tt) (lit≤ tt), tt));
   key_names = AllPairs-from_recursion (λ (key other : KeyPlace). key.name ≢ other.name) causal_script.config.keys ((names_differ (codes "a") (codes "b") (λ same. omega (arith, same)), tt), (tt, tt));
+  sessions_named = All-from_recursion (λ (plan : SessionPlan). IsName plan.name) causal_script.sessions (name (codes "s") refl (lit≤ tt) (lit≤ tt), (name (codes "t") refl (lit≤ tt) (lit≤ tt), tt));
   session_names = AllPairs-from_recursion (λ (plan other : SessionPlan). plan.name ≢ other.name) causal_script.sessions ((names_differ (codes "s") (codes "t") (λ same. omega (arith, same)), tt), (tt, tt));
   few_sessions = lit≤ tt;
   few_lines = lit≤ tt;
-  sessions = All-from_recursion (IsValidSession causal_script causal_table) causal_script.sessions (session_is_valid causal_script causal_table (((lit≤ tt, lit≤ tt), refl), (((lit≤ tt, lit≤ tt), (lit≤ tt, lit≤ tt), refl), (((lit≤ tt, lit≤ tt), refl), tt))) refl, (session_is_valid causal_script causal_table (((lit≤ tt, lit≤ tt), (lit≤ tt, lit≤ tt), refl), (((lit≤ tt, lit≤ tt), refl), tt)) refl, tt));
+  sessions = All-from_recursion (IsValidSession causal_script causal_table) causal_script.sessions (session_is_valid causal_script causal_table (((lit≤ tt, lit≤ tt), lit< tt, refl), (((lit≤ tt, lit≤ tt), (lit≤ tt, lit≤ tt), refl), (((lit≤ tt, lit≤ tt), lit< tt, refl), tt))) refl, (session_is_valid causal_script causal_table (((lit≤ tt, lit≤ tt), (lit≤ tt, lit≤ tt), refl), (((lit≤ tt, lit≤ tt), lit< tt, refl), tt)) refl, tt));
 }
 
 -- Where the table that is the placement is the one at which a script is valid and its report legal, the script is valid and the report legal.
