@@ -93,6 +93,10 @@ impl<K: MapKey, L: AllFit> Lattice for MapOf<K, L> {
     }
 
     fn join(&mut self, other: &Self) -> Result<(), NoMemory> {
+        // One entry goes into its place, so that putting into a large map copies none of it.
+        if let [(key, value)] = other.entries.as_slice() {
+            return raise_entry(&mut self.entries, key.copy()?, value.copy()?);
+        }
         let alloc = *self.entries.allocator();
         self.entries = join_entries(alloc, self.entries.as_slice(), other.entries.as_slice())?;
         Ok(())
