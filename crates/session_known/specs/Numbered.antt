@@ -41,7 +41,7 @@ record AreNextUpTo (first : ℕ) (made : List puts.Put) (last : ℕ) : Type 0 wh
   last_is : last ≡ first + length made
 
 -- the puts of two lists on a key
-made_on-append : (session key : ℕ) (made more : List (ℕ × puts.Put)) → made_on session key (made ++ more) ≡ made_on session key made ++ made_on session key more
+pub made_on-append : (session key : ℕ) (made more : List (ℕ × puts.Put)) → made_on session key (made ++ more) ≡ made_on session key made ++ made_on session key more
 made_on-append session key made more =
     let on_key = λ (entry : ℕ × puts.Put). entry.0 == key in
     ap (λ entries. puts_of_session session (map (λ entry. entry.1) entries)) (filter-append on_key made more)
@@ -49,7 +49,7 @@ made_on-append session key made more =
     ∙ filter-append (λ put. session == put.session) (puts_on key made) (puts_on key more)
 
 -- a put of the session on the key is one of its puts there
-made_here : (session its_key key : ℕ) (put : puts.Put) → its_key ≡ key → session ≡ put.session → made_on session key ((its_key, put) ∷ []) ≡ put ∷ []
+pub made_here : (session its_key key : ℕ) (put : puts.Put) → its_key ≡ key → session ≡ put.session → made_on session key ((its_key, put) ∷ []) ≡ put ∷ []
 made_here session its_key key put same_key same_session =
     ap (λ t. puts_of_session session (map (λ (entry : ℕ × puts.Put). entry.1) (cond t ((its_key, put) ∷ []) []))) (eq-eqb its_key key same_key)
     ∙ ap (λ t. cond t (put ∷ []) []) (eq-eqb session put.session same_session)
@@ -59,12 +59,12 @@ differs : (a b : ℕ) → a ≢ b → (a == b) ≡ false
 differs a b other = elim (eqb_tells a b) [ inl same ↦ absurd (other same.1) | inr apart ↦ apart.0 ]
 
 -- a put on another key is not
-made_elsewhere : (session its_key key : ℕ) (put : puts.Put) → its_key ≢ key → made_on session key ((its_key, put) ∷ []) ≡ []
+pub made_elsewhere : (session its_key key : ℕ) (put : puts.Put) → its_key ≢ key → made_on session key ((its_key, put) ∷ []) ≡ []
 made_elsewhere session its_key key put other =
     ap (λ t. puts_of_session session (map (λ (entry : ℕ × puts.Put). entry.1) (cond t ((its_key, put) ∷ []) []))) (differs its_key key other)
 
 -- nor is one of another session
-made_by_other : (session its_key key : ℕ) (put : puts.Put) → session ≢ put.session → made_on session key ((its_key, put) ∷ []) ≡ []
+pub made_by_other : (session its_key key : ℕ) (put : puts.Put) → session ≢ put.session → made_on session key ((its_key, put) ∷ []) ≡ []
 made_by_other session its_key key put other =
     elim (its_key == key) as (λ t. puts_of_session session (map (λ (entry : ℕ × puts.Put). entry.1) (cond t ((its_key, put) ∷ []) [])) ≡ []) [
       | true ↦ ap (λ t. cond t (put ∷ []) []) (differs session put.session other)
@@ -101,7 +101,7 @@ raised_to_next None number next = refl
 raised_to_next (Some n) number next = omega (arith, next)
 
 -- a put counts on its key
-count_put : (own : List (ℕ × ℕ)) (key number : ℕ) → number ≡ count_of key own + 1 → count_of key (joined_clocks own (one_count key number)) ≡ number
+pub count_put : (own : List (ℕ × ℕ)) (key number : ℕ) → number ≡ count_of key own + 1 → count_of key (joined_clocks own (one_count key number)) ≡ number
 count_put own key zero next = absurd (omega (arith, next))
 count_put own key (suc n) next =
     let value : ℕ = with_old max (find nat_cmp key own) (suc n) in
@@ -110,7 +110,7 @@ count_put own key (suc n) next =
     ∙ raised_to_next (find nat_cmp key own) (suc n) next
 
 -- and on no other
-count_put_elsewhere : (own : List (ℕ × ℕ)) (its_key key number : ℕ) → its_key ≢ key → count_of key (joined_clocks own (one_count its_key number)) ≡ count_of key own
+pub count_put_elsewhere : (own : List (ℕ × ℕ)) (its_key key number : ℕ) → its_key ≢ key → count_of key (joined_clocks own (one_count its_key number)) ≡ count_of key own
 count_put_elsewhere own its_key key zero other = refl
 count_put_elsewhere own its_key key (suc n) other =
     let value : ℕ = with_old max (find nat_cmp its_key own) (suc n) in

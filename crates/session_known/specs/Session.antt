@@ -2,6 +2,7 @@
 use Rattle.std.specs.Prelude.{ℕ, ◌+◌, max, List, [], ◌∷◌, ◌++◌, Option, Some, None, unwrap_or}
 use Rattle.clock_lattice.specs.Clock.{count_of, joined_clocks, one_count}
 use Rattle.clock_lattice.specs.Needs.{clock_at, joined_needs, one_need}
+use Rattle.composed_value.specs.Cell.{PlainCell}
 use Rattle.composed_value.specs.declared.payload.Payload.{Payload}
 use Rattle.composed_value.specs.declared.put.Put as puts
 use Rattle.session_known.specs.declared.report.Answer.{Answer}
@@ -24,7 +25,12 @@ pub record Knowledge : Type 0 where
   pub lamport : ℕ
   pub own : List (ℕ × ℕ)
 
--- and the puts that are held in order, each with its key, where a transaction is begun
+-- a session and what it knows
+pub record Knows : Type 0 where
+  pub client : Client
+  pub knows : Knowledge
+
+-- what a session knows, and the puts that are held in order, each with its key, where a transaction is begun
 pub record State : Type 0 where
   pub knows : Knowledge
   pub held : Option (List (ℕ × Payload))
@@ -85,6 +91,10 @@ knows_committed client knows lamport (held ∷ others) = knows_committed client 
 abbrev pub needs_learned : Level → Option (List (ℕ × List (ℕ × ℕ))) → List (ℕ × List (ℕ × ℕ))
 needs_learned Causal (Some needs) = needs
 needs_learned level shown = []
+
+-- all that a cell has to show, its needs too
+abbrev pub shown_of : PlainCell → Shown
+shown_of cell = record { clock = cell.clock; top = cell.top; value = cell.value; needs = Some cell.needs }
 
 -- what is known once a reply has shown a cell of the key
 abbrev pub knows_shown : Client → Knowledge → ℕ → Shown → Knowledge

@@ -10,15 +10,21 @@
 //! That they mean something is carried by functions that do nothing: [`worked_reports_are_legal`] and
 //! [`changed_reports_are_refused`] have examples, and [`accepted_puts_are_numbered`],
 //! [`final_cells_agree`], [`replies_count_accepted_puts`] and [`causal_replies_cover_earlier_ones`] what
-//! holds of every legal report. The crate stands on `composed_value` and `placement` and those below
-//! them.
+//! holds of every legal report.
+//!
+//! [`Known`] is what a running session keeps between its lines: it follows `specs/Session.antt` step by
+//! step, so that whoever runs a session with it can say what was known at each line.
+//!
+//! The crate stands on `composed_value` and `placement` and those below them.
 #![tactic(auto)]
 
+mod known;
 mod laws;
 mod report;
 mod script;
 mod worked;
 
+pub use known::Known;
 pub use laws::{
     accepted_puts_are_numbered, causal_replies_cover_earlier_ones, final_cells_agree,
     replies_count_accepted_puts,

@@ -1,0 +1,206 @@
+//! What a session knows between its lines.
+ghost use Rattle.std.specs.Prelude.{◌≡◌, ◌↔◌, ◌+◌, ◌^◌, ◌<◌, max, IsTrue, OnOk, OnErr, MatchOption};
+ghost use Rattle.std.specs.Option.{option_map};
+ghost use Rattle.std.specs.Ordering.{nat_cmp};
+ghost use Rattle.std.specs.FinMap.{find};
+ghost use Rattle.session_known.specs.Lawful.{last_lamport};
+ghost use Rattle.session_known.specs.Session.{nothing_known, own_count, knows_put, shown_of, knows_shown};
+ghost use Rattle.session_known.specs.declared.script.Level.TheVariants.{Causal};
+
+use crate::Level;
+use clock_lattice::{Clock, Needs};
+use composed_value::Cell;
+use lattice_laws::{Lattice, NoMemory};
+use std::alloc::Global;
+use std::marker::Model;
+
+/// What a session knows between its lines: of each key a clock, which counts the puts that replies
+/// have shown, that the session made, or that a shown put depends on; the greatest Lamport number that
+/// it has seen or used (Lamport 1978); and how many puts it has made on each key.
+/// Contracts see the session with what it knows.
+#[derive(Debug, Drop)]
+pub struct Known {
+    session: u16,
+    level: Level,
+    needs: Needs,
+    lamport: u64,
+    // Each key with the number of puts that the session has made on it.
+    own: Clock,
+    alloc: Global,
+}
+
+impl Model for Known {
+    ghost use Rattle.session_known.specs.Session.{Knows};
+
+    ghost Value = { Knows };
+
+    ghost view = { λ known. record { client = record { session = known.session; level = known.level }; knows = record { known = known.needs; lamport = known.lamport; own = known.own } } };
+}
+
+impl Known {
+    /// What the session of this number, from 1, knows before its first line: nothing. Takes no memory.
+    pub fn new(alloc: Global, session: u16, level: Level) -> Known
+        ensures client { result.client ≡ record { session = session; level = level } }
+        ensures knows { result.knows ≡ nothing_known }
+    {
+        Known {
+            session,
+            level,
+            needs: Needs::new(alloc),
+            lamport: 0,
+            own: Clock::new(alloc),
+            alloc,
+        }
+    }
+
+    /// Takes in the cell of the key that a reply shows: its clock, its greatest Lamport number and, in a
+    /// causal session, its causal dependencies. After `NoMemory` what is known is as before.
+    pub fn note_reply(&mut self, key: u16, cell: &Cell) -> Result<(), NoMemory>
+        ensures client { self.new.client ≡ self.old.client }
+        ensures ok { OnOk result (self.new.knows ≡ knows_shown self.old.client self.old.knows key (shown_of cell.now)) }
+        ensures err { OnErr result (self.new.knows ≡ self.old.knows) }
+    {
+        if learns_needs(self.level) {
+            self.needs.known();
+            cell.known();
+            let mut needs = self.needs.joined(cell.needs())?;
+            needs.raise(key, cell.clock())?;
+            self.needs = needs;
+        } else {
+            self.needs.raise(key, cell.clock())?;
+        }
+        self.lamport = self.lamport.max(cell.top());
+        Ok(())
+    }
+
+    /// Takes in a put on the key that the session makes at the Lamport number, from 0 to
+    /// 18,446,744,073,709,551,615: it is the session's next put on the key, and the Lamport number that is
+    /// known is never lowered. After `NoMemory` what is known is as before.
+    pub fn note_put(&mut self, key: u16, lamport: u64) -> Result<(), NoMemory>
+        requires { own_count self.old.knows key + 1 < 2 ^ 64 }
+        ensures client { self.new.client ≡ self.old.client }
+        ensures ok { OnOk result (self.new.knows ≡ knows_put self.old.client self.old.knows key (own_count self.old.knows key + 1) (max self.old.knows.lamport lamport)) }
+        ensures err { OnErr result (self.new.knows ≡ self.old.knows) }
+    {
+        let number = self.own.count(key) + 1;
+        let mut own = self.own.copy()?;
+        own.raise(key, number)?;
+        let mut made = Clock::new(self.alloc);
+        made.raise(self.session, number)?;
+        self.needs.raise(key, &made)?;
+        self.own = own;
+        self.lamport = self.lamport.max(lamport);
+        Ok(())
+    }
+
+    /// The Lamport number of the session's next put, from 1: one above all that it has seen or used,
+    /// and nothing where 18,446,744,073,709,551,615 is seen or used, so that none is left. Takes no
+    /// memory.
+    pub fn next_number(&self) -> Option<u64>
+        ensures { MatchOption result (self.now.knows.lamport ≡ last_lamport) (λ number. number ≡ self.now.knows.lamport + 1) }
+    {
+        self.lamport.checked_add(1)
+    }
+
+    /// How many puts the session has made on the key, 0 for most. Takes no memory.
+    pub fn own(&self, key: u16) -> u64
+        ensures { result ≡ own_count self.now.knows key }
+    {
+        self.own.count(key)
+    }
+
+    /// The clock that is known of the key, and nothing where no put on it is known. Takes no memory.
+    pub fn clock_for(&self, key: u16) -> Option<&Clock>
+        ensures { option_map (λ clock. clock.now) result ≡ find nat_cmp key self.now.knows.known }
+    {
+        self.needs.of(key)
+    }
+
+    /// The clocks that are known, key by key: the causal dependencies of a causal session's next put.
+    /// Takes no memory.
+    pub fn needs(&self) -> &Needs
+        ensures { result.now ≡ self.now.knows.known }
+    {
+        &self.needs
+    }
+}
+
+// Whether a session of the level learns the causal dependencies that a reply shows.
+fn learns_needs(level: Level) -> bool
+    ensures { IsTrue result ↔ (level ≡ Causal) }
+{
+    matches!(level, Level::Causal)
+}
+
+#[cfg(test)]
+mod tests {
+    use super::*;
+    use composed_value::{Payload, Put};
+    use std::test::Fail;
+
+    // The cell of the third put of session 2 on a key, at the Lamport number; it needs one put of
+    // session 3 on key 7.
+    fn shown(alloc: Global, lamport: u64) -> Result<Cell, Fail> {
+        let mut one = Clock::new(alloc);
+        one.raise(3, 1)?;
+        let mut needs = Needs::new(alloc);
+        needs.raise(7, &one)?;
+        let put = Put {
+            session: 2,
+            number: 3,
+            lamport,
+            place: 0,
+            seen: Clock::new(alloc),
+            needs,
+            payload: Payload::On,
+        };
+        Ok(Cell::of_put(alloc, &put)?)
+    }
+
+    fn counts(known: &Known, key: u16, session: u16) -> u64 {
+        known.clock_for(key).map_or(0, |clock| clock.count(session))
+    }
+
+    #[test]
+    fn a_causal_session_learns_needs(rt: HostRuntime) -> Result<(), Fail> {
+        let cell = shown(rt.alloc(), 9)?;
+        for (level, learned) in [
+            (Level::Causal, 1),
+            (Level::Committed, 0),
+            (Level::Eventual, 0),
+        ] {
+            let mut known = Known::new(rt.alloc(), 1, level);
+            assert_eq!(rt; known.next_number(), Some(1));
+            known.note_reply(5, &cell)?;
+            assert_eq!(rt; counts(&known, 5, 2), 3);
+            assert_eq!(rt; counts(&known, 7, 3), learned);
+            assert_eq!(rt; known.own(5), 0);
+            assert_eq!(rt; known.next_number(), Some(10));
+        }
+        Ok(())
+    }
+
+    #[test]
+    fn a_session_knows_its_puts(rt: HostRuntime) -> Result<(), Fail> {
+        let mut known = Known::new(rt.alloc(), 4, Level::Eventual);
+        known.note_put(5, 6)?;
+        known.note_put(5, 2)?;
+        assert_eq!(rt; known.own(5), 2);
+        assert_eq!(rt; known.own(6), 0);
+        assert_eq!(rt; counts(&known, 5, 4), 2);
+        assert!(rt; known.clock_for(6).is_none());
+        assert_eq!(rt; known.needs().len(), 1);
+        assert_eq!(rt; known.next_number(), Some(7));
+        Ok(())
+    }
+
+    #[test]
+    fn no_number_is_left_behind_the_greatest(rt: HostRuntime) -> Result<(), Fail> {
+        let mut known = Known::new(rt.alloc(), 1, Level::Eventual);
+        known.note_reply(1, &shown(rt.alloc(), 18_446_744_073_709_551_614)?)?;
+        assert_eq!(rt; known.next_number(), Some(18_446_744_073_709_551_615));
+        known.note_reply(1, &shown(rt.alloc(), 18_446_744_073_709_551_615)?)?;
+        assert_eq!(rt; known.next_number(), None);
+        Ok(())
+    }
+}
