@@ -1,0 +1,129 @@
+-- The texts of a report's parts, and what a report in form names.
+use Rattle.std.proofs.Common.{◌≡◌, ℕ, ◌<◌, min, List, [], ◌∷◌, ◌++◌, map, take, length, get_or, Some, codes, sym, ap, refl, subst, ◌∙◌, append_assoc, arith}
+use Rattle.std.proofs.lemmas.List.{take_all, length-map, get_or-map}
+use Rattle.std.proofs.lemmas.List.Concat.{flat_map-append}
+use Rattle.std.proofs.lemmas.List.Elements.{All-nil, All-cons, All-head, All-tail, All-append, All-map, All-from_get_or}
+use Rattle.std.proofs.lemmas.List.FromFn.{get_or-range_with_len, length-range_with_len}
+use Rattle.std.proofs.lemmas.Option.{slice_get-get_or}
+use Rattle.std.proofs.lemmas.Slice.Zip.{length-zip, get_or-zip}
+use Rattle.std.specs.List.{All, AllZip, flat_map, range_with_len, slice_get, zip}
+use Rattle.session_known.specs.Form.{Fits, HasForm, final_places, replicas_ascending}
+use Rattle.session_known.specs.Script.{IsOneOf, IsValidScript, IsValidSession, MayStand}
+use Rattle.session_known.specs.declared.report.Answer.{Answer}
+use Rattle.session_known.specs.declared.report.FinalCell.{FinalCell}
+use Rattle.session_known.specs.declared.report.Report.{Report}
+use Rattle.session_known.specs.declared.script.Level.{Level}
+use Rattle.session_known.specs.declared.script.Line.{Line}
+use Rattle.session_known.specs.declared.script.Script.{Script}
+use Rattle.session_known.specs.declared.script.SessionPlan.{SessionPlan}
+use Rattle.report_text.specs.Text.{level_word, answer_words, answers_lines, sessions_lines, final_words, line_text, text_of}
+use Rattle.report_text.specs.Writes.{MayAnswer, session_text, line_of}
+use Rattle.report_text.proofs.WritesLemmas.{line_text_is}
+
+-- ---- pairs of two lists
+
+-- the pair at a place
+pub zip_at : {A B : Type 0} (ks : List A) (vs : List B) (i : ℕ) (k : A) (v : B) → i < length ks → i < length vs → k ≡ get_or ks i k → v ≡ get_or vs i v → slice_get (zip ks vs) i ≡ Some (k, v)
+zip_at {A} {B} ks vs i k v left right k_is v_is =
+    let pair : A × B = (k, v) in
+    let here : get_or (zip ks vs) i pair ≡ (k, v) = get_or-zip ks vs i pair left right ∙ ap (λ (key : A). (key, get_or vs i v)) (sym k_is) ∙ ap (λ (value : B). (k, value)) (sym v_is) in
+    slice_get-get_or (zip ks vs) i pair (omega (arith, length-zip ks vs)) ∙ ap Some here
+
+-- all pairs
+pub zip_all : {A B : Type 0} (ks : List A) (vs : List B) (n : ℕ) → n ≡ min (length ks) (length vs) → zip ks vs ≡ take n (zip ks vs)
+zip_all ks vs n n_is = sym (take_all n (zip ks vs) (omega (arith, length-zip ks vs)))
+
+-- what holds of two lists side by side holds of each pair
+pub All-zip : {A B : Type 0} (R : A → B → Type 0) (ks : List A) (vs : List B) → AllZip R ks vs → All (λ pair. R pair.0 pair.1) (zip ks vs)
+All-zip R [] [] h = All-nil (λ pair. R pair.0 pair.1)
+All-zip R [] (v ∷ vs) h = absurd h
+All-zip R (k ∷ ks) [] h = absurd h
+All-zip R (k ∷ ks) (v ∷ vs) h = All-cons (λ pair. R pair.0 pair.1) (k, v) (zip ks vs) h.0 (All-zip R ks vs h.1)
+
+-- ---- texts
+
+-- the text of a session's answers, answer by answer
+pub answers_text : (script : Script) (lines : List Line) (answers : List Answer) → flat_map line_text (answers_lines script lines answers) ≡ flat_map (λ pair. line_text (answer_words script pair.0 pair.1)) (zip lines answers)
+answers_text script [] answers = refl
+answers_text script (line ∷ lines) [] = refl
+answers_text script (line ∷ lines) (answer ∷ answers) = ap (λ rest. line_text (answer_words script line answer) ++ rest) (answers_text script lines answers)
+
+-- the text of the sessions, session by session
+pub sessions_text : (script : Script) (plans : List SessionPlan) (others : List (List Answer)) → flat_map line_text (sessions_lines script plans others) ≡ flat_map (λ pair. session_text script pair.0 pair.1) (zip plans others)
+sessions_text script [] others = refl
+sessions_text script (plan ∷ plans) [] = refl
+sessions_text script (plan ∷ plans) (answers ∷ others) =
+    let head = line_text (codes "session" ∷ plan.name ∷ level_word plan.level ∷ []) in
+    let lines = answers_lines script plan.lines answers in
+    ap (λ rest. head ++ rest) (flat_map-append line_text lines (sessions_lines script plans others) ∙ ap (λ rest. flat_map line_text lines ++ rest) (sessions_text script plans others))
+    ∙ sym (append_assoc head (flat_map line_text lines) (flat_map (λ pair. session_text script pair.0 pair.1) (zip plans others)))
+
+-- the text of the final cells and of the end, cell by cell
+finals_text : (script : Script) (finals : List FinalCell) (behind : List (List (List ℕ))) → flat_map line_text (map (final_words script) finals ++ behind) ≡ flat_map (λ cell. line_text (final_words script cell)) finals ++ flat_map line_text behind
+finals_text script [] behind = refl
+finals_text script (cell ∷ finals) behind =
+    ap (λ rest. line_text (final_words script cell) ++ rest) (finals_text script finals behind)
+    ∙ sym (append_assoc (line_text (final_words script cell)) (flat_map (λ cell. line_text (final_words script cell)) finals) (flat_map line_text behind))
+
+-- the text of a report, by what is written one after another
+pub report_text : (script : Script) (report : Report) → text_of script report ≡ codes "anna report 1\n" ++ (flat_map line_text (sessions_lines script script.sessions report.answers) ++ (codes "final\n" ++ (flat_map (λ cell. line_text (final_words script cell)) report.finals ++ codes "end\n")))
+report_text script report =
+    ap (λ rest. codes "anna report 1\n" ++ rest) (flat_map-append line_text (sessions_lines script script.sessions report.answers) ((codes "final" ∷ []) ∷ (map (final_words script) report.finals ++ (codes "end" ∷ []) ∷ [])))
+    ∙ ap (λ rest. codes "anna report 1\n" ++ (flat_map line_text (sessions_lines script script.sessions report.answers) ++ (codes "final\n" ++ rest))) (finals_text script report.finals ((codes "end" ∷ []) ∷ []))
+
+-- the line of an answer, of the line and the answer that are there
+pub answer_line : (script : Script) (line line' : Line) (answer answer' : Answer) → line ≡ line' → answer ≡ answer' → line_text (answer_words script line answer) ≡ line_of (answer_words script line' answer')
+answer_line script line line' answer answer' line_is answer_is =
+    ap (λ line. line_text (answer_words script line answer)) line_is ∙ ap (λ answer. line_text (answer_words script line' answer)) answer_is ∙ line_text_is (answer_words script line' answer')
+
+-- ---- what a report in form names
+
+-- each answer of a session is one that its line may have
+answers_may : (script : Script) (table : List (List ℕ)) (level : Level) (lines : List Line) (answers : List Answer) → All (MayStand script table level) lines → AllZip (Fits script level) lines answers → AllZip (MayAnswer script) lines answers
+answers_may script table level [] [] stand fit = tt
+answers_may script table level [] (answer ∷ answers) stand fit = absurd fit
+answers_may script table level (line ∷ lines) [] stand fit = absurd fit
+answers_may script table level (line ∷ lines) (answer ∷ answers) stand fit = (
+  (table, level, All-head (MayStand script table level) line lines stand, fit.0),
+  answers_may script table level lines answers (All-tail (MayStand script table level) line lines stand) fit.1,
+)
+
+-- and so in each session
+sessions_may : (script : Script) (table : List (List ℕ)) (plans : List SessionPlan) (others : List (List Answer)) → All (IsValidSession script table) plans → AllZip (λ plan answers. AllZip (Fits script plan.level) plan.lines answers) plans others → AllZip (λ plan answers. AllZip (MayAnswer script) plan.lines answers) plans others
+sessions_may script table [] [] valid fit = tt
+sessions_may script table [] (answers ∷ others) valid fit = absurd fit
+sessions_may script table (plan ∷ plans) [] valid fit = absurd fit
+sessions_may script table (plan ∷ plans) (answers ∷ others) valid fit = (
+  answers_may script table plan.level plan.lines answers (All-head (IsValidSession script table) plan plans valid).lines fit.0,
+  sessions_may script table plans others (All-tail (IsValidSession script table) plan plans valid) fit.1,
+)
+
+-- Each answer of a report in form is one that its line may have.
+pub report_may : (script : Script) (table : List (List ℕ)) (report : Report) → IsValidScript script table → HasForm script table report → AllZip (λ plan answers. AllZip (MayAnswer script) plan.lines answers) script.sessions report.answers
+report_may script table report valid form = sessions_may script table script.sessions report.answers valid.sessions form.answers
+
+-- what holds of each part holds of the parts joined
+All-flat_map : {A B : Type 0} (Q : A → Type 0) (P : B → Type 0) (parts : A → List B) (items : List A) → ((item : A) → Q item → All P (parts item)) → All Q items → All P (flat_map parts items)
+All-flat_map Q P parts [] each all = All-nil P
+All-flat_map Q P parts (item ∷ items) each all = All-append P (parts item) (flat_map parts items) (each item (All-head Q item items all)) (All-flat_map Q P parts items each (All-tail Q item items all))
+
+-- the numbers from 1 to n
+All-one_of : (n : ℕ) → All (IsOneOf n) (range_with_len 1 n)
+All-one_of n = All-from_get_or (IsOneOf n) (range_with_len 1 n) 0 (λ i within. let within' : i < n = omega (arith, length-range_with_len 1 n) in rw (get_or-range_with_len 1 n i 0 within') (omega arith, omega arith))
+
+-- the places of final cells have keys of the script
+places_keys : (script : Script) (table : List (List ℕ)) → All (λ place. IsOneOf (length script.config.keys) place.0) (final_places script table)
+places_keys script table =
+    All-flat_map (IsOneOf (length script.config.keys)) (λ (place : ℕ × ℕ). IsOneOf (length script.config.keys) place.0) (λ key. map (λ worker. (key, worker)) (replicas_ascending script table key)) (range_with_len 1 (length script.config.keys))
+    (λ key is_key. All-map (λ (place : ℕ × ℕ). IsOneOf (length script.config.keys) place.0) (λ worker. (key, worker)) (replicas_ascending script table key) (λ k d within. is_key))
+    (All-one_of (length script.config.keys))
+
+-- what holds of what is made of each item
+All-from_map : {A B : Type 0} (P : B → Type 0) (f : A → B) (items : List A) → All P (map f items) → All (λ item. P (f item)) items
+All-from_map P f items all k d within = subst P (get_or-map f items k d (f d) within) (all k (f d) (omega (arith, length-map items f)))
+
+-- The final cells of a report in form have keys of the script.
+pub finals_keys : (script : Script) (table : List (List ℕ)) (report : Report) → HasForm script table report → All (λ cell. IsOneOf (length script.config.keys) cell.key) report.finals
+finals_keys script table report form =
+    All-from_map (λ (place : ℕ × ℕ). IsOneOf (length script.config.keys) place.0) (λ cell. (cell.key, cell.worker)) report.finals
+    (subst (All (λ (place : ℕ × ℕ). IsOneOf (length script.config.keys) place.0)) (sym form.places) (places_keys script table))

@@ -1,0 +1,11 @@
+pub mod AnswersLaws
+pub mod ClocksLaws
+pub mod LinesLaws
+pub mod NamesLaws
+pub mod RenderingLaws
+pub mod ReportsLaws
+pub mod RowsLaws
+pub mod Text
+pub mod TextLaws
+pub mod ValuesLaws
+pub mod Writes

@@ -1,0 +1,153 @@
+-- The text of a report: lines, each a list of words, and one rendering of them to bytes.
+use Rattle.std.specs.Prelude.{ℕ, ◌-◌, ◌==◌, if◌then◌else◌, List, [], ◌∷◌, ◌++◌, map, slice_index_or, codes, Option, Some, None}
+use Rattle.std.specs.List.{join_with_byte, flat_map}
+use Rattle.std.specs.Fmt.{decimal}
+use Rattle.lattice_laws.specs.declared.maybe.Maybe.TheVariants.{Bottom, Is}
+use Rattle.basic_lattices.specs.declared.stamped.Stamped.{Stamped}
+use Rattle.version_antichain.specs.declared.version.Version.{Version}
+use Rattle.composed_value.specs.declared.value.Value.{Value}
+use Rattle.composed_value.specs.declared.value.Value.TheVariants as values
+use Rattle.session_known.specs.declared.report.Answer.{Answer}
+use Rattle.session_known.specs.declared.report.Answer.TheVariants as answers
+use Rattle.session_known.specs.declared.report.FinalCell.{FinalCell}
+use Rattle.session_known.specs.declared.report.Report.{Report}
+use Rattle.session_known.specs.declared.report.Shown.{Shown}
+use Rattle.session_known.specs.declared.script.Level.{Level}
+use Rattle.session_known.specs.declared.script.Level.TheVariants.{Eventual, Committed, Causal}
+use Rattle.session_known.specs.declared.script.Line.{Line}
+use Rattle.session_known.specs.declared.script.Line.TheVariants as lines
+use Rattle.session_known.specs.declared.script.Script.{Script}
+use Rattle.session_known.specs.declared.script.SessionPlan.{SessionPlan}
+
+-- the name of a key, by its number
+abbrev pub key_name : Script → ℕ → List ℕ
+key_name script key = slice_index_or (map (λ place. place.name) script.config.keys) (key - 1) []
+
+-- the name of a session, by its number
+abbrev pub session_name : Script → ℕ → List ℕ
+session_name script session = slice_index_or (map (λ plan. plan.name) script.sessions) (session - 1) []
+
+-- ---- words
+
+-- a list between commas, or a dash where it is empty
+abbrev pub listed : List (List ℕ) → List ℕ
+listed [] = codes "-"
+listed (item ∷ items) = join_with_byte 44 (item ∷ items)
+
+-- a list between commas in braces, or `none` where it is empty
+abbrev pub braced : List (List ℕ) → List ℕ
+braced [] = codes "none"
+braced (item ∷ items) = codes "{" ++ (join_with_byte 44 (item ∷ items) ++ codes "}")
+
+-- a session with the number of its puts: `NAME:COUNT`
+abbrev pub count_text : Script → ℕ × ℕ → List ℕ
+count_text script entry = session_name script entry.0 ++ (codes ":" ++ decimal entry.1)
+
+abbrev pub clock_word : Script → List (ℕ × ℕ) → List ℕ
+clock_word script clock = listed (map (count_text script) clock)
+
+-- a key with the clock that is needed of it: `KEY{CLOCK}`
+abbrev pub need_text : Script → ℕ × List (ℕ × ℕ) → List ℕ
+need_text script entry = key_name script entry.0 ++ (codes "{" ++ (clock_word script entry.1 ++ codes "}"))
+
+abbrev pub needs_word : Script → List (ℕ × List (ℕ × ℕ)) → List ℕ
+needs_word script needs = listed (map (need_text script) needs)
+
+-- a field with its number: `FIELD=NUMBER`
+abbrev pub field_text : List ℕ × ℕ → List ℕ
+field_text field = field.0 ++ (codes "=" ++ decimal field.1)
+
+-- a stamped word: `WORD/NUMBER/SESSION/PLACE`
+abbrev pub stamped_text : Script → Stamped → List ℕ
+stamped_text script stamped = stamped.word ++ (codes "/" ++ (decimal stamped.number ++ (codes "/" ++ (session_name script stamped.session ++ (codes "/" ++ decimal stamped.place)))))
+
+-- a version: `WORD(CLOCK)`
+abbrev pub version_text : Script → Version → List ℕ
+version_text script version = version.word ++ (codes "(" ++ (clock_word script version.clock ++ codes ")"))
+
+-- versions between vertical bars, or `none` where there is none
+abbrev pub versions_word : Script → List Version → List ℕ
+versions_word script [] = codes "none"
+versions_word script (version ∷ versions) = join_with_byte 124 (map (version_text script) (version ∷ versions))
+
+abbrev pub value_word : Script → Value → List ℕ
+value_word script (values.Max Bottom) = codes "none"
+value_word script (values.Max (Is number)) = decimal number
+value_word script (values.Or on) = if on then codes "on" else codes "none"
+value_word script (values.Set words) = braced words
+value_word script (values.Map fields) = braced (map field_text fields)
+value_word script (values.Last Bottom) = codes "none"
+value_word script (values.Last (Is stamped)) = stamped_text script stamped
+value_word script (values.Versions versions) = versions_word script versions
+
+abbrev pub worker_word : ℕ → List ℕ
+worker_word worker = codes "@" ++ decimal worker
+
+abbrev pub level_word : Level → List ℕ
+level_word Eventual = codes "eventual"
+level_word Committed = codes "committed"
+level_word Causal = codes "causal"
+
+-- ---- lines
+
+-- a cell: `clock CLOCK top T value VALUE`
+abbrev pub cell_words : Script → List (ℕ × ℕ) → ℕ → Value → List (List ℕ) → List (List ℕ)
+cell_words script clock top value behind = codes "clock" ∷ clock_word script clock ∷ codes "top" ∷ decimal top ∷ codes "value" ∷ value_word script value ∷ behind
+
+abbrev pub needs_words : Script → Option (List (ℕ × List (ℕ × ℕ))) → List (List ℕ)
+needs_words script None = []
+needs_words script (Some needs) = codes "needs" ∷ needs_word script needs ∷ []
+
+-- what a worker showed: `@W CELL`, and `needs NEEDS` in a causal session
+abbrev pub shown_words : Script → ℕ → Shown → List (List ℕ)
+shown_words script worker shown = worker_word worker ∷ cell_words script shown.clock shown.top shown.value (needs_words script shown.needs)
+
+-- the clock of an end of asking: `after ASKS @W clock CLOCK`
+abbrev pub again_words : Script → ℕ → ℕ → List (ℕ × ℕ) → List (List ℕ)
+again_words script asks worker clock = codes "after" ∷ decimal asks ∷ worker_word worker ∷ codes "clock" ∷ clock_word script clock ∷ []
+
+-- the line of an answer
+abbrev pub answer_words : Script → Line → Answer → List (List ℕ)
+answer_words script (lines.Put key payload) (answers.Put number lamport) = codes "put" ∷ key_name script key ∷ decimal number ∷ codes "at" ∷ decimal lamport ∷ []
+answer_words script (lines.Put key payload) answers.Held = codes "put" ∷ key_name script key ∷ codes "held" ∷ []
+answer_words script (lines.Put key payload) answers.Worn = codes "put" ∷ key_name script key ∷ codes "worn" ∷ []
+answer_words script (lines.Get key named) (answers.Got worker shown) = codes "get" ∷ key_name script key ∷ shown_words script worker shown
+answer_words script (lines.Get key named) (answers.Again asks worker clock) = codes "again" ∷ key_name script key ∷ again_words script asks worker clock
+answer_words script (lines.Await key session count) (answers.Got worker shown) = codes "await" ∷ key_name script key ∷ session_name script session ∷ decimal count ∷ shown_words script worker shown
+answer_words script (lines.Await key session count) (answers.Again asks worker clock) = codes "await" ∷ key_name script key ∷ session_name script session ∷ decimal count ∷ codes "gave" ∷ codes "up" ∷ again_words script asks worker clock
+answer_words script lines.Begin answers.Begun = codes "begin" ∷ []
+answer_words script lines.Commit (answers.Committed puts lamport) = if puts == 0 then codes "commit" ∷ codes "0" ∷ [] else codes "commit" ∷ decimal puts ∷ codes "at" ∷ decimal lamport ∷ []
+answer_words script lines.Commit answers.Worn = codes "commit" ∷ codes "worn" ∷ []
+answer_words script lines.Abort (answers.Aborted puts) = codes "abort" ∷ decimal puts ∷ []
+answer_words script line answer = []
+
+-- the lines of a session's answers
+abbrev pub answers_lines : Script → List Line → List Answer → List (List (List ℕ))
+answers_lines script (line ∷ lines) (answer ∷ answers) = answer_words script line answer ∷ answers_lines script lines answers
+answers_lines script lines answers = []
+
+-- the lines of the sessions
+abbrev pub sessions_lines : Script → List SessionPlan → List (List Answer) → List (List (List ℕ))
+sessions_lines script (plan ∷ plans) (answers ∷ others) =
+    (codes "session" ∷ plan.name ∷ level_word plan.level ∷ []) ∷ (answers_lines script plan.lines answers ++ sessions_lines script plans others)
+sessions_lines script plans others = []
+
+-- the line of a final cell: `K @W CELL`
+abbrev pub final_words : Script → FinalCell → List (List ℕ)
+final_words script cell = key_name script cell.key ∷ worker_word cell.worker ∷ cell_words script cell.clock cell.top cell.value []
+
+-- The lines of a report, each a list of words.
+abbrev pub report_lines : Script → Report → List (List (List ℕ))
+report_lines script report =
+    (codes "anna" ∷ codes "report" ∷ codes "1" ∷ [])
+    ∷ (sessions_lines script script.sessions report.answers
+    ++ ((codes "final" ∷ []) ∷ (map (final_words script) report.finals
+    ++ (codes "end" ∷ []) ∷ [])))
+
+-- a line as it is written: its words with one space between each two, and a line feed
+abbrev pub line_text : List (List ℕ) → List ℕ
+line_text words = join_with_byte 32 words ++ 10 ∷ []
+
+-- The text of a report.
+abbrev pub text_of : Script → Report → List ℕ
+text_of script report = flat_map line_text (report_lines script report)

@@ -1,0 +1,16 @@
+//! The text of a report.
+//!
+//! `specs/Text.antt` defines it: a report is a list of lines, each a list of words, and the bytes are one
+//! rendering of these. No two reports of a script's form have one text ([`texts_tell_reports_apart`]).
+//! [`write_report`] writes it into a sink, piece by piece, and [`write_final`] the line of one final cell;
+//! they take no memory.
+#![tactic(auto)]
+
+mod answers;
+mod cells;
+mod laws;
+mod pieces;
+mod report;
+
+pub use laws::texts_tell_reports_apart;
+pub use report::{write_final, write_report};
