@@ -1,3 +1,3 @@
-pub mod ReportText
-pub mod Serving
+pub mod ReportLemmas
+pub mod ServingLemmas
 pub mod Taking

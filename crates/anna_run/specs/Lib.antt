@@ -1,3 +1,14 @@
-pub mod FirstReport
+pub mod OneCellFormLaws
+pub mod OneCellLaws
+pub mod OneKnownLaws
+pub mod OneLinesLaws
+pub mod OnePlaceLaws
+pub mod OnePutsLaws
+pub mod OneRunLaws
+pub mod OneSessionLaws
+pub mod OneWorker
+pub mod OneWorkerLaws
+pub mod Outcomes
 pub mod Run
+pub mod Serving
 pub mod Words

@@ -1,9 +1,13 @@
 -- What the program owes, by its status.
-use Rattle.std.specs.Prelude.{◌≡◌, ℕ, ◌+◌, List, [], ◌∷◌, ◌++◌, Option, Some, None, codes}
+use Rattle.std.specs.Prelude.{◌≡◌, ℕ, ◌+◌, false, List, [], ◌∷◌, ◌++◌, Option, Some, None, codes}
 use Rattle.std.specs.Fmt.{decimal}
 use Rattle.script_reader.specs.Outside.{Rose, NoneLeft, TookMost}
-use Rattle.script_reader.specs.FirstForm.{Script, most_bytes, IsFirstScript, IsRefused}
-use Rattle.anna_run.specs.FirstReport.{Report, IsLegal, text_of}
+use Rattle.script_reader.specs.Grammar.{most_bytes, IsScript, IsRefused}
+use Rattle.script_reader.specs.declared.built.Built.{Built}
+use Rattle.session_known.specs.Legal.{IsLegal}
+use Rattle.session_known.specs.declared.report.Report.{Report}
+use Rattle.session_known.specs.declared.script.Script.{Script}
+use Rattle.report_text.specs.Text.{text_of}
 use Rattle.anna_run.specs.declared.words.Command.{Command}
 use Rattle.anna_run.specs.declared.words.Command.TheVariants.{Run}
 use Rattle.anna_run.specs.declared.run.Status.{Status}
@@ -38,15 +42,23 @@ read_fault_text = codes "read fault" ++ 10 ∷ []
 abbrev pub refusal_text : ℕ → ℕ → List ℕ
 refusal_text line code = codes "refused line " ++ decimal line ++ codes ": code " ++ decimal code ++ 10 ∷ []
 
--- The whole input was taken, it is a script, and the text is that of a report that the script is owed.
-pub record IsServed (source : SourceUse) (text : List ℕ) : Type 0 where
+-- the forms of script that are served: one worker, and eventual sessions
+abbrev pub served_forms : Built
+served_forms = record { workers = false; levels = false }
+
+-- The whole input was taken, it is a script, and the report is legal for it.
+pub record HasServed (source : SourceUse) (script : Script) (report : Report) : Type 0 where
   pub bytes : List ℕ
-  pub script : Script
-  pub report : Report
   pub taken : TookMost most_taken source.left_before source.left_now bytes
   pub whole : NoneLeft source.left_now
-  pub is_script : IsFirstScript bytes script
+  pub is_script : IsScript served_forms bytes script
   pub is_legal : IsLegal script report
+
+-- The text is that of such a report.
+pub record IsServed (source : SourceUse) (text : List ℕ) : Type 0 where
+  pub script : Script
+  pub report : Report
+  pub served : HasServed source script report
   pub is_text : text ≡ text_of script report
 
 -- The input, or its first bytes where it is too long, is refused, and the text says at which line and with which code.
@@ -55,7 +67,7 @@ pub record IsRefusal (source : SourceUse) (text : List ℕ) : Type 0 where
   pub line : ℕ
   pub code : ℕ
   pub taken : TookMost most_taken source.left_before source.left_now bytes
-  pub refused : IsRefused bytes line code
+  pub refused : IsRefused served_forms bytes line code
   pub is_text : text ≡ refusal_text line code
 
 -- Which text goes with which status, where these words were given and the source was used so. Of WriteFault see `Ends`.

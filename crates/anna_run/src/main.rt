@@ -4,8 +4,8 @@
 //! and ends with the status that it answers.
 #![tactic(auto)]
 
-mod report;
 mod run;
+mod serve;
 mod words;
 
 use run::{Status, run};

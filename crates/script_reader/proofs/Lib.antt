@@ -1,11 +1,7 @@
 pub mod CommandLemmas
 pub mod DeclaredLemmas
-pub mod FirstLaws
-pub mod FirstLemmas
 pub mod GrammarLemmas
 pub mod LineLemmas
 pub mod OutsideLemmas
 pub mod PinLemmas
-pub mod ReadFirst
-pub mod TextLemmas
 pub mod WordLemmas

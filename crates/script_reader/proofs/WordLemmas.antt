@@ -3,19 +3,20 @@ use Rattle.std.proofs.Common.{◌≡◌, ℕ, ◌<◌, ◌^◌, Bool, true, fals
 use Rattle.std.specs.Char.{is_ascii_digit}
 use Rattle.std.specs.List.{list_all}
 use Rattle.std.specs.Result.{OkIff, result_ok}
-use Rattle.std.specs.Str.{IsUtf8, all_ascii_digits}
-use Rattle.std.specs.Str.Parse.{digits_value, ParsesUnsigned}
+use Rattle.std.specs.Str.{IsAscii, IsUtf8, all_ascii_digits}
+use Rattle.std.specs.Str.Parse.{AllDigits, digits_value, ParsesUnsigned}
 use Rattle.std.proofs.lemmas.Bool.Decides.{nat_tests}
 use Rattle.std.proofs.lemmas.List.Sums.{list_all-from_AllPass}
 use Rattle.std.proofs.lemmas.Str.{IsUtf8-from_ascii}
-use Rattle.std.proofs.lemmas.Str.Parse.{IsNumeralModel, tells_all_ascii_digits, numerals_by_value, parse_digits}
+use Rattle.std.proofs.lemmas.Bool.{cases_lt}
+use Rattle.std.proofs.lemmas.List.{get_or_past}
+use Rattle.std.proofs.lemmas.Str.Parse.{digit_at, IsNumeralModel, tells_all_ascii_digits, numerals_by_value, parse_digits}
 use Rattle.basic_lattices.specs.Word.{IsWhyNoWord}
 use Rattle.basic_lattices.specs.declared.word.WordFault.{WordFault}
 use Rattle.basic_lattices.specs.declared.word.WordFault.TheVariants as faults
 use Rattle.lattice_laws.specs.Spelling.{is_spelling_byte, IsSpelled, IsWhyMisspelled}
 use Rattle.lattice_laws.specs.declared.spelling.Misspelled.{Misspelled}
 use Rattle.lattice_laws.specs.declared.spelling.Misspelled.TheVariants.{Length, Byte}
-use Rattle.script_reader.proofs.TextLemmas.{digits_ascii}
 use Rattle.script_reader.specs.ValidListsLaws.{is_spelling}
 use Rattle.script_reader.specs.Words.{is_spelled, is_numeral, number_said, word_said}
 
@@ -36,6 +37,15 @@ not_spelled most word Byte why is = why.2 is.allowed
 pub spelling_tested : (most : ℕ) (word : List ℕ) (result : Result (Unit {0}) Misspelled) → MatchResult result (λ _. IsSpelled most word) (IsWhyMisspelled most word) → is_ok result ≡ is_spelled most word
 spelling_tested most word (Ok _) is = sym (spelled_is most word is)
 spelling_tested most word (Err fault) why = sym (from_test (IsSpelled most word) (is_spelled most word) (is_spelling most word) (not_spelled most word fault why))
+
+-- digits are ASCII
+digits_ascii : (digits : List ℕ) → AllDigits 10 digits → IsAscii digits
+digits_ascii digits all i = elim (cases_lt i (length digits)) [ inl below ↦ let digit = digit_at digits i all below in omega arith | inr past ↦ let none = get_or_past digits i 0 past in omega arith ]
+
+-- where from_utf8 gave nothing, the bytes are no text
+pub no_text : {T E : Type 0} (P : T → Type 0) (U : Type 0) (Q : E → Type 0) (result : Result T E) → result_ok result ≡ None → MatchResult result P (λ e. (U → ⊥) × Q e) → U → ⊥
+no_text P U Q (Ok text) none cases = absurd (cc)
+no_text P U Q (Err e) none cases = cases.0
 
 -- a word of a value says itself
 pub word_is : (word : List ℕ) → IsSpelled 64 word → word_said word ≡ Some word

@@ -7,7 +7,7 @@ use Rattle.script_reader.specs.declared.code.Code.TheVariants as codes_of
 use Rattle.script_reader.specs.declared.keyword.Keyword.{Keyword}
 
 -- where a condition gives no code, it does not hold, and the rest gives none
-none_here : (held : Bool) (code : Code) (rest : Option Code) → cond held (Some code) rest ≡ None → (held ≡ false) × (rest ≡ None)
+pub none_here : (held : Bool) (code : Code) (rest : Option Code) → cond held (Some code) rest ≡ None → (held ≡ false) × (rest ≡ None)
 none_here true code rest none = absurd cc
 none_here false code rest none = (refl, none)
 

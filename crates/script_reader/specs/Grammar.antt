@@ -1,6 +1,7 @@
 -- The grammar of scripts: which texts are a script, and why another is none.
-use Rattle.std.specs.Prelude.{◌≡◌, ℕ, ◌+◌, ◌<◌, ◌≤◌, ◌⊎◌, true, List, ◌∷◌, ◌++◌, length, Some, None, Result, Ok, Err, IsTrue, IsFalse, ⊤}
+use Rattle.std.specs.Prelude.{◌≡◌, ℕ, ◌+◌, ◌<◌, ◌≤◌, ◌⊎◌, true, List, ◌∷◌, ◌++◌, length, Some, None, Result, Ok, Err, IsTrue, IsFalse, All, ⊤}
 use Rattle.std.specs.List.{before_first}
+use Rattle.session_known.specs.declared.script.Level.TheVariants.{Eventual}
 use Rattle.session_known.specs.declared.script.Script.{Script}
 use Rattle.script_reader.specs.Codes.{number_of_code}
 use Rattle.script_reader.specs.Faults.{Setting, code_behind}
@@ -59,6 +60,11 @@ pub record IsTooLong (text : List ℕ) (at code : ℕ) : Type 0 where
 pub record IsScript (built : Built) (text : List ℕ) (script : Script) : Type 0 where
   pub short : length text ≤ most_bytes
   pub lines : IsScriptOf (setting_of built (script_lines text)) (script_lines text) script
+
+-- A script has only forms that are served: one worker, where scripts with more are not, and eventual sessions, where others are not.
+pub record HasForms (built : Built) (script : Script) : Type 0 where
+  pub workers : IsFalse built.workers → script.config.workers ≡ 1
+  pub levels : IsFalse built.levels → All (λ plan. plan.level ≡ Eventual) script.sessions
 
 -- all forms are served
 abbrev pub all_built : Built

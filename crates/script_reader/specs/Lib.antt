@@ -1,9 +1,9 @@
+pub mod BehindLaws
 pub mod Codes
 pub mod Entries
 pub mod Faults
 pub mod FaultsLaws
-pub mod FirstDraft
-pub mod FirstForm
+pub mod FormsLaws
 pub mod Grammar
 pub mod GrammarLaws
 pub mod Keywords
@@ -16,7 +16,6 @@ pub mod Said
 pub mod SaidLaws
 pub mod Steps
 pub mod StepsLaws
-pub mod Text
 pub mod ValidContext
 pub mod ValidContextLaws
 pub mod ValidLaws

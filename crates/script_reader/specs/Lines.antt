@@ -1,10 +1,13 @@
 -- The lines of a script, and what they say.
-use Rattle.std.specs.Prelude.{ℕ, Bool, ◌==◌, if◌then◌else◌, List, [], ◌∷◌, map, slice_index_or, Option, Some, None, filter}
+use Rattle.std.specs.Prelude.{ℕ, Bool, ◌||◌, ◌==◌, nat_lt, length, if◌then◌else◌, List, [], ◌∷◌, map, slice_index_or, Option, Some, None, filter}
 use Rattle.std.specs.List.{slice_split, slice_index, filter_map, list_any}
 use Rattle.std.specs.Str.Lines.{strip_carriage_return}
 use Rattle.script_reader.specs.Keywords.{keyword_of, is_end}
-use Rattle.script_reader.specs.Text.{is_line_feed, words_of}
 use Rattle.script_reader.specs.declared.keyword.Keyword.{Keyword}
+
+-- a line feed
+abbrev pub is_line_feed : ℕ → Bool
+is_line_feed b = b == 10
 
 -- what stands behind the last line feed is a line where it has a byte
 abbrev pub without_empty_last : List (List ℕ) → List (List ℕ)
@@ -16,6 +19,14 @@ without_empty_last (line ∷ next ∷ lines) = line ∷ without_empty_last (next
 -- the lines of a script, which is cut at each line feed; a carriage return at the end of a line belongs to the line's end
 abbrev pub script_lines : List ℕ → List (List ℕ)
 script_lines text = without_empty_last (map strip_carriage_return (slice_split is_line_feed text))
+
+-- a space or a tab
+abbrev pub is_blank : ℕ → Bool
+is_blank b = (b == 32) || (b == 9)
+
+-- the words of a line: what stands between runs of spaces and tabs
+abbrev pub words_of : List ℕ → List (List ℕ)
+words_of line = filter (λ word. nat_lt 0 (length word)) (slice_split is_blank line)
 
 -- what a line says: its first word as a keyword, and the words behind it
 pub record Statement : Type 0 where

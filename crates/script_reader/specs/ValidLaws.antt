@@ -1,30 +1,26 @@
 -- A script that the grammar accepts is valid.
-use Rattle.std.specs.Prelude.{◌≡◌, ◌≢◌, ℕ, ◌+◌, ◌<◌, ◌≤◌, not, Bool, true, false, cond, IsTrue, IsFalse, List, [], ◌∷◌, ◌++◌, map, fold, length, take, Option, Some, None, All, AllPairs}
-use Rattle.std.specs.List.{list_any, list_all, before_first, position_or_len, cons_option}
+use Rattle.std.specs.Prelude.{◌≡◌, ◌≢◌, ℕ, ◌+◌, ◌<◌, ◌≤◌, Bool, true, false, cond, IsTrue, IsFalse, List, [], ◌∷◌, ◌++◌, map, fold, length, take, None, All, AllPairs}
+use Rattle.std.specs.List.{list_any, before_first, position_or_len}
 use Rattle.std.specs.Str.{bytes_eq}
-use Rattle.std.proofs.Common.{zero, suc, inl, inr, refl, sym, subst, ◌∙◌, append_assoc, arith}
-use Rattle.std.proofs.Math.Bool.{or-false}
-use Rattle.std.proofs.lemmas.Bool.{false≢true, both_ways, or_cases, cond_both}
-use Rattle.std.proofs.lemmas.List.{append-nil, length_push, length-map, get_or-map}
-use Rattle.std.proofs.lemmas.List.Elements.{All-nil, All-cons, All-weaker, filter_map-append}
-use Rattle.std.proofs.lemmas.List.Folds.{list_any-append}
+use Rattle.std.proofs.Common.{zero, suc, refl, sym, subst, ◌∙◌, arith}
+use Rattle.std.proofs.lemmas.Bool.{false≢true, cond_both}
+use Rattle.std.proofs.lemmas.List.{length_push, length-map, get_or-map}
+use Rattle.std.proofs.lemmas.List.Elements.{All-nil, All-cons, All-weaker}
 use Rattle.composed_value.specs.declared.kind.Kind.{Kind}
 use Rattle.placement.specs.Config.{placed}
 use Rattle.placement.specs.ConfigLaws.{is_placement}
 use Rattle.placement.specs.Name.{IsName}
 use Rattle.placement.specs.declared.config.KeyPlace.{KeyPlace}
-use Rattle.script_reader.specs.Faults.{Setting, Context, context_of, code_of, code_said, is_text_byte}
-use Rattle.script_reader.specs.Grammar.{AreInOrder, IsScript, IsScriptOf, setting_of}
+use Rattle.script_reader.specs.BehindLaws.{holds_behind}
+use Rattle.script_reader.specs.Faults.{Setting, Context, context_of, code_of}
+use Rattle.script_reader.specs.Grammar.{IsScript, IsScriptOf, setting_of}
 use Rattle.script_reader.specs.Keywords.{is_end, is_session}
-use Rattle.script_reader.specs.Lines.{Statement, script_lines, statement_of, statements_of, those, word, is_end_line}
+use Rattle.script_reader.specs.Lines.{Statement, script_lines, statements_of, those, word, is_end_line}
 use Rattle.script_reader.specs.Said.{named_in, sessions_said, with_name}
 use Rattle.script_reader.specs.Steps.{after}
-use Rattle.script_reader.specs.StepsLaws.{context_after}
 use Rattle.script_reader.specs.ValidContext.{AreApart, AreLed, IsValidContext, Leads, Stands}
 use Rattle.script_reader.specs.ValidContextLaws.{start, step, ended}
 use Rattle.script_reader.specs.declared.built.Built.{Built}
-use Rattle.script_reader.specs.declared.code.Code.{Code}
-use Rattle.script_reader.specs.declared.code.Code.TheVariants as codes_of
 use Rattle.script_reader.specs.declared.keyword.Keyword.{Keyword}
 use Rattle.script_reader.specs.declared.keyword.Keyword.TheVariants.{End}
 use Rattle.session_known.specs.Script.{AreEnded, IsValidScript, MayStand}
@@ -38,53 +34,22 @@ use Rattle.session_known.specs.declared.script.SessionPlan.{SessionPlan}
 abbrev IsClosed : Context → Type 0
 IsClosed context = IsTrue context.has_workers × IsFalse context.begun
 
--- the context behind statements is valid, and closed where an end is among them
-record IsFront (setting : Setting) (front : List Statement) : Type 0 where
-  valid : IsValidContext (context_of setting front)
-  closed : list_any is_end_line front ≡ true → IsClosed (context_of setting front)
+-- the context is valid, and closed where an end is among the lines
+record IsFront (ended : Bool) (context : Context) : Type 0 where
+  valid : IsValidContext context
+  closed : ended ≡ true → IsClosed context
 
 -- an end that is not at fault leaves the context closed
 closed_behind : (context : Context) (keyword : Keyword) (words : List (List ℕ)) → IsValidContext context → code_of context keyword words ≡ None → is_end keyword ≡ true → IsClosed (after context keyword words)
 closed_behind context End words valid none is = ended context words valid none
 closed_behind context keyword words valid none is = absurd (false≢true is)
 
--- a front takes a statement that is not at fault, where no end is in it
-front_push : (setting : Setting) (front : List Statement) (statement : Statement) → IsFront setting front → list_any is_end_line front ≡ false → code_of (context_of setting front) statement.keyword statement.words ≡ None → IsFront setting (front ++ statement ∷ [])
-front_push setting front statement is no_end none =
-    let same = sym (context_after setting front statement none) in
-    record {
-      valid = subst IsValidContext same (step (context_of setting front) statement.keyword statement.words is.valid none);
-      closed = λ any.
-          subst IsClosed same (elim (or_cases (list_any is_end_line front) (list_any is_end_line (statement ∷ [])) (sym (list_any-append is_end_line front (statement ∷ [])) ∙ any)) as (λ _. IsClosed (after (context_of setting front) statement.keyword statement.words)) [
-            | inl earlier ↦ absurd (both_ways _ no_end earlier)
-            | inr here ↦ closed_behind (context_of setting front) statement.keyword statement.words is.valid none (sym (or-false (is_end statement.keyword)) ∙ here)
-          ]);
-    }
-
--- where a condition gives no code, it does not hold, and the rest gives none
-none_here : (held : Bool) (code : Code) (rest : Option Code) → cond held (Some code) rest ≡ None → (held ≡ false) × (rest ≡ None)
-none_here true code rest none = absurd cc
-none_here false code rest none = (refl, none)
-
--- a front takes a line that is not at fault
-said_push : (setting : Setting) (front : List Statement) (line : List ℕ) (said : Option Statement) → IsFront setting front → code_said (context_of setting front) (list_any is_end_line front) line said ≡ None → IsFront setting (front ++ cons_option said [])
-said_push setting front line None is none = subst (λ statements. IsFront setting statements) (sym (append-nil front)) is
-said_push setting front line (Some statement) is none =
-    let behind_end = none_here (list_any is_end_line front) codes_of.AfterEnd _ none in
-    let of_text = none_here (not (list_all is_text_byte line)) codes_of.Byte _ behind_end.1 in
-    front_push setting front statement is behind_end.0 of_text.1
-
--- lines in order are a front, line by line
-front_of : (setting : Setting) (lines front rest : List (List ℕ)) → lines ≡ front ++ rest → AreInOrder setting lines → IsFront setting (statements_of front) → IsFront setting (statements_of lines)
-front_of setting lines front [] same order is = subst (λ ls. IsFront setting (statements_of ls)) (sym (same ∙ append-nil front)) is
-front_of setting lines front (line ∷ rest) same order is =
-    let pushed = said_push setting (statements_of front) line (statement_of line) is (order front rest line same) in
-    let next = subst (λ statements. IsFront setting statements) (sym (filter_map-append statement_of front (line ∷ []))) pushed in
-    front_of setting lines (front ++ line ∷ []) rest (same ∙ sym (append_assoc front (line ∷ []) rest)) order next
-
--- before the first line the front is valid
-front_start : (setting : Setting) → IsFront setting []
-front_start setting = record { valid = start setting; closed = λ any. absurd (false≢true any) }
+-- each line that is not at fault leaves it so
+front_step : (context : Context) (keyword : Keyword) (words : List (List ℕ)) → IsFront false context → code_of context keyword words ≡ None → IsFront (is_end keyword) (after context keyword words)
+front_step context keyword words front none = record {
+  valid = step context keyword words front.valid none;
+  closed = closed_behind context keyword words front.valid none;
+}
 
 -- a name adds one at most
 name_added : (names : List (List ℕ)) (name : List ℕ) → length (with_name names name) ≤ length names + 1
@@ -186,7 +151,7 @@ valid_closed context valid closed named =
 -- The script that the lines of a text say is valid.
 of_lines : (setting : Setting) (lines : List (List ℕ)) (script : Script) → setting.named ≡ named_in (before_first is_end_line (statements_of lines)) → IsScriptOf setting lines script → IsValidScript script (placed script.config)
 of_lines setting lines script named is =
-    let front = front_of setting lines [] lines refl is.in_order (front_start setting) in
+    let front = holds_behind IsFront front_step setting lines (record { valid = start setting; closed = λ any. absurd (false≢true any) }) is.in_order in
     let context = context_of setting (statements_of lines) in
     let enough = named_are _ _ setting.named (statements_of lines) in
     let room : length context.named ≤ length context.script.sessions = subst (λ names. length names ≤ length context.script.sessions) (sym named) enough in

@@ -6,7 +6,7 @@ ghost use Rattle.session_known.specs.Script.{IsValidScript};
 ghost use Rattle.session_known.specs.declared.script.Script.{Script};
 ghost use Rattle.script_reader.specs.Codes.{number_of_code};
 ghost use Rattle.script_reader.specs.Faults.{code_said, is_text_byte as text_byte};
-ghost use Rattle.script_reader.specs.Grammar.{IsScript, IsScriptOf, IsRefused, IsWhyNoScript, IsReadAs, IsRefusedAs, setting_of, all_built};
+ghost use Rattle.script_reader.specs.Grammar.{IsScript, IsScriptOf, IsRefused, IsWhyNoScript, IsReadAs, IsRefusedAs, HasForms, setting_of, all_built};
 ghost use Rattle.script_reader.specs.LineReads.{HasReadLine, IsWhyNoLines, named_after, says_end, told as fault_told};
 ghost use Rattle.script_reader.specs.Lines.{statement_in, statement_of, statements_of, is_end_line};
 ghost use Rattle.script_reader.specs.Reader.{seen, IsKept, IsFaultOf};
@@ -15,7 +15,6 @@ ghost use Rattle.script_reader.specs.Said.{named_in};
 use crate::built::Built;
 use crate::code::Code;
 use crate::fault::ScriptFault;
-use crate::first::MOST_BYTES;
 use crate::keyword::Keyword;
 use crate::lines::lines_of;
 use crate::names::Names;
@@ -24,6 +23,9 @@ use crate::words::words_of;
 use lattice_laws::NoMemory;
 use session_known::Script;
 use std::alloc::Global;
+
+/// The most bytes that a script may have.
+pub const MOST_BYTES: usize = 1_048_576;
 
 /// What the words of a line say: its first word, and the words behind it. Nothing, where there are
 /// none or the line is a comment.
@@ -162,6 +164,9 @@ pub fn read_script_built(alloc: Global, bytes: &[u8], built: Built) -> Result<Sc
 
     // What is read is valid.
     ensures valid { IfOk result (λ script. IsValidScript script (placed script.config)) }
+
+    // And it has only forms that are served.
+    ensures forms { IfOk result (HasForms built) }
 
     // What is a script is read as that script, and what is refused is refused so.
     ensures accepts { (script : Script) → IsScript built bytes.now script → IsReadAs script result }

@@ -3,7 +3,7 @@
 //! [`read_script`] reads the whole grammar. Which texts are a script, and why another is none, is said in
 //! `specs/Grammar.antt`: it speaks of the lines of a text as lists of words, has a condition for each
 //! code of refusal in `specs/Faults.antt`, and reads the script off the lines in `specs/Said.antt`. What
-//! is read is valid, as `session_known` says. [`read_first`] reads the first form alone.
+//! is read is valid, as `session_known` says.
 //!
 //! [`outside`] has the two ends through which a program meets the world, a source of bytes and a
 //! sink for them, each with a count of its faults, so that a contract can say which bytes were
@@ -14,7 +14,6 @@ mod built;
 mod code;
 mod entry;
 mod fault;
-mod first;
 mod grammar;
 mod keyword;
 mod lines;
@@ -23,11 +22,9 @@ pub mod outside;
 mod payload;
 mod pins;
 mod reader;
-mod text;
 mod words;
 
 pub use built::Built;
 pub use fault::ScriptFault;
-pub use first::{FirstLine, FirstScript, MOST_BYTES, MOST_COMMANDS, read_first};
-pub use grammar::{read_script, read_script_built};
+pub use grammar::{MOST_BYTES, read_script, read_script_built};
 pub use session_known::{Answer, FinalCell, Level, Line, Report, Script, SessionPlan, Shown};

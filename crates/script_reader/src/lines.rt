@@ -2,8 +2,7 @@
 ghost use Rattle.std.specs.Prelude.{◌≡◌, ◌+◌, ◌≤◌, map, length, IfOk};
 ghost use Rattle.std.specs.Str.Lines.{strip_carriage_return};
 ghost use Rattle.std.specs.List.{slice_split};
-ghost use Rattle.script_reader.specs.Lines.{script_lines, without_empty_last};
-ghost use Rattle.script_reader.specs.Text.{is_line_feed};
+ghost use Rattle.script_reader.specs.Lines.{is_line_feed, script_lines, without_empty_last};
 
 use lattice_laws::NoMemory;
 use std::alloc::Global;

@@ -1,6 +1,6 @@
 //! What a word of a line can be.
 ghost use Rattle.std.specs.Prelude.{◌≡◌, ◌++◌, map, IfOk};
-ghost use Rattle.script_reader.specs.Text.{words_of as all_words};
+ghost use Rattle.script_reader.specs.Lines.{words_of as all_words};
 ghost use Rattle.script_reader.specs.Words.{is_spelled, is_numeral as digits_alone, number_said, is_too_great as says_too_much, kind_said, level_said};
 
 use composed_value::Kind;

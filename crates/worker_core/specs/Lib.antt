@@ -1,1 +1,1 @@
-pub mod FirstCell
+pub mod OneMap

@@ -1,10 +1,9 @@
 //! What a worker keeps of the keys that it holds.
 //!
-//! [`FirstWorker`] is the worker of the smallest store: one key of kind max, written by one session
-//! and held by one replica. It merges each put into what it has, so which put comes last does not
-//! matter.
+//! [`OneMap`] is the map of a worker that is alone: a cell of `composed_value` for each key of a script,
+//! of all six kinds. It merges each put into the cell of its key.
 #![tactic(auto)]
 
-mod first_worker;
+mod one_map;
 
-pub use first_worker::FirstWorker;
+pub use one_map::OneMap;

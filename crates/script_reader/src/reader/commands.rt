@@ -10,7 +10,6 @@ ghost use Rattle.script_reader.specs.Words.{is_payload_too_great as is_too_much}
 ghost use Rattle.script_reader.specs.declared.keyword.Keyword.TheVariants as keywords;
 
 use crate::code::Code;
-use crate::first::MOST_COMMANDS;
 use crate::payload::{is_payload_too_great, payload};
 use crate::reader::{LineFault, Reader, Sessions};
 use crate::words::{is_spelling, number};
@@ -18,6 +17,9 @@ use composed_value::Kind;
 use lattice_laws::NoMemory;
 use session_known::{Level, Line};
 use std::alloc::Global;
+
+/// The most command lines that the sessions of a script may have.
+const MOST_COMMANDS: usize = 4096;
 
 impl Sessions {
     /// Adds a command to the last session.

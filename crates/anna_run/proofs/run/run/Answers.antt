@@ -1,17 +1,46 @@
-use Rattle.std.proofs.Common.{◌≡◌, ℕ, List, Option, inl, inr, ap, ◌∙◌}
-use Rattle.script_reader.specs.Outside.{Writes}
+use Rattle.std.proofs.Common.{◌≡◌, ℕ, List, Option, inr, refl, sym, subst}
+use Rattle.placement.specs.Config.{placed}
+use Rattle.placement.specs.ConfigLaws.{placement_is}
+use Rattle.script_reader.specs.ValidLaws.{script_is_valid}
+use Rattle.session_known.specs.Form.{HasForm}
+use Rattle.session_known.specs.Script.{IsValidScript}
+use Rattle.session_known.specs.declared.report.Report.{Report}
+use Rattle.session_known.specs.declared.script.Script.{Script}
+use Rattle.report_text.specs.Text.{text_of}
+use Rattle.anna_run.specs.Outcomes.{IsOwed}
+use Rattle.anna_run.specs.Run.{SourceUse, HasServed, Owed, served_forms}
+use Rattle.anna_run.specs.declared.run.Outcome.{Outcome}
+use Rattle.anna_run.specs.declared.run.Outcome.TheVariants as outcomes
+use Rattle.anna_run.specs.declared.run.Status.TheVariants.{Done}
+use Rattle.anna_run.specs.declared.words.Command.{Command}
 use Rattle.anna_run.proofs.run.run.Goals as goal
-use Rattle.anna_run.proofs.run.run.Goals.{in-Ok, in-Err}
 
--- where the sink did not fail, the status is the one that was owed
-unless_rose : {Status : Type 0} (write_fault : Status) (rose : Type 0) (before now : Option (List ℕ)) (status : Status) (text : List ℕ) (answer : Status) → Writes write_fault rose before now status text answer → (rose → ⊥) → answer ≡ status
-unless_rose write_fault rose before now status text answer (inl whole) sound = whole.0
-unless_rose write_fault rose before now status text answer (inr broken) sound = absurd (sound broken.1)
+-- a report that is served can be written
+can_write : (source : SourceUse) (script : Script) (report : Report) → HasServed source script report → (table : List (List ℕ)) × IsValidScript script table × HasForm script table report
+can_write source script report served =
+    let legal = served.is_legal in (
+      placed script.config,
+      script_is_valid served_forms served.bytes script served.is_script,
+      subst (λ table. HasForm script table report) (placement_is script.config legal.table legal.placed) legal.legal.form,
+    )
 
-pub returns-clause-complete : goal.returns-clause-complete
-returns-clause-complete g c = λ input script command told is source_rose sink_rose.
-    let ended = unless_rose _ _ _ _ c.match-owed.status.0 _ c.finish.result c.finish.ensures sink_rose in
-    elim c.match-owed.branch [
-      | in-Ok w ↦ inl (ended ∙ ap (λ owed. owed.0) w.status-is ∙ w.in-Ok.ensures.complete input script command told is source_rose)
-      | in-Err w ↦ inr (ended ∙ ap (λ owed. owed.0) w.status-is)
-    ]
+-- and is owed
+owed_report : (command : Option Command) (source : SourceUse) (script : Script) (report : Report) → IsOwed command source (outcomes.Report script report) → Owed command source Done (text_of script report)
+owed_report command source script report owed =
+    subst (λ (asked : Option Command). Owed asked source Done (text_of script report)) (sym owed.0) (record { script = script; report = report; served = owed.1; is_text = refl })
+
+-- what is owed of an outcome that is a report
+owed_as : (command : Option Command) (source : SourceUse) (outcome : Outcome) (script : Script) (report : Report) → outcome ≡ outcomes.Report script report → IsOwed command source outcome → IsOwed command source (outcomes.Report script report)
+owed_as command source outcome script report same owed = subst (IsOwed command source) same owed
+
+pub write_report-requires : goal.write_report-requires
+write_report-requires g c =
+    let owed = owed_as _ _ _ c.in-Ok-Report.script c.in-Ok-Report.report c.in-Ok-Report.field-0-is c.in-Ok-Report.ensures.owed in
+    record { valid = can_write _ c.in-Ok-Report.script c.in-Ok-Report.report owed.1 }
+
+pub returns-in-Ok-Report-clause-ends : goal.returns-in-Ok-Report-clause-ends
+returns-in-Ok-Report-clause-ends g c =
+    let script = c.in-Ok-Report.script in
+    let report = c.in-Ok-Report.report in
+    let owed = owed_as _ _ _ script report c.in-Ok-Report.field-0-is c.in-Ok-Report.ensures.owed in
+    (Done, text_of script report, owed_report _ _ script report owed, inr (refl, c.in-Err-write_report.ensures.cause.1, c.in-Err-write_report.ensures.wrote))

@@ -6,7 +6,7 @@ use Rattle.std.proofs.lemmas.Result.{IfOk-at_ok}
 use Rattle.std.specs.List.{slice_split}
 use Rattle.std.specs.Str.Lines.{strip_carriage_return}
 use borrow.Author.Tests.{tests}
-use Rattle.script_reader.specs.Text.{is_line_feed}
+use Rattle.script_reader.specs.Lines.{is_line_feed}
 use Rattle.script_reader.proofs.lines.pieces_of.Goals as goal
 
 pub returns-clause-pieces : goal.returns-clause-pieces

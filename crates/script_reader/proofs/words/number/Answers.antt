@@ -1,7 +1,6 @@
 use Rattle.std.proofs.Common.{◌≡◌, List, ℕ, sym, subst, ◌∙◌, true, rules}
 use Rattle.std.specs.Str.Parse.{ParsesUnsigned}
-use Rattle.script_reader.proofs.TextLemmas.{no_text}
-use Rattle.script_reader.proofs.WordLemmas.{number_parsed, numeral_is_text}
+use Rattle.script_reader.proofs.WordLemmas.{no_text, number_parsed, numeral_is_text}
 use Rattle.script_reader.specs.Words.{is_numeral}
 use Rattle.script_reader.proofs.words.number.Goals as goal
 

@@ -3,7 +3,7 @@ use Rattle.std.proofs.lemmas.Iterator.Consumers.{map_from_collect, YieldsList-fr
 use Rattle.std.proofs.lemmas.Iterator.Splits.{YieldsList-from_slice_split}
 use Rattle.std.proofs.lemmas.Result.{IfOk-at_ok}
 use borrow.Author.Tests.{tests}
-use Rattle.script_reader.specs.Text.{is_blank, words_of}
+use Rattle.script_reader.specs.Lines.{is_blank, words_of}
 use Rattle.script_reader.proofs.words.words_of.Goals as goal
 
 pub returns : goal.returns

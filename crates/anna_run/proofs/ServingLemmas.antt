@@ -1,0 +1,185 @@
+-- What one worker does with a line, and with line after line.
+use Rattle.std.proofs.Common.{◌≡◌, ℕ, ◌+◌, ◌-◌, ◌<◌, ◌≤◌, ◌^◌, max, cond, ◌==◌, false, List, [], ◌∷◌, ◌++◌, length, drop, get_or, inl, inr, refl, sym, ap, subst, ◌∙◌, append_assoc, arith}
+use Rattle.std.proofs.Math.Seq.{map-set_same}
+use Rattle.std.proofs.lemmas.List.{get_or-map, at_drop_more, at_drop_all, append-nil, length-map}
+use Rattle.std.proofs.lemmas.Bool.{cases_eq, ne_eqb, eq-eqb}
+use Rattle.clock_lattice.specs.Clock.{count_of, joined_clocks, one_count}
+use Rattle.composed_value.specs.Cell.{PlainCell, empty_cell}
+use Rattle.composed_value.specs.Kind.{kind_of, kind_of_value}
+use Rattle.composed_value.specs.Put.{value_of_put}
+use Rattle.composed_value.specs.ValidValues.{put_has_kind}
+use Rattle.composed_value.specs.Value.{joined_values}
+use Rattle.composed_value.specs.declared.kind.Kind.TheVariants as kinds
+use Rattle.composed_value.specs.declared.payload.Payload.{Payload}
+use Rattle.composed_value.specs.declared.put.Put.{Put}
+use Rattle.composed_value.specs.declared.value.Value.{Value}
+use Rattle.composed_value.specs.declared.value.Value.TheVariants.{Max, Or, Set, Map, Last, Versions}
+use Rattle.session_known.specs.Accepted.{client_of}
+use Rattle.session_known.specs.Lawful.{last_lamport}
+use Rattle.session_known.specs.Numbered.{count_put, count_put_elsewhere}
+use Rattle.session_known.specs.Script.{kind_at}
+use Rattle.session_known.specs.Session.{Client, Knowledge, Knows, nothing_known, own_count, put_made, knows_put}
+use Rattle.session_known.specs.declared.report.Answer.{Answer}
+use Rattle.session_known.specs.declared.report.Answer.TheVariants as answers
+use Rattle.session_known.specs.declared.script.Level.TheVariants.{Eventual}
+use Rattle.session_known.specs.declared.script.Line.{Line}
+use Rattle.session_known.specs.declared.script.Line.TheVariants as lines
+use Rattle.session_known.specs.declared.script.SessionPlan.{SessionPlan}
+use Rattle.worker_core.specs.OneMap.{cell_for, cells_with}
+use Rattle.anna_run.specs.Serving.{CanServe, HasAnswered, IsKept, kinds_of, cells_then, knows_then, lines_answered, cells_behind, sessions_answered, cells_at_end}
+
+-- the join of two values of one kind is of that kind
+kind_joined : (a b : Value) → kind_of_value a ≡ kind_of_value b → kind_of_value (joined_values a b) ≡ kind_of_value a
+kind_joined (Max a) (Max b) same = refl
+kind_joined (Or a) (Or b) same = refl
+kind_joined (Set a) (Set b) same = refl
+kind_joined (Map a) (Map b) same = refl
+kind_joined (Last a) (Last b) same = refl
+kind_joined (Versions a) (Versions b) same = refl
+kind_joined _ _ same = absurd cc
+
+-- a put of the kind of its key leaves the kinds
+kinds_with : (cells : List PlainCell) (key : ℕ) (put : Put) → kind_of_value (cell_for cells key put).value ≡ kind_of put.payload → kinds_of (cells_with cells key put) ≡ kinds_of cells
+kinds_with cells key put same =
+    map-set_same (λ (cell : PlainCell). kind_of_value cell.value) cells (key - 1) _ (empty_cell (kind_of put.payload)) (kind_joined (cell_for cells key put).value (value_of_put put) (same ∙ sym (put_has_kind put)))
+
+-- the cell of a key has the key's kind
+kind_for : (cells : List PlainCell) (key : ℕ) (put : Put) → 1 ≤ key → key ≤ length cells → kind_of put.payload ≡ kind_at (kinds_of cells) key → kind_of_value (cell_for cells key put).value ≡ kind_of put.payload
+kind_for cells key put some within kind =
+    sym (get_or-map (λ (cell : PlainCell). kind_of_value cell.value) cells (key - 1) (empty_cell (kind_of put.payload)) kinds.Max (omega arith)) ∙ sym kind
+
+-- what a session knows is kept behind one more put
+kept_put : (client : Client) (knows : Knowledge) (key : ℕ) → IsKept knows → IsKept (knows_put client knows key (own_count knows key + 1) (knows.lamport + 1))
+kept_put client knows key kept other =
+    elim (cases_eq key other) [
+      | inl same ↦ subst (λ k. count_of k (joined_clocks knows.own (one_count key (own_count knows key + 1))) ≤ knows.lamport + 1) same (let here = kept key in omega (arith, count_put knows.own key (own_count knows key + 1) refl))
+      | inr apart ↦ (let there = kept other in omega (arith, count_put_elsewhere knows.own key other (own_count knows key + 1) apart))
+    ]
+
+-- a Lamport number that fits is not the last
+not_worn : (lamport : ℕ) → lamport + 1 < 2 ^ 64 → (lamport == last_lamport) ≡ false
+not_worn lamport fits = ne_eqb lamport last_lamport (λ same. omega (arith, same, fits))
+
+-- A put is taken where a Lamport number is left.
+pub put_answered : (cells cells_now : List PlainCell) (known known_now : Knows) (key lamport : ℕ) (payload : Payload) (put : Put)
+    → CanServe (kinds_of cells) (lines.Put key payload) → IsKept known.knows
+    → lamport ≡ known.knows.lamport + 1 → lamport < 2 ^ 64
+    → put ≡ put_made known.client known.knows key payload (own_count known.knows key + 1) lamport 0
+    → known_now.client ≡ known.client → known_now.knows ≡ knows_put known.client known.knows key (own_count known.knows key + 1) (max known.knows.lamport lamport)
+    → cells_now ≡ cells_with cells key put
+    → HasAnswered cells known (lines.Put key payload) (answers.Put put.number lamport) cells_now known_now
+put_answered cells cells_now known known_now key lamport payload put can kept next fits put_is client_is knows_is cells_is =
+    let client = known.client in
+    let knows = known.knows in
+    let number : put.number ≡ own_count knows key + 1 = ap (λ (p : Put). p.number) put_is in
+    let worn = not_worn knows.lamport (omega (arith, next, fits)) in
+    let answer : answers.Put put.number lamport ≡ answers.Put (own_count knows key + 1) (knows.lamport + 1) = λ i. answers.Put (number i) (next i) in
+    let greatest : max knows.lamport lamport ≡ lamport = omega (arith, next) in
+    let made : put ≡ put_made client knows key payload put.number lamport 0 = put_is ∙ ap (λ n. put_made client knows key payload n lamport 0) (sym number) in
+    let now : known_now.knows ≡ knows_put client knows key put.number lamport = knows_is ∙ ap (λ n. knows_put client knows key n (max knows.lamport lamport)) (sym number) ∙ ap (knows_put client knows key put.number) greatest in
+    let kept_now = kept_put client knows key kept in
+    record {
+      answer_is = answer ∙ sym (ap (λ worn. cond worn answers.Worn (answers.Put (own_count knows key + 1) (knows.lamport + 1))) worn);
+      cells_are = cells_is ∙ ap (cells_with cells key) made;
+      client_is = client_is;
+      knows_is = now;
+      kinds_are = ap kinds_of cells_is ∙ kinds_with cells key put (kind_for cells key put (can.0.0) (subst (λ n. key ≤ n) (length-map cells (λ (cell : PlainCell). kind_of_value cell.value)) can.0.1) (ap (λ (p : Put). kind_of p.payload) put_is ∙ can.1));
+      kept = subst IsKept (sym (knows_is ∙ ap (knows_put client knows key (own_count knows key + 1)) (greatest ∙ next))) kept_now;
+    }
+
+-- Nothing is put where none is left.
+pub worn_answered : (cells : List PlainCell) (known : Knows) (key : ℕ) (payload : Payload) → IsKept known.knows → known.knows.lamport ≡ last_lamport → HasAnswered cells known (lines.Put key payload) answers.Worn cells known
+worn_answered cells known key payload kept worn = record {
+  answer_is = sym (ap (λ worn. cond worn answers.Worn (answers.Put (own_count known.knows key + 1) (known.knows.lamport + 1))) (eq-eqb known.knows.lamport last_lamport worn));
+  cells_are = refl;
+  client_is = refl;
+  knows_is = refl;
+  kinds_are = refl;
+  kept = kept;
+}
+
+-- The first lines of a session are served.
+pub record IsServing (client : Client) (at_first : List PlainCell) (plan_lines : List Line) (i : ℕ) (cells : List PlainCell) (known : Knows) (given : List Answer) : Type 0 where
+  pub client_is : known.client ≡ client
+  pub kept : IsKept known.knows
+  pub kinds_are : kinds_of cells ≡ kinds_of at_first
+  pub answers_are : lines_answered client at_first nothing_known plan_lines ≡ given ++ lines_answered client cells known.knows (drop i plan_lines)
+  pub cells_are : cells_behind client at_first nothing_known plan_lines ≡ cells_behind client cells known.knows (drop i plan_lines)
+
+-- before the first line
+pub serving_none : (client : Client) (cells : List PlainCell) (plan_lines : List Line) (known : Knows) → known.client ≡ client → known.knows ≡ nothing_known → IsServing client cells plan_lines 0 cells known []
+serving_none client cells plan_lines known client_is knows_is = record {
+  client_is = client_is;
+  kept = subst IsKept (sym knows_is) (λ key. omega arith);
+  kinds_are = refl;
+  answers_are = ap (λ knows. lines_answered client cells knows plan_lines) (sym knows_is);
+  cells_are = ap (λ knows. cells_behind client cells knows plan_lines) (sym knows_is);
+}
+
+-- one line more
+pub serving_more : (client : Client) (at_first : List PlainCell) (plan_lines : List Line) (i : ℕ) (cells : List PlainCell) (known : Knows) (given : List Answer) (d : Line) (answer : Answer) (cells_now : List PlainCell) (known_now : Knows)
+    → IsServing client at_first plan_lines i cells known given → i < length plan_lines → HasAnswered cells known (get_or plan_lines i d) answer cells_now known_now
+    → IsServing client at_first plan_lines (i + 1) cells_now known_now (given ++ answer ∷ [])
+serving_more client at_first plan_lines i cells known given d answer cells_now known_now serving below answered =
+    let line = get_or plan_lines i d in
+    let rest = drop (i + 1) plan_lines in
+    let cells_is : cells_then client cells known.knows line answer ≡ cells_now = ap (λ c. cells_then c cells known.knows line answer) (sym serving.client_is) ∙ sym answered.cells_are in
+    let knows_is : knows_then client known.knows line answer ≡ known_now.knows = ap (λ c. knows_then c known.knows line answer) (sym serving.client_is) ∙ sym answered.knows_is in
+    let answers_then : Answer → List Answer = λ a. a ∷ lines_answered client (cells_then client cells known.knows line a) (knows_then client known.knows line a) rest in
+    let cells_after : Answer → List PlainCell = λ a. cells_behind client (cells_then client cells known.knows line a) (knows_then client known.knows line a) rest in
+    record {
+      client_is = answered.client_is ∙ serving.client_is;
+      kept = answered.kept;
+      kinds_are = answered.kinds_are ∙ serving.kinds_are;
+      answers_are =
+          serving.answers_are
+          ∙ ap (λ more. given ++ more) (at_drop_more (lines_answered client cells known.knows) plan_lines i d below ∙ ap answers_then (sym answered.answer_is) ∙ (λ i. answer ∷ lines_answered client (cells_is i) (knows_is i) rest))
+          ∙ sym (append_assoc given (answer ∷ []) (lines_answered client cells_now known_now.knows rest));
+      cells_are =
+          serving.cells_are
+          ∙ at_drop_more (cells_behind client cells known.knows) plan_lines i d below ∙ ap cells_after (sym answered.answer_is) ∙ (λ i. cells_behind client (cells_is i) (knows_is i) rest);
+    }
+
+-- all lines
+pub served_answers : (client : Client) (at_first : List PlainCell) (plan_lines : List Line) (i : ℕ) (cells : List PlainCell) (known : Knows) (given : List Answer) → IsServing client at_first plan_lines i cells known given → length plan_lines ≤ i → given ≡ lines_answered client at_first nothing_known plan_lines
+served_answers client at_first plan_lines i cells known given serving all =
+    sym (serving.answers_are ∙ ap (λ more. given ++ more) (at_drop_all (lines_answered client cells known.knows) plan_lines i all) ∙ append-nil given)
+
+pub served_cells : (client : Client) (at_first : List PlainCell) (plan_lines : List Line) (i : ℕ) (cells : List PlainCell) (known : Knows) (given : List Answer) → IsServing client at_first plan_lines i cells known given → length plan_lines ≤ i → cells ≡ cells_behind client at_first nothing_known plan_lines
+served_cells client at_first plan_lines i cells known given serving all =
+    sym (serving.cells_are ∙ at_drop_all (cells_behind client cells known.knows) plan_lines i all)
+
+-- The first sessions are served.
+pub record AreServing (at_first : List PlainCell) (plans : List SessionPlan) (i : ℕ) (cells : List PlainCell) (given : List (List Answer)) : Type 0 where
+  pub kinds_are : kinds_of cells ≡ kinds_of at_first
+  pub answers_are : sessions_answered 1 at_first plans ≡ given ++ sessions_answered (i + 1) cells (drop i plans)
+  pub cells_are : cells_at_end 1 at_first plans ≡ cells_at_end (i + 1) cells (drop i plans)
+
+-- one session more
+pub sessions_more : (at_first : List PlainCell) (plans : List SessionPlan) (i : ℕ) (cells : List PlainCell) (given : List (List Answer)) (d : SessionPlan) (answers : List Answer) (cells_now : List PlainCell)
+    → AreServing at_first plans i cells given → i < length plans → (get_or plans i d).level ≡ Eventual
+    → answers ≡ lines_answered (record { session = i + 1; level = Eventual }) cells nothing_known (get_or plans i d).lines
+    → cells_now ≡ cells_behind (record { session = i + 1; level = Eventual }) cells nothing_known (get_or plans i d).lines
+    → kinds_of cells_now ≡ kinds_of cells
+    → AreServing at_first plans (i + 1) cells_now (given ++ answers ∷ [])
+sessions_more at_first plans i cells given d answers cells_now serving below eventual answers_is cells_is kinds_is =
+    let plan = get_or plans i d in
+    let rest = drop (i + 1) plans in
+    let answers_of : lines_answered (client_of (i + 1) plan) cells nothing_known plan.lines ≡ answers = ap (λ level. lines_answered (record { session = i + 1; level = level }) cells nothing_known plan.lines) eventual ∙ sym answers_is in
+    let cells_of : cells_behind (client_of (i + 1) plan) cells nothing_known plan.lines ≡ cells_now = ap (λ level. cells_behind (record { session = i + 1; level = level }) cells nothing_known plan.lines) eventual ∙ sym cells_is in
+    record {
+      kinds_are = kinds_is ∙ serving.kinds_are;
+      answers_are =
+          serving.answers_are
+          ∙ ap (λ more. given ++ more) (at_drop_more (sessions_answered (i + 1) cells) plans i d below ∙ (λ k. answers_of k ∷ sessions_answered (i + 1 + 1) (cells_of k) rest))
+          ∙ sym (append_assoc given (answers ∷ []) (sessions_answered (i + 1 + 1) cells_now rest));
+      cells_are = serving.cells_are ∙ at_drop_more (cells_at_end (i + 1) cells) plans i d below ∙ ap (λ now. cells_at_end (i + 1 + 1) now rest) cells_of;
+    }
+
+-- all sessions
+pub sessions_served : (at_first : List PlainCell) (plans : List SessionPlan) (i : ℕ) (cells : List PlainCell) (given : List (List Answer)) → AreServing at_first plans i cells given → length plans ≤ i → given ≡ sessions_answered 1 at_first plans
+sessions_served at_first plans i cells given serving all =
+    sym (serving.answers_are ∙ ap (λ more. given ++ more) (at_drop_all (sessions_answered (i + 1) cells) plans i all) ∙ append-nil given)
+
+pub sessions_left : (at_first : List PlainCell) (plans : List SessionPlan) (i : ℕ) (cells : List PlainCell) (given : List (List Answer)) → AreServing at_first plans i cells given → length plans ≤ i → cells ≡ cells_at_end 1 at_first plans
+sessions_left at_first plans i cells given serving all = sym (serving.cells_are ∙ at_drop_all (cells_at_end (i + 1) cells) plans i all)

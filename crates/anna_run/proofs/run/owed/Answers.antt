@@ -1,4 +1,0 @@
-use Rattle.anna_run.proofs.run.owed.Goals as goal
-
-pub returns-in-Some-Run-clause-complete : goal.returns-in-Some-Run-clause-complete
-returns-in-Some-Run-clause-complete g c = λ input script command told is rose. c.run_script.ensures.complete input script told is rose
