@@ -1,13 +1,13 @@
 //! Maps whose values merge key by key.
-ghost use Rattle.std.specs.Prelude.{◌≡◌, [], length, slice_get, OnOk, OnErr, List, ⊤};
+ghost use Rattle.std.specs.Prelude.{◌≡◌, [], length, slice_get, IfOk, IsTrue, OnOk, OnErr, List, ⊤};
 ghost use Rattle.std.specs.Option.{option_map};
-ghost use Rattle.std.specs.FinMap.{find};
-ghost use Rattle.lattice_laws.specs.Entries.{plain_entries, raised, joined_maps, IsMap};
+ghost use Rattle.std.specs.FinMap.{find, is_sorted};
+ghost use Rattle.lattice_laws.specs.Entries.{plain_entries, raised, joined_maps, IsMap, IsPushed};
 ghost use Rattle.lattice_laws.specs.EntriesLaws.{map_laws, map_associative};
 
 use crate::{MaxNum, Word};
 use lattice_laws::entries::{
-    at_most_entries, copy_entries, find_entry, join_entries, known_entries, raise_entry,
+    at_most_entries, copy_entries, find_entry, join_entries, known_entries, push_entry, raise_entry,
 };
 use lattice_laws::{AllFit, Lattice, MapKey, NoMemory};
 use std::alloc::Global;
@@ -51,6 +51,15 @@ impl<K: MapKey, L: AllFit> MapOf<K, L> {
         ensures err { OnErr result (plain_entries L.plain self.new ≡ plain_entries L.plain self.old) }
     {
         raise_entry(&mut self.entries, key, value)
+    }
+
+    /// Adds an entry behind the others, and answers whether its key comes behind theirs; else the map
+    /// is left as before, and after `NoMemory` too. Takes constant time on average.
+    pub fn push(&mut self, key: K, value: L) -> Result<bool, NoMemory>
+        ensures pushed { IfOk result (IsPushed (λ entries. IsTrue (is_sorted K.cmp entries)) (plain_entries L.plain self.old) (key, L.plain value) (plain_entries L.plain self.new)) }
+        ensures err { OnErr result (plain_entries L.plain self.new ≡ plain_entries L.plain self.old) }
+    {
+        push_entry(&mut self.entries, key, value)
     }
 
     /// The value at the key, and nothing where the key is not there. Takes no memory.
@@ -150,6 +159,16 @@ mod tests {
         for key in [0, 3, 5, 8] {
             assert!(rt; map.get(&key).is_none());
         }
+        Ok(())
+    }
+
+    #[test]
+    fn pushes_keys_that_come_behind_the_others(rt: HostRuntime) -> Result<(), Fail> {
+        let mut map = map_of(rt.alloc(), &[(2, 5)])?;
+        for (key, value, is_pushed) in [(4, 4, true), (3, 6, false), (4, 9, false), (7, 1, true)] {
+            assert_eq!(rt; map.push(key, MaxNum(value))?, is_pushed);
+        }
+        assert!(rt; shows(&map, &[(2, 5), (4, 4), (7, 1)]));
         Ok(())
     }
 

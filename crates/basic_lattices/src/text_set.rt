@@ -1,6 +1,7 @@
 //! Sets of words.
 ghost use Rattle.std.specs.Prelude.{◌≡◌, ◌||◌, List, [], ℕ, length, not, slice_get, OnOk, OnErr, IfOk, ⊤};
 ghost use Rattle.std.specs.Option.{option_map};
+ghost use Rattle.lattice_laws.specs.Entries.{IsPushed};
 ghost use Rattle.basic_lattices.specs.TextSet.{IsTextSet, has, with_word, united};
 ghost use Rattle.basic_lattices.specs.TextSetLaws.{set_laws, set_associative};
 
@@ -45,6 +46,15 @@ impl TextSet {
         let is_new = !self.has(&word);
         self.words.raise(word, Member)?;
         Ok(is_new)
+    }
+
+    /// Adds a word behind the others, and answers whether it comes behind them in the order of words;
+    /// else the set is left as before, and after `NoMemory` too. Takes constant time on average.
+    pub fn push(&mut self, word: Word) -> Result<bool, NoMemory>
+        ensures pushed { IfOk result (IsPushed IsTextSet self.old word self.new) }
+        ensures err { OnErr result (self.new ≡ self.old) }
+    {
+        self.words.push(word, Member)
     }
 
     /// Whether the word is in the set. Takes no memory.
@@ -144,6 +154,23 @@ mod tests {
         assert!(rt; shows(&set, &[b"a", b"b"]));
         assert!(rt; set.has(&Word::of(rt.alloc(), b"a")?));
         assert!(rt; !set.has(&Word::of(rt.alloc(), b"ab")?));
+        Ok(())
+    }
+
+    #[test]
+    fn pushes_words_that_come_behind_the_others(rt: HostRuntime) -> Result<(), Fail> {
+        let mut set = TextSet::new(rt.alloc());
+        let pushes = [
+            (b"b".as_slice(), true),
+            (b"milk", true),
+            (b"eggs", false),
+            (b"milk", false),
+            (b"milk1", true),
+        ];
+        for (word, is_pushed) in pushes {
+            assert_eq!(rt; set.push(Word::of(rt.alloc(), word)?)?, is_pushed);
+        }
+        assert!(rt; shows(&set, &[b"b", b"milk", b"milk1"]));
         Ok(())
     }
 

@@ -1,11 +1,14 @@
 //! Vector clocks.
 ghost use Rattle.std.specs.Prelude.{◌≡◌, List, [], ℕ, length, slice_get, refl, IfOk, OnOk, OnErr, ⊤};
+ghost use Rattle.lattice_laws.specs.Entries.{IsPushed};
 ghost use Rattle.clock_lattice.specs.Clock.{IsClock, count_of, joined_clocks, one_count, covers};
 ghost use Rattle.clock_lattice.specs.ClockLaws.{clock_laws, clock_associative};
 ghost use Rattle.clock_lattice.specs.ClockOrder.{clock_eq, clock_cmp, clock_partial_cmp, clock_total, clock_equivalence, clock_partial_equivalence, clock_partial_order, clock_ties};
 
 use crate::count::Count;
-use lattice_laws::entries::{at_most_entries, copy_entries, find_entry, join_entries, raise_entry};
+use lattice_laws::entries::{
+    at_most_entries, copy_entries, find_entry, join_entries, push_entry, raise_entry,
+};
 use lattice_laws::{AllFit, Lattice, NoMemory};
 use std::alloc::Global;
 use std::cmp::Ordering;
@@ -51,6 +54,20 @@ impl Clock {
             return Ok(());
         }
         raise_entry(&mut self.counts, session, Count::of(n))
+    }
+
+    /// Adds the count `n` of a session behind the others, and answers whether the session comes behind
+    /// theirs and `n` is not 0; else the clock is left as before, and after `NoMemory` too. Takes constant
+    /// time on average.
+    pub fn push(&mut self, session: u16, n: u64) -> Result<bool, NoMemory>
+        ensures pushed { IfOk result (IsPushed IsClock self.old (session, n) self.new) }
+        ensures err { OnErr result (self.new ≡ self.old) }
+    {
+        if n > 0 {
+            push_entry(&mut self.counts, session, Count::of(n))
+        } else {
+            Ok(false)
+        }
     }
 
     /// The join of two clocks: of each session the greater count.
@@ -213,6 +230,25 @@ mod tests {
                 &[(u16::MAX, u64::MAX)]
             )
         );
+        Ok(())
+    }
+
+    #[test]
+    fn pushes_sessions_that_come_behind_the_others(rt: HostRuntime) -> Result<(), Fail> {
+        let mut clock = Clock::new(rt.alloc());
+        let pushes = [
+            (2, 0, false),
+            (2, 5, true),
+            (7, 1, true),
+            (3, 4, false),
+            (7, 9, false),
+            (9, 0, false),
+            (u16::MAX, u64::MAX, true),
+        ];
+        for (session, n, is_pushed) in pushes {
+            assert_eq!(rt; clock.push(session, n)?, is_pushed);
+        }
+        assert!(rt; shows(&clock, &[(2, 5), (7, 1), (u16::MAX, u64::MAX)]));
         Ok(())
     }
 

@@ -3,12 +3,15 @@ ghost use Rattle.std.specs.Prelude.{◌≡◌, List, [], ℕ, length, slice_get,
 ghost use Rattle.std.specs.Option.{option_map};
 ghost use Rattle.std.specs.Ordering.{nat_cmp};
 ghost use Rattle.std.specs.FinMap.{find};
+ghost use Rattle.lattice_laws.specs.Entries.{IsPushed};
 ghost use Rattle.clock_lattice.specs.Needs.{IsNeeds, joined_needs, one_need, covers_needs};
 ghost use Rattle.clock_lattice.specs.NeedsLaws.{needs_laws, needs_associative};
 
 use crate::Clock;
 use crate::some_clock::SomeClock;
-use lattice_laws::entries::{at_most_entries, copy_entries, find_entry, join_entries, raise_entry};
+use lattice_laws::entries::{
+    at_most_entries, copy_entries, find_entry, join_entries, push_entry, raise_entry,
+};
 use lattice_laws::{AllFit, Lattice, NoMemory};
 use std::alloc::Global;
 use std::marker::Model;
@@ -54,6 +57,20 @@ impl Needs {
         }
         let raised = SomeClock::of(clock.copy()?);
         raise_entry(&mut self.clocks, key, raised)
+    }
+
+    /// Adds the clock of a key behind the others, and answers whether the key comes behind theirs and the
+    /// clock counts something; else the needs are left as before, and after `NoMemory` too. Takes constant
+    /// time on average.
+    pub fn push(&mut self, key: u16, clock: Clock) -> Result<bool, NoMemory>
+        ensures pushed { IfOk result (IsPushed IsNeeds self.old (key, clock) self.new) }
+        ensures err { OnErr result (self.new ≡ self.old) }
+    {
+        if clock.len() > 0 {
+            push_entry(&mut self.clocks, key, SomeClock::of(clock))
+        } else {
+            Ok(false)
+        }
     }
 
     /// The join of two needs: at each key the join of the two clocks.
@@ -177,6 +194,32 @@ mod tests {
         for key in [0, 1, 3, 5] {
             assert!(rt; needs.of(key).is_none());
         }
+        Ok(())
+    }
+
+    #[test]
+    fn pushes_keys_that_come_behind_the_others(rt: HostRuntime) -> Result<(), Fail> {
+        let mut needs = Needs::new(rt.alloc());
+        let pushes = [
+            (2, 1, 0, false),
+            (2, 1, 5, true),
+            (4, 3, 1, true),
+            (3, 1, 1, false),
+            (4, 1, 1, false),
+            (6, 2, 2, true),
+        ];
+        for (key, session, n, is_pushed) in pushes {
+            let mut clock = Clock::new(rt.alloc());
+            clock.raise(session, n)?;
+            assert_eq!(rt; needs.push(key, clock)?, is_pushed);
+        }
+        assert!(rt;
+            shows(
+                &needs,
+                &[2, 4, 6],
+                &[(2, 1, 5), (4, 3, 1), (4, 1, 0), (6, 2, 2)]
+            )
+        );
         Ok(())
     }
 

@@ -1,3 +1,4 @@
 mod Joining
 mod Merging
+mod Pushing
 mod Search

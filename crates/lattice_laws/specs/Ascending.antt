@@ -1,6 +1,7 @@
 -- Entries whose keys strictly rise: what is below them all, and what one of them raised by a value is.
-use Rattle.std.specs.Prelude.{◌≡◌, ℕ, zero, suc, ◌<◌, Bool, true, false, cond, ◌&&◌, T, IsTrue, List, [], ◌∷◌, length, slice_index_or, Some, None}
+use Rattle.std.specs.Prelude.{◌≡◌, ℕ, zero, suc, ◌+◌, ◌<◌, Bool, true, false, cond, ◌&&◌, T, IsTrue, List, [], ◌∷◌, ◌++◌, length, slice_get, slice_index_or, Some, None}
 use Rattle.std.proofs.Common.{refl, sym, ap, subst, ◌∙◌, arith}
+use Rattle.std.proofs.lemmas.Option.{get_or_from_slice_get}
 use mathlib.Core.Bool.{false≢true}
 use Rattle.std.specs.declared.cmp.Ordering.{Ordering}
 use Rattle.std.specs.declared.cmp.Ordering.TheVariants.{Less, Equal, Greater}
@@ -23,6 +24,17 @@ and_right false b h = absurd (false≢true h)
 -- what each of two tests says, both say
 pub and_both : (a b : Bool) → IsTrue a → IsTrue b → IsTrue (a && b)
 and_both a b g h = ap (λ x. x && b) g ∙ h
+
+-- where the second test implies the first, both say what the second does
+and_implied : (a b : Bool) → (IsTrue b → IsTrue a) → (a && b) ≡ b
+and_implied true b implied = refl
+and_implied false true implied = implied refl
+and_implied false false implied = refl
+
+-- a test with tests beside it that pass says the same
+and_true_twice : (a : Bool) → ((a && true) && true) ≡ a
+and_true_twice true = refl
+and_true_twice false = refl
 
 -- a test that passes is true
 pub true_from_pass : (b : Bool) → T b → IsTrue b
@@ -103,7 +115,28 @@ module _ {K P : Type 0} (cmp : K → K → Ordering) where
       ap (λ old. put cmp key (with_old joined old value) (e ∷ es)) (find_below key (e ∷ es) h)
       ∙ ap (λ r. by_order r ((key, value) ∷ e ∷ es) ((e.0, value) ∷ es) (e ∷ put cmp key value es)) (below_first key e es h)
 
+  -- a key below all, and below the key of one more, is below all of them
+  below_pushed : (key : K) (es : List (K × P)) (e : K × P) → IsTrue (below_all cmp key es) → cmp key e.0 ≡ Less → IsTrue (below_all cmp key (es ++ e ∷ []))
+  below_pushed key [] e h g = below_cons key e [] g refl
+  below_pushed key (x ∷ es) e h g = below_cons key x (es ++ e ∷ []) (below_first key x es h) (below_pushed key es e (below_others key x es h) g)
+
   module _ (total : IsTotalOrder cmp) where
+    -- entries rise with one more behind them just where its key is above the last one's
+    pub is_sorted-pushed : (es : List (K × P)) (i : ℕ) (last e : K × P) → i + 1 ≡ length es → slice_get es i ≡ Some last → IsTrue (is_sorted cmp es) → is_sorted cmp (es ++ e ∷ []) ≡ is_lt (cmp last.0 e.0)
+    is_sorted-pushed [] i last e ends here rises = absurd (omega arith)
+    is_sorted-pushed (x ∷ []) zero last e ends here rises =
+        let same : x ≡ last = cc in
+        and_true_twice (is_lt (cmp x.0 e.0)) ∙ ap (λ y. is_lt (cmp y.0 e.0)) same
+    is_sorted-pushed (x ∷ []) (suc i) last e ends here rises = absurd (omega arith)
+    is_sorted-pushed (x ∷ y ∷ es) zero last e ends here rises = absurd (omega arith)
+    is_sorted-pushed (x ∷ y ∷ es) (suc i) last e ends here rises =
+        let others = is_sorted-pushed (y ∷ es) i last e (omega arith) here (ascending_tail x (y ∷ es) rises) in
+        and_implied (below_all cmp x.0 (y ∷ es ++ e ∷ [])) (is_sorted cmp (y ∷ es ++ e ∷ [])) (λ rise.
+        let below_last : cmp x.0 last.0 ≡ Less = ap (λ z. cmp x.0 z.0) (sym (get_or_from_slice_get (y ∷ es) i last last here)) ∙ below_at x.0 (y ∷ es) i last (omega arith) (first_below x (y ∷ es) rises) in
+        let last_below : cmp last.0 e.0 ≡ Less = Less_from_is_lt _ (sym others ∙ rise) in
+        below_pushed x.0 (y ∷ es) e (first_below x (y ∷ es) rises) (total.trans x.0 last.0 e.0 below_last last_below))
+        ∙ others
+
     -- what is below a key is below all that the key is below
     pub below_through : (x y : K) (es : List (K × P)) → cmp x y ≡ Less → IsTrue (below_all cmp y es) → IsTrue (below_all cmp x es)
     below_through x y [] g h = refl

@@ -1,5 +1,5 @@
 -- Maps as lists of entries in the order of their keys, joined key by key.
-use Rattle.std.specs.Prelude.{◌≡◌, IsTrue, List, [], ◌∷◌, map, Option, Some, None, All}
+use Rattle.std.specs.Prelude.{◌≡◌, Bool, true, false, IsTrue, List, [], ◌∷◌, ◌++◌, map, Option, Some, None, All}
 use Rattle.std.specs.declared.cmp.Ordering.{Ordering}
 use Rattle.std.specs.FinMap.{find, put, is_sorted}
 use Rattle.lattice_laws.specs.Maybe.{joined_by}
@@ -16,6 +16,11 @@ IsEntry is_key is_value entry = is_key entry.0 × is_value entry.1
 pub record IsMap {K P : Type 0} (cmp : K → K → Ordering) (is_key : K → Type 0) (is_value : P → Type 0) (entries : List (K × P)) : Type 0 where
   pub ascending : IsTrue (is_sorted cmp entries)
   pub are_entries : All (IsEntry is_key is_value) entries
+
+-- An item was added behind a list, or the list was left as it was, since with the item it would not have its form.
+abbrev pub IsPushed : {X : Type 0} → (List X → Type 0) → List X → X → List X → Bool → Type 0
+IsPushed HasForm old item new true = new ≡ old ++ item ∷ []
+IsPushed HasForm old item new false = (new ≡ old) × (HasForm (old ++ item ∷ []) → ⊥)
 
 -- The entries are the join of two maps: at each key stands the join of what stood there in both, where nothing is a bottom.
 pub record IsJoin {K P : Type 0} (cmp : K → K → Ordering) (joined : P → P → P) (a b c : List (K × P)) : Type 0 where

@@ -2,10 +2,10 @@
 //!
 //! Contracts see entries through their plain values (`plain_entries`), and say with the words of
 //! `specs/Entries.antt` which map comes out. Each call that reads two maps passes once over both.
-ghost use Rattle.std.specs.Prelude.{◌≡◌, ◌↔◌, ◌≤◌, ◌<◌, ◌+◌, ◌∷◌, [], length, All, IsTrue, IfOk, IfErr, OnOk, OnErr, MatchOption};
+ghost use Rattle.std.specs.Prelude.{◌≡◌, ◌↔◌, ◌≤◌, ◌<◌, ◌+◌, ◌∷◌, ◌++◌, [], length, All, IsTrue, IfOk, IfErr, OnOk, OnErr, MatchOption};
 ghost use Rattle.std.specs.Option.{option_map};
 ghost use Rattle.std.specs.FinMap.{find, is_sorted};
-ghost use Rattle.lattice_laws.specs.Entries.{plain_entries, IsEntry, raised, joined_maps};
+ghost use Rattle.lattice_laws.specs.Entries.{plain_entries, IsEntry, IsPushed, raised, joined_maps};
 ghost use Rattle.lattice_laws.specs.Places.{IsPlaceOf, IsGapFor};
 ghost use Rattle.lattice_laws.specs.Merging.{first_side, IsJoinStep, NeverAtMost, IsPassed};
 
@@ -40,6 +40,25 @@ pub fn raise_entry<K: MapKey, L: AllFit>(
         Ok(at) => entries[at].1.join(&value),
         Err(at) => Ok(entries.insert(at, (key, value))?),
     }
+}
+
+/// Adds an entry behind the others, and answers whether its key comes behind theirs; else the map is
+/// left as before, and after `NoMemory` too. Takes constant time on average.
+pub fn push_entry<K: MapKey, L: AllFit>(
+    entries: &mut Vec<(K, L)>,
+    key: K,
+    value: L,
+) -> Result<bool, NoMemory>
+    requires { IsTrue (is_sorted K.cmp (plain_entries L.plain entries.old.items)) }
+    ensures pushed { IfOk result (IsPushed (λ entries. IsTrue (is_sorted K.cmp entries)) (plain_entries L.plain entries.old.items) (key, L.plain value) (plain_entries L.plain entries.new.items)) }
+    ensures err { OnErr result (plain_entries L.plain entries.new.items ≡ plain_entries L.plain entries.old.items) }
+    ensures ascending { IsTrue (is_sorted K.cmp (plain_entries L.plain entries.new.items)) }
+{
+    if !comes_last(entries, &key) {
+        return Ok(false);
+    }
+    entries.push((key, value))?;
+    Ok(true)
 }
 
 /// The join of two maps: at each key the join of what stands there in both.
@@ -119,6 +138,17 @@ fn place_of<K: MapKey, L: AllFit>(entries: &[(K, L)], key: &K) -> Result<usize, 
     )
 }
 
+// Whether the key comes behind those of all entries.
+fn comes_last<K: MapKey, L: AllFit>(entries: &[(K, L)], key: &K) -> bool
+    requires { IsTrue (is_sorted K.cmp (plain_entries L.plain entries.now)) }
+    ensures { (value : L.Plain) → result ≡ is_sorted K.cmp (plain_entries L.plain entries.now ++ (key.now, value) ∷ []) }
+{
+    match entries.last() {
+        Some(last) => last.0.cmp(key).is_lt(),
+        None => true,
+    }
+}
+
 // Pushes the first entry of the join of two maps that are not both empty, and says how many entries
 // of each it took.
 fn push_first<K: MapKey, L: AllFit>(
@@ -190,5 +220,27 @@ fn passed<K: MapKey, L: AllFit>(mine: &[(K, L)], entry: &(K, L)) -> Option<usize
         Ordering::Less => None,
         Ordering::Equal => first.1.at_most(&entry.1).then_some(1),
         Ordering::Greater => Some(0),
+    }
+}
+
+#[cfg(test)]
+mod tests {
+    use super::*;
+    use crate::Member;
+    use std::test::Fail;
+
+    #[test]
+    fn pushes_keys_that_come_behind_the_others(rt: HostRuntime) -> Result<(), Fail> {
+        let mut entries = Vec::new(rt.alloc());
+        assert!(rt; push_entry(&mut entries, 3_u16, Member)?);
+        assert!(rt; push_entry(&mut entries, 7, Member)?);
+        assert!(rt; !push_entry(&mut entries, 5, Member)?);
+        assert!(rt; !push_entry(&mut entries, 7, Member)?);
+        assert!(rt; push_entry(&mut entries, 8, Member)?);
+        assert_eq!(rt; entries.len(), 3);
+        for (entry, key) in entries.iter().zip([3_u16, 7, 8]) {
+            assert_eq!(rt; entry.0, key);
+        }
+        Ok(())
     }
 }

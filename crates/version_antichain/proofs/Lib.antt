@@ -1,2 +1,3 @@
 mod Overtaken
+mod Pushing
 mod Removal

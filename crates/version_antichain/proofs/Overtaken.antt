@@ -13,7 +13,7 @@ use Rattle.version_antichain.specs.Antichain.{IsStrictOrder, maximal, joined_ant
 use Rattle.version_antichain.specs.AntichainLaws.{is_within, has-cons}
 
 -- the keys of entries
-abbrev keys : {K M : Type 0} → List (K × M) → List K
+abbrev pub keys : {K M : Type 0} → List (K × M) → List K
 keys entries = map (λ entry. entry.0) entries
 
 -- the entries as a map to one point are the map of the set of their keys
@@ -32,7 +32,7 @@ united_keys cmp all a b e =
     ∙ ap keys_of (as_map-keys all ∙ e ∙ ap (λ m. joined_maps {P = Unit {0}} cmp (λ _ _. tt) m (plain_entries {P = Unit {0}} (λ _. tt) b)) (sym (as_map-keys a)) ∙ ap (joined_maps {P = Unit {0}} cmp (λ _ _. tt) (as_map (keys a))) (sym (as_map-keys b)))
 
 -- a test of the keys is one of the entries
-list_any-keys : {K M : Type 0} (test : K → Bool) (entries : List (K × M)) → list_any test (keys entries) ≡ list_any (λ entry. test entry.0) entries
+pub list_any-keys : {K M : Type 0} (test : K → Bool) (entries : List (K × M)) → list_any test (keys entries) ≡ list_any (λ entry. test entry.0) entries
 list_any-keys test [] = refl
 list_any-keys test (entry ∷ entries) = ap (λ rest. test entry.0 || rest) (list_any-keys test entries)
 

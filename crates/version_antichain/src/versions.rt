@@ -3,6 +3,7 @@ ghost use Rattle.std.specs.Prelude.{◌≡◌, ◌↔◌, ◌<◌, ◌||◌, Lis
 ghost use Rattle.std.specs.List.{list_any, list_all};
 ghost use Rattle.std.specs.Option.{option_map};
 ghost use Rattle.std.specs.Ordering.{eq_by_cmp};
+ghost use Rattle.lattice_laws.specs.Entries.{IsPushed};
 ghost use Rattle.lattice_laws.specs.Sets.{IsSet, united};
 ghost use Rattle.clock_lattice.specs.Clock as clocks;
 ghost use Rattle.version_antichain.specs.declared.version.Version.{Version};
@@ -14,7 +15,7 @@ ghost use Rattle.version_antichain.specs.VersionsLaws.{versions_laws, versions_a
 use crate::Version;
 use basic_lattices::Word;
 use clock_lattice::Clock;
-use lattice_laws::entries::{copy_entries, join_entries};
+use lattice_laws::entries::{copy_entries, join_entries, push_entry};
 use lattice_laws::{AllFit, Lattice, MapKey, Member, NoMemory};
 use std::alloc::Global;
 use std::marker::Model;
@@ -59,6 +60,21 @@ impl Versions {
         let mut versions = Vec::new(alloc);
         versions.push((version, Member))?;
         Ok(Versions { versions })
+    }
+
+    /// Adds a version behind the others, and answers whether it comes behind them in the order of
+    /// versions and no clock is then strictly below another; else the versions are left as before, and
+    /// after `NoMemory` too. Compares the version with each of the others.
+    pub fn push(&mut self, clock: Clock, word: Word) -> Result<bool, NoMemory>
+        ensures pushed { IfOk result (IsPushed IsVersions self.old (record { clock = clock; word = word }) self.new) }
+        ensures err { OnErr result (self.new ≡ self.old) }
+    {
+        let version = Version { clock, word };
+        if is_ordered_with(&version, self.versions.as_slice()) {
+            return Ok(false);
+        }
+        version.known();
+        push_entry(&mut self.versions, version, Member)
     }
 
     /// How many versions there are. Takes no memory.
@@ -163,6 +179,15 @@ fn is_overtaken(version: &Version, others: &[(Version, Member)]) -> bool
         .any(|other| is_below(&version.clock, &other.0.clock))
 }
 
+// Whether the version's clock is strictly below that of one of the others, or strictly above it.
+fn is_ordered_with(version: &Version, others: &[(Version, Member)]) -> bool
+    ensures { result ≡ list_any (λ other. is_below version.now other.0 || is_below other.0 version.now) others.now }
+{
+    others.iter().any(|other| {
+        is_below(&version.clock, &other.0.clock) || is_below(&other.0.clock, &version.clock)
+    })
+}
+
 // Whether the clock is strictly below the other.
 fn is_below(clock: &Clock, other: &Clock) -> bool
     ensures { result ≡ clocks.is_below clock.now other.now }
@@ -238,6 +263,33 @@ mod tests {
         assert!(rt; shows(rt.alloc(), &all, &[blue, red])?);
         all.join(&joined(rt.alloc(), &[later])?)?;
         assert!(rt; shows(rt.alloc(), &all, &[later])?);
+        Ok(())
+    }
+
+    #[test]
+    fn pushes_what_comes_behind_the_others_and_is_not_ordered_with_them(
+        rt: HostRuntime,
+    ) -> Result<(), Fail> {
+        let pushes: [(&[(u16, u64)], &[u8], bool); 7] = [
+            (&[(1, 1), (2, 2)], b"blue", true),
+            (&[(1, 1), (2, 2)], b"red", true),
+            (&[(1, 1), (2, 2)], b"green", false),
+            (&[(1, 1), (2, 2)], b"red", false),
+            (&[(1, 1), (2, 3)], b"later", false),
+            (&[(2, 1)], b"earlier", false),
+            (&[(2, 3)], b"other", true),
+        ];
+        let mut all = Versions::new(rt.alloc());
+        for (counts, word, is_pushed) in pushes {
+            let clock = clock_of(rt.alloc(), counts)?;
+            assert_eq!(rt; all.push(clock, Word::of(rt.alloc(), word)?)?, is_pushed);
+        }
+        let kept: [(&[(u16, u64)], &[u8]); 3] = [
+            (&[(1, 1), (2, 2)], b"blue"),
+            (&[(1, 1), (2, 2)], b"red"),
+            (&[(2, 3)], b"other"),
+        ];
+        assert!(rt; shows(rt.alloc(), &all, &kept)?);
         Ok(())
     }
 

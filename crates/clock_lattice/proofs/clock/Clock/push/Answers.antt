@@ -1,0 +1,11 @@
+use Rattle.std.specs.Ordering.{nat_cmp}
+use Rattle.std.proofs.Common.{◌<◌, ◌^◌, arith}
+use Rattle.lattice_laws.specs.EntriesLaws.{map_after_push}
+use Rattle.clock_lattice.specs.Clock.{IsCount}
+use Rattle.clock_lattice.proofs.clock.Clock.push.Goals as goal
+
+pub invariant_of-self : goal.invariant_of-self
+invariant_of-self c =
+    map_after_push nat_cmp (λ session. session < 2 ^ 16) IsCount c.push_entry.result _ (c.args.session, c.of.result) _
+    c.push_entry.ensures.pushed c.push_entry.ensures.err c.push_entry.ensures.ascending
+    (c.ranges.session.fits, (omega (arith, c.of.ensures), omega (arith, c.of.ensures, c.ranges.n.fits))) c.self.invariant
