@@ -103,12 +103,12 @@ pub report_may : (script : Script) (table : List (List ℕ)) (report : Report) �
 report_may script table report valid form = sessions_may script table script.sessions report.answers valid.sessions form.answers
 
 -- what holds of each part holds of the parts joined
-All-flat_map : {A B : Type 0} (Q : A → Type 0) (P : B → Type 0) (parts : A → List B) (items : List A) → ((item : A) → Q item → All P (parts item)) → All Q items → All P (flat_map parts items)
+pub All-flat_map : {A B : Type 0} (Q : A → Type 0) (P : B → Type 0) (parts : A → List B) (items : List A) → ((item : A) → Q item → All P (parts item)) → All Q items → All P (flat_map parts items)
 All-flat_map Q P parts [] each all = All-nil P
 All-flat_map Q P parts (item ∷ items) each all = All-append P (parts item) (flat_map parts items) (each item (All-head Q item items all)) (All-flat_map Q P parts items each (All-tail Q item items all))
 
 -- the numbers from 1 to n
-All-one_of : (n : ℕ) → All (IsOneOf n) (range_with_len 1 n)
+pub All-one_of : (n : ℕ) → All (IsOneOf n) (range_with_len 1 n)
 All-one_of n = All-from_get_or (IsOneOf n) (range_with_len 1 n) 0 (λ i within. let within' : i < n = omega (arith, length-range_with_len 1 n) in rw (get_or-range_with_len 1 n i 0 within') (omega arith, omega arith))
 
 -- the places of final cells have keys of the script

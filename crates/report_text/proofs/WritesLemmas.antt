@@ -15,7 +15,7 @@ use Rattle.script_reader.specs.declared.outside.Failed.{Failed}
 use Rattle.composed_value.specs.declared.value.Value.{Value}
 use Rattle.session_known.specs.declared.report.FinalCell.{FinalCell}
 use Rattle.session_known.specs.declared.script.Script.{Script}
-use Rattle.report_text.specs.Text.{final_words, key_name, session_name, braced, cell_words, line_text}
+use Rattle.report_text.specs.Text.{final_words, key_name, session_name, braced, cell_words, line_text, clock_word, value_word, short_words}
 use Rattle.report_text.specs.Writes.{Wrote, Adds, between, line_end, line_of, cell_text, await_text}
 
 -- nothing was written
@@ -91,6 +91,10 @@ await_line script key session count behind = simp append_assoc
 pub final_line : (script : Script) (cell : FinalCell) → line_text (final_words script cell) ≡ key_name script cell.key ++ (codes " @" ++ (decimal cell.worker ++ (cell_text script cell.clock cell.top cell.value ++ 10 ∷ [])))
 final_line script cell =
     line_text_is (final_words script cell) ∙ ap (λ end. key_name script cell.key ++ (codes " @" ++ (decimal cell.worker ++ end))) (cell_line script cell.clock cell.top cell.value [])
+
+-- the short line of a cell
+pub short_line : (script : Script) (cell : FinalCell) → line_text (short_words script cell) ≡ key_name script cell.key ++ (codes " clock " ++ (clock_word script cell.clock ++ (codes " value " ++ (value_word script cell.value ++ 10 ∷ []))))
+short_line script cell = line_text_is (short_words script cell)
 
 -- the line of a commit that put something
 pub commit_line : (puts lamport : ℕ) → puts ≢ 0 → line_of (if puts == 0 then (codes "commit" ∷ codes "0" ∷ []) else (codes "commit" ∷ decimal puts ∷ codes "at" ∷ decimal lamport ∷ [])) ≡ line_of (codes "commit" ∷ decimal puts ∷ codes "at" ∷ decimal lamport ∷ [])

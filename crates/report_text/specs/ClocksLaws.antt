@@ -34,7 +34,7 @@ needs_needed script needs are =
 
 module _ (script : Script) (names : TellsNames script) where
   -- a session with a count is told
-  count_tells : Tells (IsCounted script) 44 (count_text script)
+  pub count_tells : Tells (IsCounted script) 44 (count_text script)
   count_tells a b us vs is_a is_b stops_us stops_vs same =
       let cut = cut_piece is_spelling_byte 58 refl (session_name script a.0) (session_name script b.0) (decimal a.1) (decimal b.1) us vs (session_spelled script names a.0) (session_spelled script names b.0) same in
       let number = cut_at is_spelling_byte 44 refl (decimal a.1) (decimal b.1) us vs (decimal_spelled a.1) (decimal_spelled b.1) stops_us stops_vs cut.1 in
@@ -51,7 +51,7 @@ module _ (script : Script) (names : TellsNames script) where
   clock_told a b all_a all_b same = listed_tells (IsCounted script) (count_text script) count_tells count_marked a b all_a all_b same
 
   -- the bytes of a session with a count
-  count_passes : (marks : List ℕ) → made_of marks 58 ≡ true → (entry : ℕ × ℕ) → IsCounted script entry → Passes (made_of marks) (count_text script entry)
+  pub count_passes : (marks : List ℕ) → made_of marks 58 ≡ true → (entry : ℕ × ℕ) → IsCounted script entry → Passes (made_of marks) (count_text script entry)
   count_passes marks colon entry is =
       both_pass (made_of marks) (session_name script entry.0) (codes ":" ++ decimal entry.1) (spelled_made marks (session_name script entry.0) (session_spelled script names entry.0))
       (and_from (made_of marks 58) _ colon (spelled_made marks (decimal entry.1) (decimal_spelled entry.1)))
@@ -61,14 +61,18 @@ module _ (script : Script) (names : TellsNames script) where
   clock_passes marks colon comma clock all =
       listed_passes marks comma (map (count_text script) clock) (all_map (IsCounted script) (Passes (made_of marks)) (count_text script) (count_passes marks colon) clock all)
 
-  -- a key with a clock is told, and so is what stands behind it
-  need_tells : Tells (IsNeeded script) 44 (need_text script)
-  need_tells a b us vs is_a is_b stops_us stops_vs same =
+  -- a key with a clock is told, and so is whatever stands behind it
+  pub need_ends : (a b : ℕ × List (ℕ × ℕ)) (us vs : List ℕ) → IsNeeded script a → IsNeeded script b → need_text script a ++ us ≡ need_text script b ++ vs → (a ≡ b) × (us ≡ vs)
+  need_ends a b us vs is_a is_b same =
       let cut = cut_piece is_spelling_byte 123 refl (key_name script a.0) (key_name script b.0) (clock_word script a.1 ++ codes "}") (clock_word script b.1 ++ codes "}") us vs (key_spelled script names a.0) (key_spelled script names b.0) same in
       let inner = cut_piece (made_of (codes ":,")) 125 refl (clock_word script a.1) (clock_word script b.1) [] [] us vs (clock_passes (codes ":,") refl refl a.1 is_a.1) (clock_passes (codes ":,") refl refl b.1 is_b.1) cut.1 in
       let key = key_told script names a.0 b.0 is_a.0 is_b.0 cut.0 in
       let clock = clock_told a.1 b.1 is_a.1 is_b.1 inner.0 in
       (λ i. (key i, clock i), inner.1)
+
+  -- so it is where what stands behind it begins with a comma
+  need_tells : Tells (IsNeeded script) 44 (need_text script)
+  need_tells a b us vs is_a is_b stops_us stops_vs same = need_ends a b us vs is_a is_b same
 
   -- it has a brace
   need_marked : IsMarked (IsNeeded script) (need_text script)

@@ -2,6 +2,13 @@ pub mod AnswersLaws
 pub mod ClocksLaws
 pub mod LinesLaws
 pub mod NamesLaws
+pub mod ReadAnswers
+pub mod ReadCells
+pub mod ReadLines
+pub mod ReadNeeds
+pub mod ReadRows
+pub mod ReadValues
+pub mod Reads
 pub mod RenderingLaws
 pub mod ReportsLaws
 pub mod RowsLaws

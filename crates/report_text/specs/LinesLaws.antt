@@ -108,11 +108,11 @@ module _ (script : Script) (names : TellsNames script) where
   answer_line level line answer fit = absurd (omega arith)
 
   -- the words of a session
-  session_line : (plan : SessionPlan) → IsName plan.name → IsLine (codes "session" ∷ plan.name ∷ level_word plan.level ∷ [])
+  pub session_line : (plan : SessionPlan) → IsName plan.name → IsLine (codes "session" ∷ plan.name ∷ level_word plan.level ∷ [])
   session_line plan named = (refl, (spelled_made word_marks plan.name (list_all-from_AllPass is_spelling_byte plan.name named.allowed), (level_passes plan.level, tt)))
 
   -- the words of a final cell
-  final_line : (cell : FinalCell) → IsFinalIn script cell → IsLine (final_words script cell)
+  pub final_line : (cell : FinalCell) → IsFinalIn script cell → IsLine (final_words script cell)
   final_line cell is = (key_passes cell.key, (worker_passes cell.worker, cell_line (kind_at script.kinds cell.key) cell.clock cell.top cell.value [] is.clock_is is.value_is tt))
 
   -- ---- the lines of a report

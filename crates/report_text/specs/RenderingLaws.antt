@@ -34,7 +34,7 @@ abbrev pub in_word : ℕ → Bool
 in_word = made_of word_marks
 
 -- the bytes of lines
-abbrev in_line : ℕ → Bool
+abbrev pub in_line : ℕ → Bool
 in_line b = in_word b || (b == 32)
 
 -- a line has some words, and their bytes are those of words
@@ -133,12 +133,12 @@ in_line_all [] all = tt
 in_line_all (word ∷ words) all = (passes_weaker in_word in_line (λ b is. or_left (in_word b) (b == 32) is) word all.0, in_line_all words all.1)
 
 -- nor does their row
-row_passes : (words : List (List ℕ)) → IsLine words → Passes in_line (join_with_byte 32 words)
+pub row_passes : (words : List (List ℕ)) → IsLine words → Passes in_line (join_with_byte 32 words)
 row_passes [] is = absurd is
 row_passes (word ∷ words) is = join_passes in_line 32 refl (word ∷ words) (in_line_all (word ∷ words) is)
 
 -- a line and what stands behind it
-line_behind : (words : List (List ℕ)) (rest : List ℕ) → line_text words ++ rest ≡ join_with_byte 32 words ++ 10 ∷ rest
+pub line_behind : (words : List (List ℕ)) (rest : List ℕ) → line_text words ++ rest ≡ join_with_byte 32 words ++ 10 ∷ rest
 line_behind words rest = append_assoc (join_with_byte 32 words) (10 ∷ []) rest
 
 -- a line ends, so its text is not empty
@@ -146,14 +146,18 @@ line_some : (text rest : List ℕ) → [] ≡ text ++ 10 ∷ rest → ⊥
 line_some [] rest same = absurd cc
 line_some (b ∷ text) rest same = absurd cc
 
+-- A line is told from its text and what stands behind it, and so is that.
+pub line_tells : (words others : List (List ℕ)) (us vs : List ℕ) → IsLine words → IsLine others → line_text words ++ us ≡ line_text others ++ vs → (words ≡ others) × (us ≡ vs)
+line_tells words others us vs is_a is_b same =
+    let cut = cut_once in_line 10 refl (join_with_byte 32 words) (join_with_byte 32 others) us vs (row_passes words is_a) (row_passes others is_b) (sym (line_behind words us) ∙ same ∙ line_behind others vs) in
+    (words_tell words others is_a is_b cut.0, cut.1)
+
 -- Lines are told from their text.
 pub lines_tell : (lines others : List (List (List ℕ))) → AllByRecursion IsLine lines → AllByRecursion IsLine others → flat_map line_text lines ≡ flat_map line_text others → lines ≡ others
 lines_tell [] [] all_a all_b same = refl
 lines_tell [] (other ∷ others) all_a all_b same = absurd (line_some (join_with_byte 32 other) (flat_map line_text others) (same ∙ line_behind other (flat_map line_text others)))
 lines_tell (line ∷ lines) [] all_a all_b same = absurd (line_some (join_with_byte 32 line) (flat_map line_text lines) (sym same ∙ line_behind line (flat_map line_text lines)))
 lines_tell (line ∷ lines) (other ∷ others) all_a all_b same =
-    let cut = cut_once in_line 10 refl (join_with_byte 32 line) (join_with_byte 32 other) (flat_map line_text lines) (flat_map line_text others) (row_passes line all_a.0) (row_passes other all_b.0)
-    (sym (line_behind line (flat_map line_text lines)) ∙ same ∙ line_behind other (flat_map line_text others)) in
-    let first = words_tell line other all_a.0 all_b.0 cut.0 in
-    let rest = lines_tell lines others all_a.1 all_b.1 cut.1 in
-    λ i. first i ∷ rest i
+    let first = line_tells line other (flat_map line_text lines) (flat_map line_text others) all_a.0 all_b.0 same in
+    let rest = lines_tell lines others all_a.1 all_b.1 first.1 in
+    λ i. first.0 i ∷ rest i

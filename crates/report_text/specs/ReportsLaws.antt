@@ -18,11 +18,11 @@ use Rattle.report_text.specs.Text.{answer_words, answers_lines, sessions_lines, 
 use Rattle.report_text.specs.ValuesLaws.{value_told}
 
 -- the answers to the lines of a session
-abbrev AreAnswers : Script → SessionPlan → List Answer → Type 0
+abbrev pub AreAnswers : Script → SessionPlan → List Answer → Type 0
 AreAnswers script plan answers = AllZip (Fits script plan.level) plan.lines answers
 
 -- where a final cell stands
-abbrev place_of : FinalCell → ℕ × ℕ
+abbrev pub place_of : FinalCell → ℕ × ℕ
 place_of cell = (cell.key, cell.worker)
 
 module _ (script : Script) (names : TellsNames script) where

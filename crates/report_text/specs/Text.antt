@@ -136,6 +136,10 @@ sessions_lines script plans others = []
 abbrev pub final_words : Script → FinalCell → List (List ℕ)
 final_words script cell = key_name script cell.key ∷ worker_word cell.worker ∷ cell_words script cell.clock cell.top cell.value []
 
+-- the short line of a cell: `K clock CLOCK value VALUE`
+abbrev pub short_words : Script → FinalCell → List (List ℕ)
+short_words script cell = key_name script cell.key ∷ codes "clock" ∷ clock_word script cell.clock ∷ codes "value" ∷ value_word script cell.value ∷ []
+
 -- The lines of a report, each a list of words.
 abbrev pub report_lines : Script → Report → List (List (List ℕ))
 report_lines script report =

@@ -287,7 +287,11 @@ fn write_versions<K: Sink>(sink: &mut K, script: &Script, versions: &Versions) -
 }
 
 /// Writes a value.
-fn write_value<K: Sink>(sink: &mut K, script: &Script, value: &Value) -> Result<(), Failed>
+pub(crate) fn write_value<K: Sink>(
+    sink: &mut K,
+    script: &Script,
+    value: &Value,
+) -> Result<(), Failed>
     requires { ValueNamesSessions script.now value.now }
     ensures { Adds K.written K.faults sink.old sink.new (value_word script.now value.now) result }
 {

@@ -4,11 +4,11 @@ ghost use Rattle.std.specs.List.{AllZip, flat_map};
 ghost use Rattle.session_known.specs.Form.{HasForm, IsFinalIn};
 ghost use Rattle.session_known.specs.Script.{IsValidScript, IsOneOf};
 ghost use Rattle.script_reader.specs.Outside.{HasCause};
-ghost use Rattle.report_text.specs.Text.{level_word, answers_lines, sessions_lines, text_of, line_text, final_words};
+ghost use Rattle.report_text.specs.Text.{level_word, answers_lines, sessions_lines, text_of, line_text, final_words, short_words};
 ghost use Rattle.report_text.specs.Writes.{Adds, MayAnswer, Wrote, session_text};
 
 use crate::answers::write_answer;
-use crate::cells::{write_cell, write_key, write_name};
+use crate::cells::{write_cell, write_clock, write_key, write_name, write_value};
 use crate::pieces::{write_number, write_piece};
 use lattice_laws::Items;
 use script_reader::outside::{Failed, Sink};
@@ -40,6 +40,20 @@ pub fn write_final<K: Sink>(script: &Script, cell: &FinalCell, sink: &mut K) -> 
     ensures cause { HasCause (K.faults sink.old) (K.faults sink.new) result }
 {
     write_final_line(sink, script, cell)
+}
+
+/// Writes the short line of a cell, `K clock CLOCK value VALUE` and a line feed, for a summary. The
+/// cell's key, worker and sessions are the script's, and its value is of the key's kind. `Failed` as
+/// for [`write_report`]. Takes no memory.
+pub fn write_short<K: Sink>(script: &Script, cell: &FinalCell, sink: &mut K) -> Result<(), Failed>
+    requires valid { (table : List (List ℕ)) × IsValidScript script.now table }
+    requires key { IsOneOf (length script.now.config.keys) cell.now.key }
+    requires worker { IsOneOf script.now.config.workers cell.now.worker }
+    requires cell { IsFinalIn script.now cell.now }
+    ensures wrote { Wrote (K.written sink.old) (K.written sink.new) (line_text (short_words script.now cell.now)) result }
+    ensures cause { HasCause (K.faults sink.old) (K.faults sink.new) result }
+{
+    write_short_line(sink, script, cell)
 }
 
 // ---- sessions
@@ -123,6 +137,20 @@ fn write_final_line<K: Sink>(sink: &mut K, script: &Script, cell: &FinalCell) ->
     write_piece(sink, b" @")?;
     write_number(sink, cell.worker)?;
     write_cell(sink, script, &cell.clock, cell.top, &cell.value)?;
+    write_piece(sink, b"\n")
+}
+
+/// Writes the short line of a cell.
+fn write_short_line<K: Sink>(sink: &mut K, script: &Script, cell: &FinalCell) -> Result<(), Failed>
+    requires key { IsOneOf (length script.now.config.keys) cell.now.key }
+    requires cell { IsFinalIn script.now cell.now }
+    ensures { Adds K.written K.faults sink.old sink.new (line_text (short_words script.now cell.now)) result }
+{
+    write_key(sink, script, cell.key)?;
+    write_piece(sink, b" clock ")?;
+    write_clock(sink, script, &cell.clock)?;
+    write_piece(sink, b" value ")?;
+    write_value(sink, script, &cell.value)?;
     write_piece(sink, b"\n")
 }
 
