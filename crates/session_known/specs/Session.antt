@@ -92,6 +92,14 @@ abbrev pub needs_learned : Level → Option (List (ℕ × List (ℕ × ℕ))) �
 needs_learned Causal (Some needs) = needs
 needs_learned level shown = []
 
+-- what is known once a clock of the key, a Lamport number, and needs where there are any are learned
+abbrev pub knows_learned : Knowledge → ℕ → List (ℕ × ℕ) → ℕ → Option (List (ℕ × List (ℕ × ℕ))) → Knowledge
+knows_learned knows key clock top learned = record {
+  known = joined_needs (joined_needs knows.known (one_need key clock)) (unwrap_or learned []);
+  lamport = max knows.lamport top;
+  own = knows.own;
+}
+
 -- all that a cell has to show, its needs too
 abbrev pub shown_of : PlainCell → Shown
 shown_of cell = record { clock = cell.clock; top = cell.top; value = cell.value; needs = Some cell.needs }

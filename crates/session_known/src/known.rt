@@ -1,13 +1,13 @@
 //! What a session knows between its lines.
-ghost use Rattle.std.specs.Prelude.{◌≡◌, ◌↔◌, ◌+◌, ◌^◌, ◌<◌, max, IsTrue, OnOk, OnErr, MatchOption};
+ghost use Rattle.std.specs.Prelude.{◌≡◌, ◌+◌, ◌^◌, ◌<◌, [], max, unwrap_or, OnOk, OnErr, MatchOption};
 ghost use Rattle.std.specs.Option.{option_map};
 ghost use Rattle.std.specs.Ordering.{nat_cmp};
 ghost use Rattle.std.specs.FinMap.{find};
+ghost use Rattle.clock_lattice.specs.Needs.{joined_needs, one_need};
 ghost use Rattle.session_known.specs.Lawful.{last_lamport};
-ghost use Rattle.session_known.specs.Session.{nothing_known, own_count, knows_put, shown_of, knows_shown};
-ghost use Rattle.session_known.specs.declared.script.Level.TheVariants.{Causal};
+ghost use Rattle.session_known.specs.Session.{nothing_known, own_count, knows_put, needs_learned, knows_learned, shown_of, knows_shown};
 
-use crate::Level;
+use crate::{Level, Shown};
 use clock_lattice::{Clock, Needs};
 use composed_value::Cell;
 use lattice_laws::{Lattice, NoMemory};
@@ -60,16 +60,35 @@ impl Known {
         ensures ok { OnOk result (self.new.knows ≡ knows_shown self.old.client self.old.knows key (shown_of cell.now)) }
         ensures err { OnErr result (self.new.knows ≡ self.old.knows) }
     {
-        if learns_needs(self.level) {
-            self.needs.known();
-            cell.known();
-            let mut needs = self.needs.joined(cell.needs())?;
-            needs.raise(key, cell.clock())?;
-            self.needs = needs;
-        } else {
-            self.needs.raise(key, cell.clock())?;
-        }
-        self.lamport = self.lamport.max(cell.top());
+        let learned = learned(self.level, Some(cell.needs()));
+        self.learn(key, cell.clock(), cell.top(), learned)
+    }
+
+    /// Takes in what a reply has shown of the key, as [`Known::note_reply`] takes in a cell. After
+    /// `NoMemory` what is known is as before.
+    pub fn note_shown(&mut self, key: u16, shown: &Shown) -> Result<(), NoMemory>
+        ensures client { self.new.client ≡ self.old.client }
+        ensures ok { OnOk result (self.new.knows ≡ knows_shown self.old.client self.old.knows key shown.now) }
+        ensures err { OnErr result (self.new.knows ≡ self.old.knows) }
+    {
+        let learned = learned(self.level, shown.needs.as_ref());
+        self.learn(key, &shown.clock, shown.top, learned)
+    }
+
+    // Takes in a clock of the key, a Lamport number, and causal dependencies where any are learned.
+    fn learn(
+        &mut self,
+        key: u16,
+        clock: &Clock,
+        top: u64,
+        learned: Option<&Needs>,
+    ) -> Result<(), NoMemory>
+        ensures client { self.new.client ≡ self.old.client }
+        ensures ok { OnOk result (self.new.knows ≡ knows_learned self.old.knows key clock.now top (option_map (λ needs. needs.now) learned.entry)) }
+        ensures err { OnErr result (self.new.knows ≡ self.old.knows) }
+    {
+        learn_needs(&mut self.needs, key, clock, learned)?;
+        self.lamport = self.lamport.max(top);
         Ok(())
     }
 
@@ -125,11 +144,37 @@ impl Known {
     }
 }
 
-// Whether a session of the level learns the causal dependencies that a reply shows.
-fn learns_needs(level: Level) -> bool
-    ensures { IsTrue result ↔ (level ≡ Causal) }
+// Joins a clock of the key into what is known, and the causal dependencies that are learned, if any.
+fn learn_needs(
+    known: &mut Needs,
+    key: u16,
+    clock: &Clock,
+    learned: Option<&Needs>,
+) -> Result<(), NoMemory>
+    ensures ok { OnOk result (known.new ≡ joined_needs (joined_needs known.old (one_need key clock.now)) (unwrap_or (option_map (λ needs. needs.now) learned.entry) [])) }
+    ensures err { OnErr result (known.new ≡ known.old) }
 {
-    matches!(level, Level::Causal)
+    let Some(learned) = learned else {
+        return known.raise(key, clock);
+    };
+    known.known();
+    learned.known();
+    clock.known();
+    let mut joined = known.joined(learned)?;
+    joined.raise(key, clock)?;
+    *known = joined;
+    Ok(())
+}
+
+// The causal dependencies that a session of the level learns where a reply shows these: all of them where
+// it is causal.
+fn learned<'a>(level: Level, shown: Option<&'a Needs>) -> Option<&'a Needs>
+    ensures { unwrap_or (option_map (λ needs. needs.now) result) [] ≡ needs_learned level (option_map (λ needs. needs.now) shown.entry) }
+{
+    match level {
+        Level::Causal => shown,
+        Level::Eventual | Level::Committed => None,
+    }
 }
 
 #[cfg(test)]
@@ -177,6 +222,23 @@ mod tests {
             assert_eq!(rt; known.own(5), 0);
             assert_eq!(rt; known.next_number(), Some(10));
         }
+        Ok(())
+    }
+
+    #[test]
+    fn learns_from_what_a_reply_has_shown(rt: HostRuntime) -> Result<(), Fail> {
+        let cell = shown(rt.alloc(), 9)?;
+        let shown = Shown {
+            clock: cell.clock().copy()?,
+            top: cell.top(),
+            value: cell.value().copy()?,
+            needs: Some(cell.needs().copy()?),
+        };
+        let mut known = Known::new(rt.alloc(), 1, Level::Causal);
+        known.note_shown(5, &shown)?;
+        assert_eq!(rt; counts(&known, 5, 2), 3);
+        assert_eq!(rt; counts(&known, 7, 3), 1);
+        assert_eq!(rt; known.next_number(), Some(10));
         Ok(())
     }
 
