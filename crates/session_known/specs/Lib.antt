@@ -1,5 +1,6 @@
 pub mod Accepted
 pub mod Form
+pub mod FormLaws
 pub mod Known
 pub mod Lawful
 pub mod Laws

@@ -53,6 +53,20 @@ impl Known {
         }
     }
 
+    /// The number of the session, from 1. Takes no memory.
+    pub fn session(&self) -> u16
+        ensures { result ≡ self.now.client.session }
+    {
+        self.session
+    }
+
+    /// What the session is promised. Takes no memory.
+    pub fn level(&self) -> Level
+        ensures { result ≡ self.now.client.level }
+    {
+        self.level
+    }
+
     /// Takes in the cell of the key that a reply shows: its clock, its greatest Lamport number and, in a
     /// causal session, its causal dependencies. After `NoMemory` what is known is as before.
     pub fn note_reply(&mut self, key: u16, cell: &Cell) -> Result<(), NoMemory>
@@ -215,6 +229,7 @@ mod tests {
             (Level::Eventual, 0),
         ] {
             let mut known = Known::new(rt.alloc(), 1, level);
+            assert_eq!(rt; (known.session(), known.level()), (1, level));
             assert_eq!(rt; known.next_number(), Some(1));
             known.note_reply(5, &cell)?;
             assert_eq!(rt; counts(&known, 5, 2), 3);
