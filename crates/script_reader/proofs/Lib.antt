@@ -1,7 +1,9 @@
 pub mod CommandLemmas
 pub mod DeclaredLemmas
+pub mod EqLemmas
 pub mod GrammarLemmas
 pub mod LineLemmas
 pub mod OutsideLemmas
 pub mod PinLemmas
+pub mod SplitLemmas
 pub mod WordLemmas

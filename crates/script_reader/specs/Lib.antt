@@ -14,6 +14,7 @@ pub mod Outside
 pub mod Reader
 pub mod Said
 pub mod SaidLaws
+pub mod Split
 pub mod Steps
 pub mod StepsLaws
 pub mod ValidContext

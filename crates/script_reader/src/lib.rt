@@ -22,9 +22,11 @@ pub mod outside;
 mod payload;
 mod pins;
 mod reader;
+mod split;
 mod words;
 
 pub use built::Built;
 pub use fault::ScriptFault;
 pub use grammar::{MOST_BYTES, read_script, read_script_built};
+pub use split::split_input;
 pub use session_known::{Answer, FinalCell, Level, Line, Report, Script, SessionPlan, Shown};

@@ -43,7 +43,7 @@ fn drop_empty_last(lines: &mut Vec<&[u8]>)
 }
 
 /// A line without the carriage return at its end.
-fn without_return(line: &[u8]) -> &[u8]
+pub(crate) fn without_return(line: &[u8]) -> &[u8]
     ensures { result.now ≡ strip_carriage_return line.now }
 {
     match line {
