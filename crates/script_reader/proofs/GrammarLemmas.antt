@@ -82,7 +82,7 @@ before_step p x xs false is =
     let more : 1 + prefix_len (λ y. not (p y)) xs ≡ suc (prefix_len (λ y. not (p y)) xs) = omega arith in
     ap (λ t. take (cond (not t) (1 + prefix_len (λ y. not (p y)) xs) 0) (x ∷ xs)) is ∙ ap (λ n. take n (x ∷ xs)) more
 
-none_parts : (a b : Bool) → (a || b) ≡ false → (a ≡ false) × (b ≡ false)
+pub none_parts : (a b : Bool) → (a || b) ≡ false → (a ≡ false) × (b ≡ false)
 none_parts true b none = absurd (true≢false none)
 none_parts false b none = (refl, none)
 
@@ -130,7 +130,7 @@ text_fine true code none = none
 text_fine false code none = absurd (cc)
 
 -- what a line says that is not at fault
-said_fine : (context : Context) (ended : Bool) (line : List ℕ) (statement : Statement) → code_said context ended line (Some statement) ≡ None → (ended ≡ false) × (code_of context statement.keyword statement.words ≡ None)
+pub said_fine : (context : Context) (ended : Bool) (line : List ℕ) (statement : Statement) → code_said context ended line (Some statement) ≡ None → (ended ≡ false) × (code_of context statement.keyword statement.words ≡ None)
 said_fine context true line statement none = absurd (cc)
 said_fine context false line statement none = (refl, text_fine (list_all is_text_byte line) _ none)
 

@@ -1,9 +1,11 @@
 pub mod CommandLemmas
 pub mod DeclaredLemmas
 pub mod EqLemmas
+pub mod FedLemmas
 pub mod GrammarLemmas
 pub mod LineLemmas
 pub mod OutsideLemmas
 pub mod PinLemmas
+pub mod ScriptEndLemmas
 pub mod SplitLemmas
 pub mod WordLemmas

@@ -28,5 +28,5 @@ mod words;
 pub use built::Built;
 pub use fault::ScriptFault;
 pub use grammar::{MOST_BYTES, read_script, read_script_built};
-pub use split::split_input;
+pub use split::{scripts_are_split_off, split_input};
 pub use session_known::{Answer, FinalCell, Level, Line, Report, Script, SessionPlan, Shown};

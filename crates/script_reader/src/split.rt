@@ -1,8 +1,11 @@
 //! Where the script of an input ends.
-ghost use Rattle.std.specs.Prelude.{◌≡◌, ◌+◌, ◌≤◌, List, [], ◌∷◌, length, MatchOption};
+ghost use Rattle.std.specs.Prelude.{◌≡◌, ℕ, ◌+◌, ◌≤◌, List, [], ◌∷◌, ◌++◌, take, length, IsTrue, MatchOption};
 ghost use Rattle.std.specs.List.{slice_split};
+ghost use Rattle.session_known.specs.declared.script.Script.{Script};
+ghost use Rattle.script_reader.specs.Grammar.{IsScript};
 ghost use Rattle.script_reader.specs.Lines.{is_line_feed};
 ghost use Rattle.script_reader.specs.Split.{is_end_alone as says_end_alone, split_place};
+ghost use Rattle.script_reader.specs.declared.built.Built.{Built};
 
 use crate::lines::without_return;
 use std::iter::once;
@@ -43,3 +46,12 @@ pub fn split_input(bytes: &[u8]) -> usize
     }
     bytes.len()
 }
+
+/// A script that ends with a line feed is split off an input that begins with it, whatever follows:
+/// what stands before the place is that script, without the blank lines and comments that it may have
+/// behind its end line, and the whole of it where its last line is its end line.
+pub fn scripts_are_split_off()
+    ensures script { (built : Built) (text more : List ℕ) (script : Script) → IsScript built (text ++ 10 ∷ []) script → IsScript built (take (split_place (text ++ 10 ∷ more)) (text ++ 10 ∷ more)) script }
+    ensures same { (built : Built) (text more : List ℕ) (script : Script) → IsScript built (text ++ 10 ∷ []) script → split_place (text ++ 10 ∷ more) ≡ split_place (text ++ 10 ∷ []) }
+    ensures whole { (built : Built) (text more : List ℕ) (script : Script) (lines : List (List ℕ)) (last : List ℕ) → IsScript built (text ++ 10 ∷ []) script → slice_split is_line_feed text ≡ lines ++ last ∷ [] → IsTrue (says_end_alone last) → split_place (text ++ 10 ∷ more) ≡ length text + 1 }
+{}
