@@ -1,5 +1,5 @@
 -- What `eq` of two iterators says: whether their lists are equal, item by item.
-use Rattle.std.proofs.Common.{◌≡◌, Bool, true, false, ◌&&◌, List, [], ◌∷◌, Option, None, Some, MatchOption, refl, sym, ap, ap₂, ◌∙◌, subst}
+use Rattle.std.proofs.Common.{◌≡◌, Bool, true, false, ◌&&◌, List, [], ◌∷◌, Option, None, Some, MatchOption, sym, ap, ap₂, ◌∙◌, subst}
 use Rattle.std.specs.Cmp.Lexicographic.{pointwise}
 use Rattle.std.specs.Iterator.{AlwaysYields, YieldsThen, ComparesItemsByEq}
 use Rattle.std.specs.List.{AllZip}
@@ -8,10 +8,11 @@ use Rattle.std.proofs.lemmas.Iterator.{YieldsList}
 
 module _ {S T A B C : Type 0} (steps : S → Option A → S → Type 0) (others : T → Option A → T → Type 0) (v : A → B) (w : A → C) (eq : A → A → Bool) (same : B → C → Bool)
     (agree : (x y : A) → eq x y ≡ same (v x) (w y)) (result : Bool) where
-  -- what was met behind the items that are equal
+  -- what was met behind the items that are equal: an end, two ends, or two that differ
   abbrev Last : Option A → Option A → Type 0
   Last o p = MatchOption o (MatchOption p (result ≡ true) (λ _. result ≡ false)) (λ x. (result ≡ false) × IfSome p (λ y. eq x y ≡ false))
 
+  -- where that was met at once
   at_last : (o p : Option A) (xs : List B) (ys : List C) (s u : S) (t k : T) → AlwaysYields steps v s xs → AlwaysYields others w t ys → steps s o u → others t p k → Last o p → result ≡ pointwise same xs ys
   at_last None p (x ∷ xs) ys s u t k e f a b h = absurd (e.0 u a)
   at_last (Some x) p [] ys s u t k e f a b h = absurd (e x u a)
@@ -25,6 +26,7 @@ module _ {S T A B C : Type 0} (steps : S → Option A → S → Type 0) (others 
   at_last (Some x) (Some y) (z ∷ xs) (z' ∷ ys) s u t k e f a b h =
       h.0 ∙ ap (λ t. t && pointwise same xs ys) (sym h.1 ∙ agree x y ∙ ap₂ same (e.1 x u a).0 (f.1 y k b).0)
 
+  -- where items that are equal stand before it
   along : (cs bs : List A) (o p : Option A) (xs : List B) (ys : List C) (s u : S) (t k : T) → AlwaysYields steps v s xs → AlwaysYields others w t ys
       → YieldsThen steps s cs o u → YieldsThen others t bs p k → AllZip (λ x y. eq x y ≡ true) cs bs → Last o p → result ≡ pointwise same xs ys
   along [] [] o p xs ys s u t k e f a b z h = at_last o p xs ys s u t k e f (subst (λ j. steps j o u) (sym a.1) a.2) (subst (λ j. others j p k) (sym b.1) b.2) h

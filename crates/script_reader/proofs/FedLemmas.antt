@@ -1,17 +1,12 @@
 -- Lines with their line feeds: a text that goes on behind one, how long lines are, and the front of a text that they are.
-use Rattle.std.proofs.Common.{◌≡◌, ℕ, suc, ◌+◌, ◌-◌, ◌<◌, ◌≤◌, Bool, true, false, cond, ◌||◌, List, [], ◌∷◌, ◌++◌, map, length, take, drop, None, Some, Option, MatchOption, refl, sym, ap, ◌∙◌, subst, arith, Bor, codes}
-use Rattle.std.specs.Cmp.Lexicographic.{pointwise}
-use Rattle.std.specs.Str.{bytes_eq}
+use Rattle.std.proofs.Common.{◌≡◌, ℕ, suc, ◌+◌, ◌<◌, Bool, true, false, cond, List, [], ◌∷◌, ◌++◌, map, length, take, refl, ap, ◌∙◌, arith}
 use Rattle.std.specs.Str.Lines.{strip_carriage_return}
-use Rattle.std.specs.List.{slice_split, onto_first, list_any, position, position_or_len}
-use Rattle.std.proofs.lemmas.Bool.Decides.{nat_tests}
-use Rattle.std.proofs.lemmas.List.{length-append, length-take-le, length-drop, map-append}
-use Rattle.std.proofs.lemmas.List.Splits.{slice_split_none, slice_split_first, slice_split-cons_yes, slice_split-cons_no, length-slice_split}
-use Rattle.std.proofs.lemmas.List.Sums.{fails_before_first}
-use Rattle.std.proofs.lemmas.Slice.{between_to_end}
+use Rattle.std.specs.List.{slice_split, onto_first, list_any}
+use Rattle.std.proofs.lemmas.List.{length-append, map-append}
+use Rattle.std.proofs.lemmas.List.Splits.{slice_split-cons_yes, slice_split-cons_no, length-slice_split}
 use Rattle.script_reader.specs.Lines.{is_line_feed, script_lines, without_empty_last}
 use Rattle.script_reader.proofs.GrammarLemmas.{none_parts}
-use Rattle.script_reader.specs.Split.{are_end_alone, is_end_alone, bytes_to_end, split_place}
+use Rattle.script_reader.specs.Split.{is_end_alone, bytes_to_end}
 use Rattle.script_reader.proofs.SplitLemmas.{before_lines}
 
 -- the bytes of lines that each end with a line feed
@@ -19,6 +14,7 @@ abbrev pub fed : List (List ℕ) → ℕ
 fed [] = 0
 fed (line ∷ lines) = length line + 1 + fed lines
 
+-- lines and more are as long as both
 pub fed_append : (lines more : List (List ℕ)) → fed (lines ++ more) ≡ fed lines + fed more
 fed_append [] more = omega arith
 fed_append (line ∷ lines) more = omega (arith, fed_append lines more)
@@ -37,6 +33,7 @@ onto_append : (b : ℕ) (lines more : List (List ℕ)) → 0 < length lines → 
 onto_append b [] more some = absurd (omega arith)
 onto_append b (line ∷ lines) more some = refl
 
+-- a byte, which may be a line feed, before lines and more
 cut_append : (feed : Bool) (b : ℕ) (lines more : List (List ℕ)) → 0 < length lines → cond feed ([] ∷ lines ++ more) (onto_first b (lines ++ more)) ≡ cond feed ([] ∷ lines) (onto_first b lines) ++ more
 cut_append true b lines more some = refl
 cut_append false b lines more some = onto_append b lines more some
@@ -48,6 +45,7 @@ split_behind (b ∷ text) more =
     ap (λ lines. cond (is_line_feed b) ([] ∷ lines) (onto_first b lines)) (split_behind text more)
     ∙ cut_append (is_line_feed b) b (slice_split is_line_feed text) (slice_split is_line_feed more) (omega (arith, length-slice_split is_line_feed text))
 
+-- a byte more is one more, be it a line feed or not
 fed_cut : (feed : Bool) (b : ℕ) (lines : List (List ℕ)) → 0 < length lines → fed (cond feed ([] ∷ lines) (onto_first b lines)) ≡ fed lines + 1
 fed_cut feed b [] some = absurd (omega arith)
 fed_cut true b (line ∷ lines) some = omega arith
@@ -58,6 +56,7 @@ pub fed_split : (text : List ℕ) → fed (slice_split is_line_feed text) ≡ le
 fed_split [] = refl
 fed_split (b ∷ text) = fed_cut (is_line_feed b) b (slice_split is_line_feed text) (omega (arith, length-slice_split is_line_feed text)) ∙ omega (arith, fed_split text)
 
+-- the first lines of a text with one byte more, which may be a line feed
 front_cut : (b : ℕ) (text line : List ℕ) (lines more : List (List ℕ)) (feed : Bool) (parts : List (List ℕ)) → 0 < length more → is_line_feed b ≡ feed → slice_split is_line_feed text ≡ parts
     → cond feed ([] ∷ parts) (onto_first b parts) ≡ line ∷ (lines ++ more) → ((lines : List (List ℕ)) → slice_split is_line_feed text ≡ lines ++ more → slice_split is_line_feed (take (fed lines) text) ≡ lines ++ [] ∷ [])
     → slice_split is_line_feed (take (fed (line ∷ lines)) (b ∷ text)) ≡ line ∷ (lines ++ [] ∷ [])
@@ -83,6 +82,7 @@ front_split text [] more some cut = refl
 front_split [] (line ∷ lines) more some cut = absurd (omega (arith, ap length cut, length-append lines more))
 front_split (b ∷ text) (line ∷ lines) more some cut = front_cut b text line lines more (is_line_feed b) (slice_split is_line_feed text) some refl refl cut (λ lines. front_split text lines more some)
 
+-- an empty last line is dropped
 last_empty : (lines : List (List ℕ)) → without_empty_last (lines ++ [] ∷ []) ≡ lines
 last_empty [] = refl
 last_empty ([] ∷ []) = refl

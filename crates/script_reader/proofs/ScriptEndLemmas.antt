@@ -1,5 +1,5 @@
 -- Where a script ends: at its first line whose only word is `end`, behind which no line says anything.
-use Rattle.std.proofs.Common.{◌≡◌, ◌≢◌, ◌⊎◌, ℕ, ◌+◌, ◌<◌, ◌≤◌, ◌==◌, ◌||◌, Bool, true, false, cond, not, List, [], ◌∷◌, ◌++◌, map, length, take, codes, Option, Some, None, is_some, refl, sym, ap, ◌∙◌, subst, inl, inr, append_assoc, arith}
+use Rattle.std.proofs.Common.{◌≡◌, ◌⊎◌, ℕ, ◌+◌, ◌<◌, ◌≤◌, ◌==◌, ◌||◌, Bool, true, false, cond, List, [], ◌∷◌, ◌++◌, map, length, take, codes, Option, Some, None, is_some, refl, sym, ap, ◌∙◌, subst, inl, inr, append_assoc, arith}
 use Rattle.std.specs.List.{before_first, slice_split, slice_index, list_any, cons_option}
 use Rattle.std.specs.Str.{bytes_eq}
 use Rattle.std.specs.Str.Lines.{strip_carriage_return}
@@ -26,9 +26,11 @@ use Rattle.script_reader.proofs.GrammarLemmas.{end_push, said_fine, statements_p
 
 -- ---- what an end line says
 
+-- another word than `end` is another keyword
 other_word : (word : List ℕ) → bytes_eq word (codes "end") ≡ false → is_end (keyword_of word) ≡ false
 other_word word is = grind arith
 
+-- a word is the keyword `end` where it spells it
 end_said : (word : List ℕ) (test : Bool) → bytes_eq word (codes "end") ≡ test → is_end (keyword_of word) ≡ test
 end_said word true is = ap (λ word. is_end (keyword_of word)) ((bytes_eq-Decides word (codes "end")).0 is)
 end_said word false is = other_word word is
@@ -38,10 +40,12 @@ end_words : (context : Context) (keyword : Keyword) (next : List ℕ) (words : L
 end_words context End next words fine = let word = word_fine context End (next ∷ words) fine in grind (arith, word)
 end_words context keyword next words fine = refl
 
+-- a word that begins with `#` is not `end`
 no_comment : (first : List ℕ) → (slice_index first 0 == 35) ≡ true → bytes_eq first (codes "end") ≡ false
 no_comment [] is = refl
 no_comment (b ∷ first) is = grind (arith, nat_tests)
 
+-- the first word of a line and those behind it say the end where they are `end` alone
 said_alone : (context : Context) (line first : List ℕ) (words : List (List ℕ)) (comment : Bool) → (slice_index first 0 == 35) ≡ comment
     → code_said context false line (cond comment None (Some (record { keyword = keyword_of first; words = words }))) ≡ None
     → says_end (cond comment None (Some (record { keyword = keyword_of first; words = words }))) ≡ are_end_alone (first ∷ words)
@@ -51,6 +55,7 @@ said_alone context line first [] false is fine = end_said first (bytes_eq first 
 said_alone context line first (next ∷ words) false is fine =
     end_words context (keyword_of first) next words (said_fine context false line (record { keyword = keyword_of first; words = next ∷ words }) fine).1
 
+-- the words of a line say the end where they are `end` alone
 words_alone : (context : Context) (line : List ℕ) (words : List (List ℕ)) → code_said context false line (statement_in words) ≡ None → says_end (statement_in words) ≡ are_end_alone words
 words_alone context line [] fine = refl
 words_alone context line (first ∷ words) fine = said_alone context line first words (slice_index first 0 == 35) refl fine
@@ -60,6 +65,7 @@ line_alone : (setting : Setting) (before : List (List ℕ)) (line : List ℕ) �
 line_alone setting before line none fine =
     words_alone (context_of setting (statements_of before)) line (words_of line) (subst (λ ended. code_said (context_of setting (statements_of before)) ended line (statement_of line) ≡ None) none fine)
 
+-- the word `end` says something
 end_says : (word : List ℕ) → bytes_eq word (codes "end") ≡ true → is_some (statement_in (word ∷ [])) ≡ true
 end_says word is = ap (λ word. is_some (statement_in (word ∷ []))) ((bytes_eq-Decides word (codes "end")).0 is)
 
@@ -71,6 +77,7 @@ alone_says (word ∷ next ∷ words) is = absurd cc
 
 -- ---- lines in order, and their end
 
+-- behind an end, a line that is not at fault says nothing
 silent_line : (context : Context) (line : List ℕ) (said : Option Statement) → code_said context true line said ≡ None → said ≡ None
 silent_line context line None fine = refl
 silent_line context line (Some statement) fine = absurd cc
@@ -147,6 +154,7 @@ end_of_script built text script is =
 cut_behind : (text more : List ℕ) (at : HasEndAlone (slice_split is_line_feed text)) → slice_split is_line_feed (text ++ 10 ∷ more) ≡ at.before ++ at.end ∷ (at.after ++ slice_split is_line_feed more)
 cut_behind text more at = split_behind text more ∙ ap (λ lines. lines ++ slice_split is_line_feed more) at.place ∙ append_assoc at.before (at.end ∷ at.after) (slice_split is_line_feed more)
 
+-- lines follow its end
 some_behind : (text more : List ℕ) (at : HasEndAlone (slice_split is_line_feed text)) → 0 < length (at.after ++ slice_split is_line_feed more)
 some_behind text more at = omega (arith, length-append at.after (slice_split is_line_feed more), length-slice_split is_line_feed more)
 
@@ -168,6 +176,7 @@ last_behind [] last (z ∷ ys) y zs e = let none : [] ≡ ys ++ y ∷ zs = cc in
 last_behind (x ∷ xs) last [] y zs e = inr (xs, cc)
 last_behind (x ∷ xs) last (z ∷ ys) y zs e = last_behind xs last ys y zs cc
 
+-- statements and one more are some
 no_last : (statements : List Statement) (said : Option Statement) → is_some said ≡ true → statements ++ cons_option said [] ≡ [] → ⊥
 no_last statements None is none = absurd cc
 no_last statements (Some statement) is none = absurd (omega (arith, ap length none, length-append statements (statement ∷ [])))
@@ -199,7 +208,7 @@ front_is_script built text front script rest lines silent short is =
       short = omega (arith, is.short);
       lines = record {
         in_order = λ before after line e. subst (λ setting. code_behind setting before line ≡ None) named
-        (is.lines.in_order before (after ++ rest) line (lines ∙ ap (λ lines. lines ++ rest) e ∙ append_assoc before (line ∷ after) rest));
+            (is.lines.in_order before (after ++ rest) line (lines ∙ ap (λ lines. lines ++ rest) e ∙ append_assoc before (line ∷ after) rest));
         ended = ap (list_any is_end_line) (sym same) ∙ is.lines.ended;
         says = is.lines.says ∙ (λ i. script_said (named i).named (same i));
       };

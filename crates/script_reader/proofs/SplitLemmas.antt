@@ -1,15 +1,14 @@
 -- Where an input is split: at the end of its first line, and behind it.
-use Rattle.std.proofs.Common.{◌≡◌, ℕ, suc, ◌+◌, ◌-◌, ◌<◌, ◌≤◌, Bool, true, false, cond, ◌||◌, List, [], ◌∷◌, ◌++◌, map, length, take, drop, None, Some, Option, MatchOption, refl, sym, ap, ◌∙◌, subst, arith, Bor, codes}
+use Rattle.std.proofs.Common.{◌≡◌, ℕ, ◌+◌, ◌-◌, ◌<◌, ◌≤◌, Bool, cond, List, [], ◌∷◌, length, take, drop, None, Some, refl, sym, ap, ◌∙◌, subst, arith, Bor, codes}
 use Rattle.std.specs.Cmp.Lexicographic.{pointwise}
 use Rattle.std.specs.Str.{bytes_eq}
-use Rattle.std.specs.Str.Lines.{strip_carriage_return}
-use Rattle.std.specs.List.{slice_split, onto_first, list_any, position, position_or_len}
+use Rattle.std.specs.List.{slice_split, position, position_or_len}
 use Rattle.std.proofs.lemmas.Bool.Decides.{nat_tests}
-use Rattle.std.proofs.lemmas.List.{length-append, length-take-le, length-drop, map-append}
-use Rattle.std.proofs.lemmas.List.Splits.{slice_split_none, slice_split_first, slice_split-cons_yes, slice_split-cons_no, length-slice_split}
+use Rattle.std.proofs.lemmas.List.{length-take-le, length-drop}
+use Rattle.std.proofs.lemmas.List.Splits.{slice_split_none, slice_split_first, length-slice_split}
 use Rattle.std.proofs.lemmas.List.Sums.{fails_before_first}
 use Rattle.std.proofs.lemmas.Slice.{between_to_end}
-use Rattle.script_reader.specs.Lines.{is_line_feed, script_lines, without_empty_last}
+use Rattle.script_reader.specs.Lines.{is_line_feed}
 use Rattle.script_reader.specs.Split.{are_end_alone, is_end_alone, bytes_to_end, split_place}
 
 -- words are the one word `end` where they equal the list of that word

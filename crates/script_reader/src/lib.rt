@@ -3,7 +3,8 @@
 //! [`read_script`] reads the whole grammar. Which texts are a script, and why another is none, is said in
 //! `specs/Grammar.antt`: it speaks of the lines of a text as lists of words, has a condition for each
 //! code of refusal in `specs/Faults.antt`, and reads the script off the lines in `specs/Said.antt`. What
-//! is read is valid, as `session_known` says.
+//! is read is valid, as `session_known` says. Where a report follows a script in one input,
+//! [`split_input`] tells the place between them.
 //!
 //! [`outside`] has the two ends through which a program meets the world, a source of bytes and a
 //! sink for them, each with a count of its faults, so that a contract can say which bytes were
@@ -28,5 +29,5 @@ mod words;
 pub use built::Built;
 pub use fault::ScriptFault;
 pub use grammar::{MOST_BYTES, read_script, read_script_built};
-pub use split::{scripts_are_split_off, split_input};
 pub use session_known::{Answer, FinalCell, Level, Line, Report, Script, SessionPlan, Shown};
+pub use split::{scripts_are_split_off, split_input};

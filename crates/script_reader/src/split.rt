@@ -47,11 +47,43 @@ pub fn split_input(bytes: &[u8]) -> usize
     bytes.len()
 }
 
-/// A script that ends with a line feed is split off an input that begins with it, whatever follows:
-/// what stands before the place is that script, without the blank lines and comments that it may have
-/// behind its end line, and the whole of it where its last line is its end line.
+/// A script that ends with a line feed is split off an input that begins with it, whatever follows.
+/// Blank lines and comments that it has behind its end line stay with what follows.
 pub fn scripts_are_split_off()
+    // What stands before the place is that script.
     ensures script { (built : Built) (text more : List ℕ) (script : Script) → IsScript built (text ++ 10 ∷ []) script → IsScript built (take (split_place (text ++ 10 ∷ more)) (text ++ 10 ∷ more)) script }
+
+    // The place is that in the script alone.
     ensures same { (built : Built) (text more : List ℕ) (script : Script) → IsScript built (text ++ 10 ∷ []) script → split_place (text ++ 10 ∷ more) ≡ split_place (text ++ 10 ∷ []) }
+
+    // Where its last line is its end line, that is behind the whole of it.
     ensures whole { (built : Built) (text more : List ℕ) (script : Script) (lines : List (List ℕ)) (last : List ℕ) → IsScript built (text ++ 10 ∷ []) script → slice_split is_line_feed text ≡ lines ++ last ∷ [] → IsTrue (says_end_alone last) → split_place (text ++ 10 ∷ more) ≡ length text + 1 }
 {}
+
+#[cfg(test)]
+mod tests {
+    use super::*;
+
+    #[test]
+    fn splits_behind_the_first_end(rt: HostRuntime) {
+        // An input and its place.
+        let cases = [
+            (b"".as_slice(), 0),
+            (b"end\n", 4),
+            (b"end", 3),
+            (b"end\nend\nb", 4),
+            (b"a\nend\nb\n", 6),
+            (b"a\r\nend\r\nb", 8),
+            (b" \tend \t\nb", 8),
+            (b"\n\nend\n\n", 6),
+            (b"end x\nb", 7),
+            (b"end x\nend\nb", 10),
+            (b"# end\nend\nb", 10),
+            (b"end\r \nb", 7),
+            (b"ends\nEnd\nb", 10),
+        ];
+        for (input, place) in cases {
+            assert_eq!(rt; split_input(input), place, "{input:?}");
+        }
+    }
+}

@@ -1,5 +1,4 @@
-use Rattle.std.proofs.Common.{◌≡◌, ◌+◌, ◌∙◌, sym, length, true, false, arith}
-use Rattle.script_reader.specs.Split.{split_place}
+use Rattle.std.proofs.Common.{◌∙◌, sym, true, false, arith}
 use Rattle.script_reader.proofs.SplitLemmas.{place_behind}
 use Rattle.script_reader.proofs.split.split_input.Goals as goal
 

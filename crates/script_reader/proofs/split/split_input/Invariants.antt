@@ -6,7 +6,7 @@ use Rattle.script_reader.proofs.split.split_input.Given as goal
 abbrev pub invariant-loop-line : goal.invariant-loop-line
 invariant-loop-line l = record {
   within : length l.rest ≤ length l.bytes;
-  place : length l.bytes + split_place l.rest ≡ length l.rest + split_place l.bytes
+  place : length l.bytes + split_place l.rest ≡ length l.rest + split_place l.bytes;
 }
 
 abbrev pub decreases-loop-line : goal.decreases-loop-line
