@@ -53,10 +53,10 @@ pub fn scripts_are_split_off()
     // What stands before the place is that script.
     ensures script { (built : Built) (text more : List ℕ) (script : Script) → IsScript built (text ++ 10 ∷ []) script → IsScript built (take (split_place (text ++ 10 ∷ more)) (text ++ 10 ∷ more)) script }
 
-    // The place is that in the script alone.
+    // The place is the one in the script by itself.
     ensures same { (built : Built) (text more : List ℕ) (script : Script) → IsScript built (text ++ 10 ∷ []) script → split_place (text ++ 10 ∷ more) ≡ split_place (text ++ 10 ∷ []) }
 
-    // Where its last line is its end line, that is behind the whole of it.
+    // It is behind the whole script, where the script's last line is its end line.
     ensures whole { (built : Built) (text more : List ℕ) (script : Script) (lines : List (List ℕ)) (last : List ℕ) → IsScript built (text ++ 10 ∷ []) script → slice_split is_line_feed text ≡ lines ++ last ∷ [] → IsTrue (says_end_alone last) → split_place (text ++ 10 ∷ more) ≡ length text + 1 }
 {}
 
