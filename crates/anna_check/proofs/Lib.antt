@@ -1,0 +1,11 @@
+pub mod ByKeyLemmas
+pub mod CountedLemmas
+pub mod FormLemmas
+pub mod HadLemmas
+pub mod HeldLemmas
+pub mod LawfulLemmas
+pub mod LinesLemmas
+pub mod SessionsLemmas
+pub mod SoundLemmas
+pub mod ToldLemmas
+pub mod TrueLemmas

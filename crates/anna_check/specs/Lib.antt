@@ -1,0 +1,6 @@
+pub mod ByKey
+pub mod Counted
+pub mod Had
+pub mod Inside
+pub mod Stand
+pub mod Unlawful

@@ -1,0 +1,70 @@
+//! The judge.
+ghost use Rattle.std.specs.Prelude.{List, ℕ, IfOk};
+ghost use Rattle.session_known.specs.Form.{HasForm};
+ghost use Rattle.session_known.specs.Script.{IsValidScript};
+ghost use Rattle.anna_check.specs.Unlawful.{IsVerdict};
+
+use crate::accepted::Accepted;
+use crate::first::find_unlawful;
+use crate::told::Told;
+use crate::untrue::{find_unlawful_final, find_untrue};
+use lattice_laws::NoMemory;
+use placement::Placement;
+use session_known::{Report, Script};
+use std::alloc::Global;
+
+/// What a report is judged.
+#[derive(Clone, Copy, Debug, PartialEq, Eq)]
+pub enum Verdict {
+    /// It is legal.
+    Legal,
+    /// The answer to this command of this session, each counted from 1, is the first that is not lawful.
+    Command { session: u16, command: u32 },
+    /// The final cell of this key at this worker is the first that is not lawful.
+    Final { key: u16, worker: u16 },
+}
+
+/// Judges a report of the script's form: first what is decided inside the sessions, in script order; where
+/// all of it is lawful, what the answers say of all accepted puts; where that is true, the final cells.
+pub fn check(alloc: Global, script: &Script, report: &Report) -> Result<Verdict, NoMemory>
+    requires form { (table : List (List ℕ)) × IsValidScript script.now table × HasForm script.now table report.now }
+    ensures verdict { IfOk result (λ verdict. (table : List (List ℕ)) → IsValidScript script.now table → IsVerdict table script.now report.now verdict) }
+{
+    let placement = Placement::build(alloc, &script.config)?;
+    judge(alloc, script, &placement, report)
+}
+
+/// Judges a report of the script's form, where its keys live so.
+fn judge(
+    alloc: Global,
+    script: &Script,
+    placement: &Placement,
+    report: &Report,
+) -> Result<Verdict, NoMemory>
+    requires valid { IsValidScript script.now placement.now }
+    requires form { HasForm script.now placement.now report.now }
+    ensures { IfOk result (IsVerdict placement.now script.now report.now) }
+{
+    let kinds = script.kinds.as_slice();
+    let answers = report.answers.as_slice();
+    let mut accepted = Accepted::new(alloc, kinds)?;
+    if let Some((session, command)) = find_unlawful(
+        alloc,
+        script,
+        placement,
+        answers,
+        &mut accepted,
+    )? {
+        return Ok(Verdict::Command { session, command });
+    }
+    let mut told = Told::new(alloc, kinds, script.config.workers)?;
+    let sessions = script.sessions.as_slice();
+    if let Some((session, command)) = find_untrue(alloc, &accepted, &mut told, sessions, answers)? {
+        return Ok(Verdict::Command { session, command });
+    }
+    let finals = report.finals.as_slice();
+    if let Some((key, worker)) = find_unlawful_final(alloc, &accepted, &mut told, finals)? {
+        return Ok(Verdict::Final { key, worker });
+    }
+    Ok(Verdict::Legal)
+}

@@ -1,0 +1,244 @@
+//! Whether an answer is lawful, as far as it is decided inside its session.
+ghost use Rattle.std.specs.Prelude.{◌≡◌, ◌↔◌, ◌≤◌, ◌*◌, ◌==◌, ℕ, List, cond, IsTrue, length};
+ghost use Rattle.clock_lattice.specs.Clock.{covers};
+ghost use Rattle.clock_lattice.specs.Needs.{clock_at};
+ghost use Rattle.session_known.specs.Lawful as lawful;
+ghost use Rattle.session_known.specs.Lawful.{MayReply, required, IsClockFrom, IsLawfulReply, IsLawfulAgain, IsLawful};
+ghost use Rattle.session_known.specs.Script.{IsOneOf};
+ghost use Rattle.session_known.specs.Session.{known_raised};
+ghost use Rattle.session_known.specs.declared.report.Answer as of_answer;
+ghost use Rattle.session_known.specs.declared.script.Line as of_line;
+ghost use Rattle.anna_check.specs.Had.{AreJoined};
+ghost use Rattle.anna_check.specs.Inside.{NamesKey, NamesWorker};
+
+use crate::had::Had;
+use crate::inside::Inside;
+use clock_lattice::Clock;
+use lattice_laws::Lattice;
+use placement::Placement;
+use session_known::{Answer, Known, Level, Line};
+
+/// Whether the worker may reply to a get of the session: in a causal session any replica, else the
+/// named worker or the home.
+fn may_reply(
+    placement: &Placement,
+    known: &Known,
+    key: u16,
+    named: Option<u16>,
+    worker: u16,
+) -> bool
+    requires session { 1 ≤ known.now.client.session }
+    requires key { IsOneOf (length placement.now) key }
+    ensures { IsTrue result ↔ MayReply known.now.client.level placement.now known.now.client.session key named worker }
+{
+    match known.level() {
+        Level::Causal => placement.replicas(key).contains(&worker),
+        Level::Eventual | Level::Committed => {
+            let asked = match named {
+                Some(named) => named,
+                None => placement.home(known.session(), key),
+            };
+            worker == asked
+        }
+    }
+}
+
+/// Whether the worker may show this clock of the key: it covers those that the session had from it, and
+/// at the home it counts all puts that the session has made on the key.
+fn is_clock_from(
+    placement: &Placement,
+    known: &Known,
+    had: &Had,
+    key: u16,
+    worker: u16,
+    clock: &Clock,
+) -> bool
+    requires session { 1 ≤ known.now.client.session }
+    requires key { IsOneOf (length placement.now) key }
+    requires worker { IsOneOf (length had.now) worker }
+    ensures { (workers : ℕ) (earlier : List (of_line.Line × of_answer.Answer)) → AreJoined workers earlier had.now → IsTrue result ↔ IsClockFrom placement.now known.now.client known.now.knows earlier key worker clock.now }
+{
+    clock.known();
+    let home = placement.home(known.session(), key);
+    had.are_covered(key, worker, clock)
+        && (worker != home || clock.count(known.session()) == known.own(key))
+}
+
+/// Whether the clock covers what is known of the key.
+fn covers_known(known: &Known, key: u16, clock: &Clock) -> bool
+    ensures { result ≡ covers clock.now (clock_at key known.now.knows.known) }
+{
+    match known.clock_for(key) {
+        Some(known) => clock.covers(known),
+        None => true,
+    }
+}
+
+/// Whether the clock covers what is known of the key, raised at the session to the count.
+fn covers_raised(known: &Known, key: u16, session: u16, count: u64, clock: &Clock) -> bool
+    ensures { result ≡ covers clock.now (known_raised known.now.knows key session count) }
+{
+    clock.known();
+    known.needs().known();
+    covers_known(known, key, clock) & (clock.count(session) >= count)
+}
+
+/// Whether the clock covers what a reply to the line must cover.
+fn covers_required(known: &Known, line: &Line, clock: &Clock) -> bool
+    ensures { result ≡ covers clock.now (required known.now.client known.now.knows line.now) }
+{
+    match line {
+        Line::Get { key, .. } => known.level() != Level::Causal || covers_known(known, *key, clock),
+        Line::Await {
+            key,
+            session,
+            count,
+        } => covers_raised(known, *key, *session, *count, clock),
+        Line::Put { .. } | Line::Begin | Line::Commit | Line::Abort => true,
+    }
+}
+
+/// Whether the worker may reply to the line with a cell of this clock.
+fn is_lawful_reply(
+    placement: &Placement,
+    known: &Known,
+    had: &Had,
+    line: &Line,
+    key: u16,
+    named: Option<u16>,
+    worker: u16,
+    clock: &Clock,
+) -> bool
+    requires session { 1 ≤ known.now.client.session }
+    requires key { IsOneOf (length placement.now) key }
+    requires worker { IsOneOf (length had.now) worker }
+    ensures { (workers : ℕ) (earlier : List (of_line.Line × of_answer.Answer)) → AreJoined workers earlier had.now → IsTrue result ↔ IsLawfulReply placement.now known.now.client known.now.knows earlier line.now key named worker clock.now }
+{
+    let may_reply = may_reply(placement, known, key, named, worker);
+    let is_clock = is_clock_from(placement, known, had, key, worker, clock);
+    let is_no_later = clock.count(known.session()) <= known.own(key);
+    let is_covering = covers_required(known, line, clock);
+    may_reply & is_clock & is_no_later & is_covering
+}
+
+/// Of two replicas the one that is asked last, the second unless it is the home.
+fn asked_behind(home: u16, last: u16, replica: u16) -> u16
+    ensures { result ≡ cond (replica == home) last replica }
+{
+    if replica == home { last } else { replica }
+}
+
+/// The replica of the key that the session asks last: the last that is not its home, and the home where
+/// there is no other.
+fn last_asked(placement: &Placement, session: u16, key: u16) -> u16
+    requires session { 1 ≤ session }
+    requires key { IsOneOf (length placement.now) key }
+    ensures { result ≡ lawful.last_asked placement.now session key }
+{
+    let home = placement.home(session, key);
+    let mut last = home;
+    for replica in placement.replicas(key) {
+        last = asked_behind(home, last, *replica);
+    }
+    last
+}
+
+/// Whether so many asks are 8 of each of so many replicas.
+fn is_asks_of(asks: u32, replicas: usize) -> bool
+    ensures { IsTrue result ↔ (asks ≡ 8 * replicas) }
+{
+    asks % 8 == 0 && asks as usize / 8 == replicas
+}
+
+/// Whether the session may be told at the line to ask again, after so many asks and with this clock of
+/// the worker.
+fn is_lawful_again(
+    placement: &Placement,
+    known: &Known,
+    had: &Had,
+    line: &Line,
+    key: u16,
+    asks: u32,
+    worker: u16,
+    clock: &Clock,
+) -> bool
+    requires session { 1 ≤ known.now.client.session }
+    requires key { IsOneOf (length placement.now) key }
+    requires worker { IsOneOf (length had.now) worker }
+    ensures { (workers : ℕ) (earlier : List (of_line.Line × of_answer.Answer)) → AreJoined workers earlier had.now → IsTrue result ↔ IsLawfulAgain placement.now known.now.client known.now.knows earlier line.now key asks worker clock.now }
+{
+    let is_causal = known.level() == Level::Causal;
+    let is_asked = is_asks_of(asks, placement.replicas(key).len());
+    let is_last = worker == last_asked(placement, known.session(), key);
+    let is_clock = is_clock_from(placement, known, had, key, worker, clock);
+    let is_lacking = !covers_required(known, line, clock);
+    is_causal & is_asked & is_last & is_clock & is_lacking
+}
+
+/// Whether the line may get the answer, as far as it is decided inside the session.
+pub(crate) fn is_lawful(
+    placement: &Placement,
+    inside: &Inside,
+    had: &Had,
+    line: &Line,
+    answer: &Answer,
+) -> bool
+    requires session { 1 ≤ inside.now.client.session }
+    requires line { NamesKey (length placement.now) line.now }
+    requires answer { NamesWorker (length had.now) answer.now }
+    ensures { (workers : ℕ) (earlier : List (of_line.Line × of_answer.Answer)) → AreJoined workers earlier had.now → IsTrue result ↔ IsLawful placement.now inside.now.client inside.now.state earlier line.now answer.now }
+{
+    let known = inside.known();
+    match (line, answer) {
+        (Line::Put { key, .. }, Answer::Put { number, lamport }) => {
+            inside.is_lawful_put(*key, *number, *lamport)
+        }
+        (Line::Put { .. }, Answer::Held) => inside.is_begun(),
+        (Line::Put { .. }, Answer::Worn) => !inside.is_begun() && inside.is_worn(),
+        (Line::Begin, Answer::Begun) => !inside.is_begun(),
+        (Line::Commit, Answer::Committed { puts, lamport }) => {
+            inside.is_lawful_commit(*puts, *lamport)
+        }
+        (Line::Commit, Answer::Worn) => inside.is_begun() && inside.is_worn(),
+        (Line::Abort, Answer::Aborted { puts }) => {
+            inside.is_begun() && *puts as usize == inside.held_count()
+        }
+        (Line::Get { key, worker: named }, Answer::Got { worker, shown }) => is_lawful_reply(
+            placement,
+            known,
+            had,
+            line,
+            *key,
+            *named,
+            *worker,
+            &shown.clock,
+        ),
+        (Line::Await { key, .. }, Answer::Got { worker, shown }) => is_lawful_reply(
+            placement,
+            known,
+            had,
+            line,
+            *key,
+            None,
+            *worker,
+            &shown.clock,
+        ),
+        (
+            Line::Get { key, .. },
+            Answer::Again {
+                asks,
+                worker,
+                clock,
+            },
+        ) => is_lawful_again(placement, known, had, line, *key, *asks, *worker, clock),
+        (
+            Line::Await { key, .. },
+            Answer::Again {
+                asks,
+                worker,
+                clock,
+            },
+        ) => is_lawful_again(placement, known, had, line, *key, *asks, *worker, clock),
+        _ => false,
+    }
+}

@@ -1,0 +1,16 @@
+//! A judge of finished reports: whether a report is legal for a script, and if not, the first place that
+//! is not.
+#![tactic(auto)]
+
+mod accepted;
+mod cells;
+mod first;
+mod had;
+mod inside;
+mod judge;
+mod lawful;
+mod same;
+mod told;
+mod untrue;
+
+pub use judge::{Verdict, check};
