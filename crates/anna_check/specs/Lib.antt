@@ -4,3 +4,4 @@ pub mod Had
 pub mod Inside
 pub mod Stand
 pub mod Unlawful
+pub mod VerdictLaws

@@ -9,8 +9,10 @@ mod had;
 mod inside;
 mod judge;
 mod lawful;
+mod laws;
 mod same;
 mod told;
 mod untrue;
 
 pub use judge::{Verdict, check};
+pub use laws::reports_have_one_verdict;
