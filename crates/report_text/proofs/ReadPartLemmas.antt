@@ -1,17 +1,17 @@
 -- The parts of a report got one behind another, where its final cells stand, and how many lines it has.
-use Rattle.std.specs.Prelude.{◌≡◌, ℕ, ◌+◌, ◌*◌, ◌≤◌, ◌==◌, Bool, true, false, not, ◌||◌, List, [], ◌∷◌, ◌++◌, filter, length, map, codes, sum_by, All, Result, Ok, Err, IfErr}
+use Rattle.std.specs.Prelude.{◌≡◌, ℕ, ◌+◌, ◌*◌, ◌≤◌, ◌==◌, Bool, true, false, not, ◌||◌, List, [], ◌∷◌, ◌++◌, filter, length, map, codes, sum_by, Result, Ok, Err, IfErr}
 use Rattle.std.specs.List.{flat_map, join_with_byte, list_any, list_all, range_with_len}
 use Rattle.std.proofs.Common.{refl, sym, ap, ◌∙◌, arith}
 use Rattle.std.proofs.lemmas.Bool.{and_parts}
 use Rattle.std.proofs.lemmas.Grind.{flat_map-append}
-use Rattle.std.proofs.lemmas.List.Elements.{All-map, All-filter, filter-append}
+use Rattle.std.proofs.lemmas.List.Elements.{filter-append}
 use Rattle.std.proofs.lemmas.List.Filters.{length-filter_both}
 use Rattle.std.proofs.lemmas.List.FromFn.{length-range_with_len, map-range_with_len_more}
 use Rattle.std.proofs.lemmas.List.Sums.{sum_by-cons}
 use Rattle.std.proofs.lemmas.List.{append_assoc, append-nil, length-append, length-map, map-append, map-id}
 use Rattle.placement.specs.Name.{IsName}
 use Rattle.session_known.specs.Form.{final_places, replicas_ascending}
-use Rattle.session_known.specs.Script.{IsOneOf, IsValidScript, replicas_of}
+use Rattle.session_known.specs.Script.{IsValidScript, replicas_of}
 use Rattle.session_known.specs.declared.script.Script.{Script}
 use Rattle.session_known.specs.declared.script.SessionPlan.{SessionPlan}
 use Rattle.report_text.specs.LinesLaws.{session_line}
@@ -22,7 +22,6 @@ use Rattle.report_text.specs.Text.{level_word}
 use Rattle.report_text.specs.declared.read.ReportFault.{ReportFault}
 use Rattle.report_text.specs.declared.read.ReportFault.TheVariants.{Form}
 use Rattle.report_text.proofs.ReadLineLemmas.{is_not, line_lacks, got_both, fault_before, fault_behind}
-use Rattle.report_text.proofs.ReportLemmas.{All-flat_map, All-one_of}
 
 -- ---- lines that are wanted
 
@@ -119,18 +118,6 @@ places_more script table keys =
 pub places_next : (script : Script) (table : List (List ℕ)) (keys : ℕ) (items pushed : List (ℕ × ℕ)) (replicas : List ℕ) → items ≡ flat_map (places_of_key script table) (range_with_len 1 keys) → replicas ≡ replicas_of table (keys + 1) → pushed ≡ items ++ map (λ worker. (keys + 1, worker)) (replicas_within replicas script.config.workers) → pushed ≡ flat_map (places_of_key script table) (range_with_len 1 (keys + 1))
 places_next script table keys items pushed replicas so are push =
     push ∙ (λ i. so i ++ map (λ worker. (keys + 1, worker)) (replicas_within (are i) script.config.workers)) ∙ sym (places_more script table keys)
-
--- a placement has each key
-pub placed_keys : (script : Script) (table : List (List ℕ)) → IsValidScript script table → length table ≡ length script.config.keys
-placed_keys script table valid = ap length valid.placed.replicas ∙ length-map script.config.keys _
-
--- final cells stand at keys and workers of the script
-pub places_known : (script : Script) (table : List (List ℕ)) → All (λ place. IsOneOf (length script.config.keys) place.0 × IsOneOf script.config.workers place.1) (final_places script table)
-places_known script table =
-    All-flat_map (IsOneOf (length script.config.keys)) (λ (place : ℕ × ℕ). IsOneOf (length script.config.keys) place.0 × IsOneOf script.config.workers place.1) (places_of_key script table) (range_with_len 1 (length script.config.keys))
-    (λ key is_key. All-map (λ (place : ℕ × ℕ). IsOneOf (length script.config.keys) place.0 × IsOneOf script.config.workers place.1) (λ worker. (key, worker)) (replicas_ascending script table key)
-    (All-filter _ (λ worker. IsOneOf (length script.config.keys) key × IsOneOf script.config.workers worker) (range_with_len 1 script.config.workers) (λ k d within. (is_key, All-one_of script.config.workers k d within))))
-    (All-one_of (length script.config.keys))
 
 -- ---- how many lines there are
 

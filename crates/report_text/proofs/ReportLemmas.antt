@@ -1,13 +1,13 @@
 -- The texts of a report's parts, and what a report in form names.
-use Rattle.std.proofs.Common.{◌≡◌, ℕ, ◌<◌, min, List, [], ◌∷◌, ◌++◌, map, take, length, get_or, Some, codes, sym, ap, refl, subst, ◌∙◌, append_assoc, arith}
-use Rattle.std.proofs.lemmas.List.{take_all, length-map, get_or-map}
+use Rattle.std.proofs.Common.{◌≡◌, ℕ, ◌<◌, min, List, [], ◌∷◌, ◌++◌, map, take, length, get_or, Some, codes, sym, ap, refl, ◌∙◌, append_assoc, arith}
+use Rattle.std.proofs.lemmas.List.{take_all}
 use Rattle.std.proofs.lemmas.List.Concat.{flat_map-append}
-use Rattle.std.proofs.lemmas.List.Elements.{All-nil, All-cons, All-head, All-tail, All-append, All-map, All-from_get_or}
-use Rattle.std.proofs.lemmas.List.FromFn.{get_or-range_with_len, length-range_with_len}
+use Rattle.std.proofs.lemmas.List.Elements.{All-nil, All-cons, All-head, All-tail}
 use Rattle.std.proofs.lemmas.Option.{slice_get-get_or}
 use Rattle.std.proofs.lemmas.Slice.Zip.{length-zip, get_or-zip}
-use Rattle.std.specs.List.{All, AllZip, flat_map, range_with_len, slice_get, zip}
-use Rattle.session_known.specs.Form.{Fits, HasForm, final_places, replicas_ascending}
+use Rattle.std.specs.List.{All, AllZip, flat_map, slice_get, zip}
+use Rattle.session_known.specs.Form.{Fits, HasForm}
+use Rattle.session_known.specs.FormLaws.{finals_known}
 use Rattle.session_known.specs.Script.{IsOneOf, IsValidScript, IsValidSession, MayStand}
 use Rattle.session_known.specs.declared.report.Answer.{Answer}
 use Rattle.session_known.specs.declared.report.FinalCell.{FinalCell}
@@ -102,28 +102,6 @@ sessions_may script table (plan ∷ plans) (answers ∷ others) valid fit = (
 pub report_may : (script : Script) (table : List (List ℕ)) (report : Report) → IsValidScript script table → HasForm script table report → AllZip (λ plan answers. AllZip (MayAnswer script) plan.lines answers) script.sessions report.answers
 report_may script table report valid form = sessions_may script table script.sessions report.answers valid.sessions form.answers
 
--- what holds of each part holds of the parts joined
-pub All-flat_map : {A B : Type 0} (Q : A → Type 0) (P : B → Type 0) (parts : A → List B) (items : List A) → ((item : A) → Q item → All P (parts item)) → All Q items → All P (flat_map parts items)
-All-flat_map Q P parts [] each all = All-nil P
-All-flat_map Q P parts (item ∷ items) each all = All-append P (parts item) (flat_map parts items) (each item (All-head Q item items all)) (All-flat_map Q P parts items each (All-tail Q item items all))
-
--- the numbers from 1 to n
-pub All-one_of : (n : ℕ) → All (IsOneOf n) (range_with_len 1 n)
-All-one_of n = All-from_get_or (IsOneOf n) (range_with_len 1 n) 0 (λ i within. let within' : i < n = omega (arith, length-range_with_len 1 n) in rw (get_or-range_with_len 1 n i 0 within') (omega arith, omega arith))
-
--- the places of final cells have keys of the script
-places_keys : (script : Script) (table : List (List ℕ)) → All (λ place. IsOneOf (length script.config.keys) place.0) (final_places script table)
-places_keys script table =
-    All-flat_map (IsOneOf (length script.config.keys)) (λ (place : ℕ × ℕ). IsOneOf (length script.config.keys) place.0) (λ key. map (λ worker. (key, worker)) (replicas_ascending script table key)) (range_with_len 1 (length script.config.keys))
-    (λ key is_key. All-map (λ (place : ℕ × ℕ). IsOneOf (length script.config.keys) place.0) (λ worker. (key, worker)) (replicas_ascending script table key) (λ k d within. is_key))
-    (All-one_of (length script.config.keys))
-
--- what holds of what is made of each item
-All-from_map : {A B : Type 0} (P : B → Type 0) (f : A → B) (items : List A) → All P (map f items) → All (λ item. P (f item)) items
-All-from_map P f items all k d within = subst P (get_or-map f items k d (f d) within) (all k (f d) (omega (arith, length-map items f)))
-
 -- The final cells of a report in form have keys of the script.
 pub finals_keys : (script : Script) (table : List (List ℕ)) (report : Report) → HasForm script table report → All (λ cell. IsOneOf (length script.config.keys) cell.key) report.finals
-finals_keys script table report form =
-    All-from_map (λ (place : ℕ × ℕ). IsOneOf (length script.config.keys) place.0) (λ cell. (cell.key, cell.worker)) report.finals
-    (subst (All (λ (place : ℕ × ℕ). IsOneOf (length script.config.keys) place.0)) (sym form.places) (places_keys script table))
+finals_keys script table report form = λ k d within. (finals_known script table report form k d within).0

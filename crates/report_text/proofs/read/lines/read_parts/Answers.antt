@@ -1,12 +1,12 @@
 use Rattle.std.proofs.Common.{refl, sym, ap, subst, ◌∙◌, map, length, arith, codes, ℕ}
 use Rattle.std.specs.List.{All, flat_map}
 use Rattle.std.proofs.lemmas.List.{length-map}
-use Rattle.session_known.specs.Script.{IsOneOf}
+use Rattle.session_known.specs.FormLaws.{IsPlace, places_known}
 use Rattle.report_text.specs.NamesLaws.{tells_names}
 use Rattle.report_text.specs.ReadLines.{Exactly, FinalOf, HasGot, IsPartFault, session_dues, finals_dues, report_dues}
 use Rattle.report_text.specs.Text.{sessions_lines, final_words}
 use Rattle.report_text.proofs.ReadLineLemmas.{fault_on, got_line}
-use Rattle.report_text.proofs.ReadPartLemmas.{first_words, final_word, end_word, fault_first, wanted_out, few_lines, places_known, fault_in_sessions, fault_at_final, fault_in_finals, fault_at_end, all_got}
+use Rattle.report_text.proofs.ReadPartLemmas.{first_words, final_word, end_word, fault_first, wanted_out, few_lines, fault_in_sessions, fault_at_final, fault_in_finals, fault_at_end, all_got}
 use Rattle.report_text.proofs.read.lines.read_parts.Goals as goal
 
 pub returns-in_err-read_exactly-clause-fault : goal.returns-in_err-read_exactly-clause-fault
@@ -28,7 +28,7 @@ read_exactly-requires-2-clause-room c =
 
 pub read_finals-requires-clause-places : goal.read_finals-requires-clause-places
 read_finals-requires-clause-places c =
-    subst (All (λ (place : ℕ × ℕ). IsOneOf (length c.args.script.now.config.keys) place.0 × IsOneOf c.args.script.now.config.workers place.1)) (sym c.requires.valid.2) (places_known c.args.script.now c.requires.valid.0)
+    subst (All (IsPlace c.args.script.now)) (sym c.requires.valid.2) (places_known c.args.script.now c.requires.valid.0)
 
 pub read_finals-requires-clause-room : goal.read_finals-requires-clause-room
 read_finals-requires-clause-room c =
