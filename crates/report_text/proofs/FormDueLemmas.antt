@@ -25,6 +25,7 @@ use Rattle.report_text.specs.LinesLaws.{session_line}
 use Rattle.report_text.specs.NamesLaws.{TellsNames}
 use Rattle.report_text.specs.ReadLines.{Due, Exactly, Answered, FinalOf, IsDue, AreLinesRead, session_dues, finals_dues, report_dues}
 use Rattle.report_text.specs.ReportsLaws.{AreAnswers, place_of}
+use Rattle.report_text.specs.RowsLaws.{both_all}
 use Rattle.report_text.specs.Text.{answer_words, answers_lines, sessions_lines, final_words, report_lines, line_text}
 use Rattle.report_text.proofs.DueLemmas.{HasWords}
 
@@ -44,11 +45,6 @@ zip_parts R (x ∷ xs) us [] all = absurd all
 zip_parts R (x ∷ xs) us (z ∷ zs) all =
     let parts = zip_parts R xs us zs all.1 in
     (z ∷ parts.0, parts.1, ap (λ zs. z ∷ zs) parts.2, (all.0, parts.3), parts.4)
-
--- what holds of each element of two lists holds of both
-both_all : {X : Type 0} (P : X → Type 0) (xs ys : List X) → AllByRecursion P xs → AllByRecursion P ys → AllByRecursion P (xs ++ ys)
-both_all P [] ys all_xs all_ys = all_ys
-both_all P (x ∷ xs) ys all_xs all_ys = (all_xs.0, both_all P xs ys all_xs.1 all_ys)
 
 -- ---- what is due has words
 

@@ -3,6 +3,7 @@ use Rattle.std.specs.Prelude.{◌≡◌, ◌≢◌, ℕ, zero, suc, ◌-◌, ◌
 use Rattle.std.specs.List.{AllZip, flat_map}
 use Rattle.std.proofs.Common.{refl, sym, ap, subst, ◌∙◌, arith}
 use Rattle.std.proofs.lemmas.List.{append-nil}
+use Rattle.std.proofs.lemmas.Slice.Zip.{AllZip-long}
 use Rattle.std.proofs.Math.Seq.{take-length}
 use Rattle.session_known.specs.Form.{HasForm}
 use Rattle.session_known.specs.Script.{IsValidScript}
@@ -26,13 +27,6 @@ zip_take R (suc count) [] [] all = tt
 zip_take R (suc count) [] (y ∷ ys) all = absurd all
 zip_take R (suc count) (x ∷ xs) [] all = absurd all
 zip_take R (suc count) (x ∷ xs) (y ∷ ys) all = (all.0, zip_take R count xs ys all.1)
-
--- lists that go place by place are of one length
-zip_length : {A B : Type 0} (R : A → B → Type 0) (xs : List A) (ys : List B) → AllZip R xs ys → length xs ≡ length ys
-zip_length R [] [] all = refl
-zip_length R [] (y ∷ ys) all = absurd all
-zip_length R (x ∷ xs) [] all = absurd all
-zip_length R (x ∷ xs) (y ∷ ys) all = ap (λ n. suc n) (zip_length R xs ys all.1)
 
 module _ (script : Script) (table : List (List ℕ)) (valid : IsValidScript script table) where
   -- what a report in form begins with is due
@@ -83,7 +77,7 @@ module _ (script : Script) (table : List (List ℕ)) (valid : IsValidScript scri
   -- where all was read and more is behind it, no report in form begins with a line more
   more_later : (bytes rest : List ℕ) (report : Report) → HasForm script table report → BeginsWith script report (suc (length (report_dues script table))) bytes → ⊥
   more_later bytes rest report form begins =
-      let same = zip_length (IsDue script) (report_dues script table) (report_lines script report) (report_due script table report form) in
+      let same = AllZip-long (IsDue script) (report_dues script table) (report_lines script report) (report_due script table report form) in
       omega (arith, same, begins.some)
 
   -- nor is any written as the bytes

@@ -80,10 +80,6 @@ module _ (script : Script) (names : TellsNames script) where
     number = number;
   }
 
-  -- and its fault stands at its own number
-  pub fault_line : (due : Due) (before : List ℕ × ℕ) (line : ℕ) → line ≡ before.1 → IsOut script due before.0 → IsPartFault script (due ∷ []) before (Form line)
-  fault_line due before line is out = (0, is ∙ omega arith, out)
-
 -- ---- one part behind another
 
 module _ (script : Script) where
@@ -102,6 +98,10 @@ module _ (script : Script) where
   -- what was got was read
   pub got_read : (dues : List Due) (lines : List (List (List ℕ))) (before after : List ℕ × ℕ) → HasGot script dues lines before after → AreLinesRead script dues before.0 after.0
   got_read dues lines before after got = subst (λ bytes. AreLinesRead script dues bytes after.0) (sym got.begin) (lines_read script dues lines after.0 got.are_due)
+
+  -- where the first line that is due is out of form
+  pub fault_first : (due : Due) (dues : List Due) (before : List ℕ × ℕ) (line : ℕ) → line ≡ before.1 → IsOut script due before.0 → IsPartFault script (due ∷ dues) before (Form line)
+  fault_first due dues before line is out = (0, is ∙ omega arith, out)
 
   -- a fault of the first part is one of both
   pub fault_before : (dues others : List Due) (before : List ℕ × ℕ) (fault : ReportFault) → IsPartFault script dues before fault → IsPartFault script (dues ++ others) before fault

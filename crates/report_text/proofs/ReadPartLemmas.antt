@@ -1,8 +1,7 @@
 -- The parts of a report got one behind another, where its final cells stand, and how many lines it has.
-use Rattle.std.specs.Prelude.{◌≡◌, ℕ, ◌+◌, ◌*◌, ◌≤◌, ◌==◌, Bool, true, false, not, ◌||◌, List, [], ◌∷◌, ◌++◌, filter, length, map, codes, sum_by, Result, Ok, Err, IfErr}
-use Rattle.std.specs.List.{flat_map, join_with_byte, list_any, list_all, range_with_len}
+use Rattle.std.specs.Prelude.{◌≡◌, ℕ, ◌+◌, ◌*◌, ◌≤◌, ◌==◌, Bool, true, false, List, [], ◌∷◌, ◌++◌, filter, length, map, codes, sum_by, Result, Ok, Err, IfErr}
+use Rattle.std.specs.List.{flat_map, join_with_byte, list_any, range_with_len}
 use Rattle.std.proofs.Common.{refl, sym, ap, ◌∙◌, arith}
-use Rattle.std.proofs.lemmas.Bool.{and_parts}
 use Rattle.std.proofs.lemmas.Grind.{flat_map-append}
 use Rattle.std.proofs.lemmas.List.Elements.{filter-append}
 use Rattle.std.proofs.lemmas.List.Filters.{length-filter_both}
@@ -17,44 +16,24 @@ use Rattle.session_known.specs.declared.script.SessionPlan.{SessionPlan}
 use Rattle.report_text.specs.LinesLaws.{session_line}
 use Rattle.report_text.specs.NamesLaws.{TellsNames}
 use Rattle.report_text.specs.ReadLines.{Due, Exactly, Answered, IsOut, HasGot, IsPartFault, session_dues, finals_dues, report_dues}
-use Rattle.report_text.specs.RenderingLaws.{Passes, line_behind}
+use Rattle.report_text.specs.RenderingLaws.{line_behind}
 use Rattle.report_text.specs.Text.{level_word}
 use Rattle.report_text.specs.declared.read.ReportFault.{ReportFault}
 use Rattle.report_text.specs.declared.read.ReportFault.TheVariants.{Form}
-use Rattle.report_text.proofs.ReadLineLemmas.{is_not, line_lacks, got_both, fault_before, fault_behind}
+use Rattle.report_text.proofs.ReadLineLemmas.{is_not, line_lacks, got_both, fault_first, fault_before, fault_behind}
+use Rattle.report_text.proofs.ReadRows.{lacks_failing}
 
 -- ---- lines that are wanted
-
--- the first of what is due is out of form
-pub fault_first : (script : Script) (due : Due) (dues : List Due) (before : List ℕ × ℕ) (line : ℕ) → line ≡ before.1 → IsOut script due before.0 → IsPartFault script (due ∷ dues) before (Form line)
-fault_first script due dues before line is out = (0, is ∙ omega arith, out)
 
 -- where a line that is wanted does not stand, no line that is due does
 pub wanted_out : (script : Script) (words : List (List ℕ)) (wanted bytes : List ℕ) → wanted ≡ join_with_byte 32 words → ((rest : List ℕ) → bytes ≡ wanted ++ 10 ∷ rest → ⊥) → IsOut script (Exactly words) bytes
 wanted_out script words wanted bytes is none rest line =
     none rest (line.begin ∙ line_behind line.words rest ∙ ap (λ text. text ++ 10 ∷ rest) (ap (join_with_byte 32) line.is_due ∙ sym is))
 
--- no byte is the one that none may be
-not_false : (b : Bool) → not b ≡ true → b ≡ false
-not_false false is = refl
-not_false true is = absurd cc
-
--- neither of two
-neither : (s t : Bool) → s ≡ false → t ≡ false → (s || t) ≡ false
-neither false t none_s none_t = none_t
-neither true t none_s none_t = absurd cc
-
--- in a text whose bytes are others a byte does not stand
-passes_lacks : (c : ℕ) (text : List ℕ) → Passes (is_not c) text → list_any (λ b. b == c) text ≡ false
-passes_lacks c [] all = refl
-passes_lacks c (b ∷ text) all =
-    let both = and_parts (is_not c b) (list_all (is_not c) text) all in
-    neither (b == c) (list_any (λ b. b == c) text) (not_false (b == c) both.0) (passes_lacks c text both.1)
-
 -- the line of a session has no line feed
 pub session_lacks : (script : Script) → TellsNames script → (plan : SessionPlan) → IsName plan.name → list_any (λ b. b == 10) (join_with_byte 32 (codes "session" ∷ plan.name ∷ level_word plan.level ∷ [])) ≡ false
 session_lacks script names plan named =
-    passes_lacks 10 (join_with_byte 32 (codes "session" ∷ plan.name ∷ level_word plan.level ∷ [])) (line_lacks (codes "session" ∷ plan.name ∷ level_word plan.level ∷ []) (session_line script names plan named))
+    lacks_failing (is_not 10) 10 refl (join_with_byte 32 (codes "session" ∷ plan.name ∷ level_word plan.level ∷ [])) (line_lacks (codes "session" ∷ plan.name ∷ level_word plan.level ∷ []) (session_line script names plan named))
 
 -- what follows from what is said of a fault
 pub fault_so : {X E : Type 0} (r : Result X E) (P Q : E → Type 0) → IfErr r Q → ((fault : E) → Q fault → P fault) → IfErr r P

@@ -15,6 +15,7 @@ use Rattle.lattice_laws.specs.Entries.{IsEntry, IsMap, IsPushed}
 use Rattle.report_text.specs.ReadRows.{IsRow}
 use Rattle.report_text.specs.Reads.{Reads}
 use Rattle.report_text.specs.RenderingLaws.{Passes, Stops, Tells, cut_at, cut_once, not_passes}
+use Rattle.report_text.specs.RowsLaws.{both_all}
 
 -- ---- texts cut at a byte
 
@@ -84,11 +85,6 @@ row_begins c text (next ∷ texts) = (c ∷ join_with_byte c (next ∷ texts), r
 row_of : {X : Type 0} (InForm : List X → Type 0) (items : List X) → 0 < length items → InForm items → IsRow InForm items
 row_of InForm [] some is = absurd (omega arith)
 row_of InForm (item ∷ items) some is = is
-
--- what holds of each of two lists holds of each of both together
-both_all : {X : Type 0} (P : X → Type 0) (xs ys : List X) → AllByRecursion P xs → AllByRecursion P ys → AllByRecursion P (xs ++ ys)
-both_all P [] ys all_xs all_ys = all_ys
-both_all P (x ∷ xs) ys all_xs all_ys = (all_xs.0, both_all P xs ys all_xs.1 all_ys)
 
 -- what holds of each of a list holds of the last
 all_last : {X : Type 0} (P : X → Type 0) (xs : List X) (x : X) → AllByRecursion P (xs ++ x ∷ []) → P x

@@ -1,5 +1,5 @@
 -- The lines of a report in form have words, and the bytes of these are those of words.
-use Rattle.std.specs.Prelude.{ℕ, ◌==◌, Bool, true, false, List, [], ◌∷◌, ◌++◌, map, codes, Option, Some, None}
+use Rattle.std.specs.Prelude.{ℕ, ◌==◌, Bool, true, false, List, [], ◌∷◌, map, codes, Option, Some, None}
 use Rattle.std.specs.Fmt.{decimal}
 use Rattle.std.specs.List.{AllZip, AllByRecursion}
 use Rattle.std.proofs.Common.{refl, arith}
@@ -26,18 +26,13 @@ use Rattle.report_text.specs.AnswersLaws.{committed_words}
 use Rattle.report_text.specs.ClocksLaws.{clock_counted, clock_passes, needs_needed, needs_passes}
 use Rattle.report_text.specs.NamesLaws.{TellsNames, spelled_made, decimal_spelled, session_spelled, key_spelled}
 use Rattle.report_text.specs.RenderingLaws.{Passes, word_marks, in_word, IsLine, both_pass}
-use Rattle.report_text.specs.RowsLaws.{all_map}
+use Rattle.report_text.specs.RowsLaws.{all_map, both_all}
 use Rattle.report_text.specs.Text.{key_name, session_name, clock_word, worker_word, level_word, cell_words, needs_words, shown_words, again_words, answer_words, answers_lines, sessions_lines, final_words, report_lines}
 use Rattle.report_text.specs.ValuesLaws.{value_passes}
 
 -- words whose bytes are those of words
 abbrev pub AreWords : List (List ℕ) → Type 0
 AreWords words = AllByRecursion (Passes in_word) words
-
--- what holds of each element of two lists holds in one
-both_all : {X : Type 0} (P : X → Type 0) (xs ys : List X) → AllByRecursion P xs → AllByRecursion P ys → AllByRecursion P (xs ++ ys)
-both_all P [] ys all_xs all_ys = all_ys
-both_all P (x ∷ xs) ys all_xs all_ys = (all_xs.0, both_all P xs ys all_xs.1 all_ys)
 
 -- a number is a word
 number_passes : (n : ℕ) → Passes in_word (decimal n)

@@ -15,6 +15,11 @@ pub all_map : {X Y : Type 0} (P : X → Type 0) (Q : Y → Type 0) (f : X → Y)
 all_map P Q f each [] all = tt
 all_map P Q f each (x ∷ xs) all = (each x all.0, all_map P Q f each xs all.1)
 
+-- what holds of each element of two lists holds of each of both together
+pub both_all : {X : Type 0} (P : X → Type 0) (xs ys : List X) → AllByRecursion P xs → AllByRecursion P ys → AllByRecursion P (xs ++ ys)
+both_all P [] ys all_xs all_ys = all_ys
+both_all P (x ∷ xs) ys all_xs all_ys = (all_xs.0, both_all P xs ys all_xs.1 all_ys)
+
 -- where a row passes, its first item does
 row_first : (c : ℕ) (item : List ℕ) (items : List (List ℕ)) → Spelled (join_with_byte c (item ∷ items)) → Spelled item
 row_first c item [] all = all

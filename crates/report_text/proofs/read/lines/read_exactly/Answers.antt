@@ -1,5 +1,5 @@
-use Rattle.std.proofs.Common.{refl, sym, ap, ◌∙◌, ◌≡◌, Bool, true, false, not, nat_eq}
-use Rattle.std.proofs.lemmas.Bool.{false≢true}
+use Rattle.std.proofs.Common.{refl, sym, ap, ◌∙◌, ◌≡◌, nat_eq}
+use Rattle.std.proofs.lemmas.Bool.{not-true}
 use Rattle.std.specs.Cmp.Lexicographic.{other_text, pointwise}
 use Rattle.report_text.specs.RenderingLaws.{cut_once}
 use Rattle.report_text.specs.declared.read.ReportFault.TheVariants.{Form}
@@ -7,15 +7,10 @@ use Rattle.report_text.proofs.ReadLineLemmas.{is_not}
 use Rattle.report_text.proofs.ReadRows.{lacks_passes}
 use Rattle.report_text.proofs.read.lines.read_exactly.Goals as goal
 
--- what is not true is false
-is_false : (b : Bool) → true ≡ not b → false ≡ b
-is_false false is = refl
-is_false true is = absurd (false≢true (sym is))
-
 pub returns-then-ne-clause-fault : goal.returns-then-ne-clause-fault
 returns-then-ne-clause-fault c = (
   ap (λ (lines : _ × _). Form lines.1) c.lines.view_is,
   λ rest same.
       let wanted : c.in_ok-take.field-0.now ≡ c.args.wanted.now = (cut_once (is_not 10) 10 refl c.in_ok-take.field-0.now c.args.wanted.now c.take.new.self.0 rest (lacks_passes 10 c.in_ok-take.field-0.now c.in_ok-take.ensures.within) (lacks_passes 10 c.args.wanted.now c.requires.line) (sym c.in_ok-take.ensures.line ∙ same)).0 in
-      other_text c.in_ok-take.field-0.now c.args.wanted.now (is_false (pointwise nat_eq c.in_ok-take.field-0.now c.args.wanted.now) c.if-ne.ensures) wanted,
+      other_text c.in_ok-take.field-0.now c.args.wanted.now (sym (not-true (pointwise nat_eq c.in_ok-take.field-0.now c.args.wanted.now) (sym c.if-ne.ensures))) wanted,
 )

@@ -5,8 +5,8 @@ use Rattle.session_known.specs.FormLaws.{IsPlace, places_known}
 use Rattle.report_text.specs.NamesLaws.{tells_names}
 use Rattle.report_text.specs.ReadLines.{Exactly, FinalOf, HasGot, IsPartFault, session_dues, finals_dues, report_dues}
 use Rattle.report_text.specs.Text.{sessions_lines, final_words}
-use Rattle.report_text.proofs.ReadLineLemmas.{fault_on, got_line}
-use Rattle.report_text.proofs.ReadPartLemmas.{first_words, final_word, end_word, fault_first, wanted_out, few_lines, fault_in_sessions, fault_at_final, fault_in_finals, fault_at_end, all_got}
+use Rattle.report_text.proofs.ReadLineLemmas.{fault_first, fault_on, got_line}
+use Rattle.report_text.proofs.ReadPartLemmas.{first_words, final_word, end_word, wanted_out, few_lines, fault_in_sessions, fault_at_final, fault_in_finals, fault_at_end, all_got}
 use Rattle.report_text.proofs.read.lines.read_parts.Goals as goal
 
 pub returns-in_err-read_exactly-clause-fault : goal.returns-in_err-read_exactly-clause-fault

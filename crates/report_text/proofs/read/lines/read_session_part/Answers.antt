@@ -3,8 +3,8 @@ use Rattle.std.specs.List.{list_any}
 use Rattle.report_text.specs.NamesLaws.{tells_names}
 use Rattle.report_text.specs.ReadLines.{Exactly, Answered, IsPartFault, session_dues}
 use Rattle.report_text.specs.Text.{level_word}
-use Rattle.report_text.proofs.ReadLineLemmas.{fault_on, fault_behind, got_line}
-use Rattle.report_text.proofs.ReadPartLemmas.{fault_first, fault_so, wanted_out, session_lacks}
+use Rattle.report_text.proofs.ReadLineLemmas.{fault_first, fault_on, fault_behind, got_line}
+use Rattle.report_text.proofs.ReadPartLemmas.{fault_so, wanted_out, session_lacks}
 use Rattle.report_text.proofs.read.lines.read_session_part.Goals as goal
 
 pub read_exactly-requires-clause-line : goal.read_exactly-requires-clause-line
