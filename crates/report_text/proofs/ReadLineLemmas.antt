@@ -4,11 +4,10 @@ use Rattle.std.specs.List.{AllZip, AllByRecursion, flat_map, join_with_byte, lis
 use Rattle.std.specs.Result.{IsErrAnd}
 use Rattle.std.proofs.Common.{refl, sym, ap, subst, ◌∙◌, arith}
 use Rattle.std.proofs.Math.Seq.{take-suc}
-use Rattle.std.proofs.lemmas.Bool.{true≢false, both_ways, or_parts, eqb-true}
-use Rattle.std.proofs.lemmas.Bool.Decides.{nat_tests}
+use Rattle.std.proofs.lemmas.Bool.{both_ways, eqb-true}
 use Rattle.std.proofs.lemmas.Grind.{flat_map-append}
 use Rattle.std.proofs.lemmas.List.Folds.{length-flat_map-take}
-use Rattle.std.proofs.lemmas.List.{append_assoc, append-nil, length-append, map-append, take-append-drop}
+use Rattle.std.proofs.lemmas.List.{append_assoc, append-nil, length-append, map-append, take_more, take-append-drop}
 use Rattle.session_known.specs.Form.{Fits, IsFinalIn}
 use Rattle.session_known.specs.declared.report.Answer.{Answer}
 use Rattle.session_known.specs.declared.report.FinalCell.{FinalCell}
@@ -20,27 +19,19 @@ use Rattle.report_text.specs.NamesLaws.{TellsNames}
 use Rattle.report_text.specs.ReadLines.{Due, Answered, FinalOf, IsDue, IsFinalAt, AreLinesRead, IsOut, HasGot, IsPartFault, session_dues, finals_dues}
 use Rattle.report_text.specs.RenderingLaws.{Passes, IsLine, in_line, cut_once, line_behind, row_passes, passes_weaker}
 use Rattle.report_text.specs.ReportsLaws.{AreAnswers, place_of}
+use Rattle.report_text.specs.RowsLaws.{both_all}
 use Rattle.report_text.specs.Text.{level_word, answer_words, answers_lines, sessions_lines, final_words, line_text}
 use Rattle.report_text.specs.declared.read.ReportFault.{ReportFault}
 use Rattle.report_text.specs.declared.read.ReportFault.TheVariants.{Form, NoMemory}
 use Rattle.report_text.proofs.DueLemmas.{HasWords, due_line, out_before, out_behind, lines_read}
 use Rattle.report_text.proofs.FormDueLemmas.{both_zip}
-use Rattle.report_text.proofs.ReadRows.{lacks_passes}
+use Rattle.report_text.proofs.ReadRows.{lacks_passes, no_cut}
 
 -- ---- one line
 
 -- a byte that is another
 abbrev pub is_not : ℕ → ℕ → Bool
 is_not c b = not (b == c)
-
--- a byte is itself
-same_byte : (c : ℕ) → (c == c) ≡ true
-same_byte c = grind (arith, nat_tests)
-
--- the other way round, a text in which it stands
-lacks_not : (c : ℕ) (text rest : List ℕ) → list_any (λ b. b == c) (text ++ c ∷ rest) ≡ false → ⊥
-lacks_not c [] rest lacks = true≢false (sym (same_byte c) ∙ (or_parts (c == c) (list_any (λ b. b == c) rest) lacks).0)
-lacks_not c (b ∷ text) rest lacks = lacks_not c text rest (or_parts (b == c) (list_any (λ b. b == c) (text ++ c ∷ rest)) lacks).1
 
 -- a byte of a line is no line feed
 no_feed : (s : Bool) (b : ℕ) → (b == 10) ≡ s → in_line b ≡ true → not s ≡ true
@@ -64,8 +55,7 @@ fault_on (Err fault) P Q is each = each fault is
 module _ (script : Script) (names : TellsNames script) where
   -- where no line feed is left, no line is
   pub out_at_end : (due : Due) (bytes : List ℕ) → list_any (λ b. b == 10) bytes ≡ false → IsOut script due bytes
-  out_at_end due bytes lacks rest line =
-      lacks_not 10 (join_with_byte 32 line.words) rest (ap (list_any (λ b. b == 10)) (sym (line.begin ∙ line_behind line.words rest)) ∙ lacks)
+  out_at_end due bytes lacks rest line = no_cut 10 bytes (join_with_byte 32 line.words) rest lacks (line.begin ∙ line_behind line.words rest)
 
   -- a line whose text is none that is due is out of form
   pub out_here : (due : Due) (bytes text after : List ℕ) → HasWords due → bytes ≡ text ++ 10 ∷ after → list_any (λ b. b == 10) text ≡ false → ((words : List (List ℕ)) → IsDue script due words → text ≡ join_with_byte 32 words → ⊥) → IsOut script due bytes
@@ -117,12 +107,6 @@ module _ (script : Script) where
 
 -- ---- item by item
 
--- the first items with the next
-take-next : {X : Type 0} (xs : List X) (count : ℕ) (x : X) → count < length xs → take (count + 1) xs ≡ take count xs ++ get_or xs count x ∷ []
-take-next xs count x within =
-    let next : count + 1 ≡ suc count = omega arith in
-    ap (λ n. take n xs) next ∙ take-suc xs count x within
-
 -- a list is its first items, the next, and the rest
 parts_of : {X : Type 0} (xs : List X) (count : ℕ) (x : X) → count < length xs → x ≡ get_or xs count x → (take count xs ++ x ∷ []) ++ drop (suc count) xs ≡ xs
 parts_of xs count x within is =
@@ -173,7 +157,7 @@ answers_none script level commands before = record { fit = tt; got = got_none sc
 -- one more
 pub answers_next : (script : Script) (level : Level) (commands : List Line) (before : List ℕ × ℕ) (count : ℕ) (now after : List ℕ × ℕ) (answers pushed : List Answer) (command : Line) (answer : Answer) → count < length commands → command ≡ get_or commands count command → AreAnswersSo script level commands before count now answers → Fits script level command answer → HasGot script (Answered level command ∷ []) (answer_words script command answer ∷ []) now after → pushed ≡ answers ++ answer ∷ [] → AreAnswersSo script level commands before (count + 1) after pushed
 answers_next script level commands before count now after answers pushed command answer within is so fits got push =
-    let first : take count commands ++ command ∷ [] ≡ take (count + 1) commands = ap (λ line. take count commands ++ line ∷ []) is ∙ sym (take-next commands count command within) in
+    let first : take count commands ++ command ∷ [] ≡ take (count + 1) commands = ap (λ line. take count commands ++ line ∷ []) is ∙ sym (take_more commands count command within) in
     let dues : map (Answered level) (take count commands) ++ Answered level command ∷ [] ≡ map (Answered level) (take count commands ++ command ∷ []) = sym (map-append (Answered level) (take count commands) (command ∷ [])) in
     let both = got_both script (map (Answered level) (take count commands)) (Answered level command ∷ []) (answers_lines script (take count commands) answers) (answer_words script command answer ∷ []) before now after so.got got in
     let all : HasGot script (map (Answered level) (take count commands ++ command ∷ [])) (answers_lines script (take count commands ++ command ∷ []) (answers ++ answer ∷ [])) before after =
@@ -209,7 +193,7 @@ pub sessions_next : (script : Script) (plans : List SessionPlan) (before : List 
 sessions_next script plans before count now after others pushed plan answers within is so fit got push =
     let front = take count plans in
     let lines : List (List (List ℕ)) = (codes "session" ∷ plan.name ∷ level_word plan.level ∷ []) ∷ answers_lines script plan.lines answers in
-    let first : front ++ plan ∷ [] ≡ take (count + 1) plans = ap (λ plan. take count plans ++ plan ∷ []) is ∙ sym (take-next plans count plan within) in
+    let first : front ++ plan ∷ [] ≡ take (count + 1) plans = ap (λ plan. take count plans ++ plan ∷ []) is ∙ sym (take_more plans count plan within) in
     let both = got_both script (flat_map session_dues front) (session_dues plan) (sessions_lines script front others) lines before now after so.got got in
     let all : HasGot script (flat_map session_dues (front ++ plan ∷ [])) (sessions_lines script (front ++ plan ∷ []) (others ++ answers ∷ [])) before after =
     subst (λ lines. HasGot script (flat_map session_dues (front ++ plan ∷ [])) lines before after) (sym (sessions_push script (AreAnswers script) front plan others answers so.fit))
@@ -249,16 +233,11 @@ AreFinalsSo script places before count now cells = AreFinalsFor script (take cou
 pub finals_none : (script : Script) (places : List (ℕ × ℕ)) (before : List ℕ × ℕ) → AreFinalsSo script places before 0 before []
 finals_none script places before = record { places_are = refl; in_form = tt; got = got_none script before }
 
--- one more element of which it holds
-all_push : {X : Type 0} (P : X → Type 0) (xs : List X) (x : X) → AllByRecursion P xs → P x → AllByRecursion P (xs ++ x ∷ [])
-all_push P [] x all one = (one, tt)
-all_push P (a ∷ xs) x all one = (all.0, all_push P xs x all.1 one)
-
 -- one more
 pub finals_next : (script : Script) (places : List (ℕ × ℕ)) (before : List ℕ × ℕ) (count : ℕ) (now after : List ℕ × ℕ) (cells pushed : List FinalCell) (place : ℕ × ℕ) (cell : FinalCell) → count < length places → place ≡ get_or places count place → AreFinalsSo script places before count now cells → IsFinalAt script place.0 place.1 cell → HasGot script (FinalOf place.0 place.1 ∷ []) (final_words script cell ∷ []) now after → pushed ≡ cells ++ cell ∷ [] → AreFinalsSo script places before (count + 1) after pushed
 finals_next script places before count now after cells pushed place cell within is so at got push =
     let front = take count places in
-    let first : front ++ place ∷ [] ≡ take (count + 1) places = ap (λ place. take count places ++ place ∷ []) is ∙ sym (take-next places count place within) in
+    let first : front ++ place ∷ [] ≡ take (count + 1) places = ap (λ place. take count places ++ place ∷ []) is ∙ sym (take_more places count place within) in
     let both = got_both script (finals_dues front) (FinalOf place.0 place.1 ∷ []) (map (final_words script) cells) (final_words script cell ∷ []) before now after so.got got in
     let all : HasGot script (finals_dues (front ++ place ∷ [])) (map (final_words script) (cells ++ cell ∷ [])) before after =
     subst (λ lines. HasGot script (finals_dues (front ++ place ∷ [])) lines before after) (sym (map-append (final_words script) cells (cell ∷ [])))
@@ -266,7 +245,7 @@ finals_next script places before count now after cells pushed place cell within 
     let here : place_of cell ≡ place = λ i. (at.key_is i, at.worker_is i) in
     let places_are : map place_of (cells ++ cell ∷ []) ≡ front ++ place ∷ [] = map-append place_of cells (cell ∷ []) ∙ (λ i. so.places_are i ++ here i ∷ []) in
     subst (AreFinalsSo script places before (count + 1) after) (sym push)
-    (subst (λ front. AreFinalsFor script front before after (cells ++ cell ∷ [])) first (record { places_are = places_are; in_form = all_push (IsFinalIn script) cells cell so.in_form at.in_form; got = all }))
+    (subst (λ front. AreFinalsFor script front before after (cells ++ cell ∷ [])) first (record { places_are = places_are; in_form = both_all (IsFinalIn script) cells (cell ∷ []) so.in_form (at.in_form, tt); got = all }))
 
 -- where one of the final cells is out of form
 pub finals_fault : (script : Script) (places : List (ℕ × ℕ)) (before : List ℕ × ℕ) (count : ℕ) (now : List ℕ × ℕ) (cells : List FinalCell) (place : ℕ × ℕ) (fault : ReportFault) → count < length places → place ≡ get_or places count place → AreFinalsSo script places before count now cells → IsPartFault script (FinalOf place.0 place.1 ∷ []) now fault → IsPartFault script (finals_dues places) before fault
