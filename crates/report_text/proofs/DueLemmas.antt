@@ -1,7 +1,7 @@
 -- Lines that are due, read one behind another: what stands where one is out of form.
 use Rattle.std.specs.Prelude.{◌≡◌, ℕ, zero, suc, ◌+◌, ◌≤◌, List, [], ◌∷◌, ◌++◌, take, length, ⊤}
 use Rattle.std.specs.List.{AllZip, AllByRecursion, flat_map}
-use Rattle.std.proofs.Common.{refl, sym, ap, subst, ◌∙◌, arith}
+use Rattle.std.proofs.Common.{refl, sym, subst, ◌∙◌, arith}
 use Rattle.std.proofs.lemmas.List.{append_assoc}
 use Rattle.session_known.specs.declared.script.Script.{Script}
 use Rattle.report_text.specs.LinesLaws.{answer_line, final_line}
@@ -14,11 +14,6 @@ use Rattle.report_text.specs.Text.{line_text}
 abbrev pub HasWords : Due → Type 0
 HasWords (Exactly words) = IsLine words
 HasWords due = ⊤
-
--- the lines that were read
-abbrev pub read_lines : (script : Script) (dues : List Due) (bytes rest : List ℕ) → AreLinesRead script dues bytes rest → List (List (List ℕ))
-read_lines script [] bytes rest are = []
-read_lines script (due ∷ dues) bytes rest are = are.1.words ∷ read_lines script dues are.0 rest are.2
 
 module _ (script : Script) (names : TellsNames script) where
   -- a line that is due has words
@@ -57,11 +52,6 @@ module _ (script : Script) (names : TellsNames script) where
 
 -- ---- one part of what is due behind another
 
--- lines of one part, and behind them those of another
-pub both_read : (script : Script) (dues others : List Due) (bytes behind rest : List ℕ) → AreLinesRead script dues bytes behind → AreLinesRead script others behind rest → AreLinesRead script (dues ++ others) bytes rest
-both_read script [] others bytes behind rest are more = subst (λ bytes. AreLinesRead script others bytes rest) (sym are) more
-both_read script (due ∷ dues) others bytes behind rest (next, line, are) more = (next, line, both_read script dues others next behind rest are more)
-
 -- where one of the first part is out of form
 pub out_before : (script : Script) (dues others : List Due) (place : ℕ) (bytes : List ℕ) → IsOutAt script dues place bytes → IsOutAt script (dues ++ others) place bytes
 out_before script [] others place bytes out = absurd out
@@ -98,14 +88,3 @@ lines_read script [] (line ∷ lines) rest are = absurd are
 lines_read script (due ∷ dues) [] rest are = absurd are
 lines_read script (due ∷ dues) (line ∷ lines) rest are =
     (flat_map line_text lines ++ rest, record { words = line; is_due = are.0; begin = append_assoc (line_text line) (flat_map line_text lines) rest }, lines_read script dues lines rest are.1)
-
--- what was read are lines that are due
-pub read_are_due : (script : Script) (dues : List Due) (bytes rest : List ℕ) → (are : AreLinesRead script dues bytes rest) → AllZip (IsDue script) dues (read_lines script dues bytes rest are)
-read_are_due script [] bytes rest are = tt
-read_are_due script (due ∷ dues) bytes rest are = (are.1.is_due, read_are_due script dues are.0 rest are.2)
-
--- and their text is what stands before the rest
-pub read_text : (script : Script) (dues : List Due) (bytes rest : List ℕ) → (are : AreLinesRead script dues bytes rest) → bytes ≡ flat_map line_text (read_lines script dues bytes rest are) ++ rest
-read_text script [] bytes rest are = are
-read_text script (due ∷ dues) bytes rest are =
-    are.1.begin ∙ ap (λ bytes. line_text are.1.words ++ bytes) (read_text script dues are.0 rest are.2) ∙ sym (append_assoc (line_text are.1.words) (flat_map line_text (read_lines script dues are.0 rest are.2)) rest)

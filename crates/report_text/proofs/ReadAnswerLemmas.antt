@@ -1,9 +1,8 @@
 -- What is read of the parts of a line is read of the line.
-use Rattle.std.proofs.Common.{◌≡◌, ℕ, ◌<◌, ◌≤◌, ◌^◌, Bool, true, false, List, [], ◌∷◌, drop, length, Option, Some, None, Result, Ok, Err, codes, refl, sym, ap, subst, ◌∙◌, arith}
+use Rattle.std.proofs.Common.{◌≡◌, ℕ, ◌<◌, ◌≤◌, ◌^◌, Bool, true, false, List, [], ◌∷◌, drop, length, Option, Some, None, codes, refl, sym, ap, subst, ◌∙◌, arith}
 use Rattle.std.specs.Fmt.{decimal}
 use Rattle.std.specs.List.{list_all}
 use Rattle.std.specs.Prelude.{◌==◌}
-use Rattle.std.specs.Result.{IfOk}
 use Rattle.std.proofs.lemmas.Bool.{true≢false, both_ways, eq-eqb}
 use Rattle.std.proofs.lemmas.Fmt.{decimal_injective}
 use Rattle.lattice_laws.specs.Spelling.{is_spelling_byte}
@@ -38,11 +37,6 @@ module _ (script : Script) (level : Level) where
       let P : Line → Type 0 = λ line. Reads (Fits script level line) (answer_words script line) others result in
       let Q : List (List ℕ) → Type 0 = λ words. Reads (Fits script level line) (answer_words script line) words result in
       subst Q (sym same_words) (subst P (sym same_line) reads)
-
-  -- the same where memory may run out
-  pub answer_same_if : {E : Type 0} (line other : Line) (words others : List (List ℕ)) (result : Result (Option Answer) E) → line ≡ other → words ≡ others → IfOk result (Reads (Fits script level other) (answer_words script other) others) → IfOk result (Reads (Fits script level line) (answer_words script line) words)
-  answer_same_if line other words others (Ok read) same_line same_words reads = answer_same line other words others read same_line same_words reads
-  answer_same_if line other words others (Err fault) same_line same_words reads = tt
 
   -- ---- gets
 

@@ -73,10 +73,6 @@ module _ (script : Script) (names : TellsNames script) where
 -- ---- one part behind another
 
 module _ (script : Script) where
-  -- nothing is due
-  pub got_none : (before : List ℕ × ℕ) → HasGot script [] [] before before
-  got_none before = record { are_due = tt; begin = refl; number = omega arith }
-
   -- what was got of one part and then of another
   pub got_both : (dues others : List Due) (lines more : List (List (List ℕ))) (before middle after : List ℕ × ℕ) → HasGot script dues lines before middle → HasGot script others more middle after → HasGot script (dues ++ others) (lines ++ more) before after
   got_both dues others lines more before middle after got next = record {
@@ -150,10 +146,6 @@ pub record AreAnswersFor (script : Script) (level : Level) (commands : List Line
 abbrev pub AreAnswersSo : Script → Level → List Line → List ℕ × ℕ → ℕ → List ℕ × ℕ → List Answer → Type 0
 AreAnswersSo script level commands before count now answers = AreAnswersFor script level (take count commands) before now answers
 
--- none yet
-pub answers_none : (script : Script) (level : Level) (commands : List Line) (before : List ℕ × ℕ) → AreAnswersSo script level commands before 0 before []
-answers_none script level commands before = record { fit = tt; got = got_none script before }
-
 -- one more
 pub answers_next : (script : Script) (level : Level) (commands : List Line) (before : List ℕ × ℕ) (count : ℕ) (now after : List ℕ × ℕ) (answers pushed : List Answer) (command : Line) (answer : Answer) → count < length commands → command ≡ get_or commands count command → AreAnswersSo script level commands before count now answers → Fits script level command answer → HasGot script (Answered level command ∷ []) (answer_words script command answer ∷ []) now after → pushed ≡ answers ++ answer ∷ [] → AreAnswersSo script level commands before (count + 1) after pushed
 answers_next script level commands before count now after answers pushed command answer within is so fits got push =
@@ -183,10 +175,6 @@ pub record AreSessionsFor (script : Script) (plans : List SessionPlan) (before n
 -- those of the first ones
 abbrev pub AreSessionsSo : Script → List SessionPlan → List ℕ × ℕ → ℕ → List ℕ × ℕ → List (List Answer) → Type 0
 AreSessionsSo script plans before count now answers = AreSessionsFor script (take count plans) before now answers
-
--- none yet
-pub sessions_none : (script : Script) (plans : List SessionPlan) (before : List ℕ × ℕ) → AreSessionsSo script plans before 0 before []
-sessions_none script plans before = record { fit = tt; got = got_none script before }
 
 -- one more
 pub sessions_next : (script : Script) (plans : List SessionPlan) (before : List ℕ × ℕ) (count : ℕ) (now after : List ℕ × ℕ) (others pushed : List (List Answer)) (plan : SessionPlan) (answers : List Answer) → count < length plans → plan ≡ get_or plans count plan → AreSessionsSo script plans before count now others → AreAnswers script plan answers → HasGot script (session_dues plan) ((codes "session" ∷ plan.name ∷ level_word plan.level ∷ []) ∷ answers_lines script plan.lines answers) now after → pushed ≡ others ++ answers ∷ [] → AreSessionsSo script plans before (count + 1) after pushed
@@ -228,10 +216,6 @@ pub record AreFinalsFor (script : Script) (places : List (ℕ × ℕ)) (before n
 -- those at the first ones
 abbrev pub AreFinalsSo : Script → List (ℕ × ℕ) → List ℕ × ℕ → ℕ → List ℕ × ℕ → List FinalCell → Type 0
 AreFinalsSo script places before count now cells = AreFinalsFor script (take count places) before now cells
-
--- none yet
-pub finals_none : (script : Script) (places : List (ℕ × ℕ)) (before : List ℕ × ℕ) → AreFinalsSo script places before 0 before []
-finals_none script places before = record { places_are = refl; in_form = tt; got = got_none script before }
 
 -- one more
 pub finals_next : (script : Script) (places : List (ℕ × ℕ)) (before : List ℕ × ℕ) (count : ℕ) (now after : List ℕ × ℕ) (cells pushed : List FinalCell) (place : ℕ × ℕ) (cell : FinalCell) → count < length places → place ≡ get_or places count place → AreFinalsSo script places before count now cells → IsFinalAt script place.0 place.1 cell → HasGot script (FinalOf place.0 place.1 ∷ []) (final_words script cell ∷ []) now after → pushed ≡ cells ++ cell ∷ [] → AreFinalsSo script places before (count + 1) after pushed

@@ -6,7 +6,7 @@ ghost use Rattle.session_known.specs.Form.{Fits, IsFinalIn, HasForm, final_place
 ghost use Rattle.session_known.specs.Script.{IsOneOf, IsValidScript, IsValidSession, MayStand};
 ghost use Rattle.session_known.specs.declared.report.Answer.{Answer};
 ghost use Rattle.report_text.specs.declared.read.ReportFault.TheVariants.{Form};
-ghost use Rattle.report_text.specs.ReadLines.{Exactly, Answered, FinalOf, IsFinalAt, session_dues, finals_dues, report_dues, HasGot, IsPartFault};
+ghost use Rattle.report_text.specs.ReadLines.{Answered, FinalOf, IsFinalAt, session_dues, finals_dues, report_dues, HasGot, IsPartFault};
 ghost use Rattle.report_text.specs.Reads.{IsReading};
 ghost use Rattle.report_text.specs.ReportsLaws.{AreAnswers, place_of};
 ghost use Rattle.report_text.specs.Text.{level_word, answer_words, answers_lines, sessions_lines, final_words, report_lines};
