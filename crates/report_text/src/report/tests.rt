@@ -137,3 +137,15 @@ fn writes_versions(rt: HostRuntime) -> Result<(), Fail> {
     assert_eq!(rt; sink.written(), want.as_slice());
     Ok(())
 }
+
+#[test]
+fn writes_a_short_line(rt: HostRuntime) -> Result<(), Fail> {
+    let text = b"anna 1\nworkers 1\nkey k versions\nsession A eventual\nsession B eventual\nend\n";
+    let script = read_script(rt.alloc(), text)?;
+    let cell = versions_cell(rt.alloc())?;
+    let mut sink = SureSink::new(rt.alloc(), 256)?;
+    assert_eq!(rt; write_short(&script, &cell, &mut sink), Ok(()));
+    let want = b"k clock A:2,B:1 value z(A:2)|y(B:1)\n";
+    assert_eq!(rt; sink.written(), want.as_slice());
+    Ok(())
+}
