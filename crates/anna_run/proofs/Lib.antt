@@ -1,3 +1,4 @@
+pub mod CheckLemmas
 pub mod ReportLemmas
 pub mod ServingLemmas
 pub mod Taking

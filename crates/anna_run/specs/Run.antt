@@ -1,17 +1,24 @@
 -- What the program owes, by its status.
-use Rattle.std.specs.Prelude.{◌≡◌, ℕ, ◌+◌, false, List, [], ◌∷◌, ◌++◌, Option, Some, None, codes}
+use Rattle.std.specs.Prelude.{◌≡◌, ℕ, ◌+◌, ◌<◌, ◌≤◌, ◌⊎◌, false, List, [], ◌∷◌, ◌++◌, take, drop, length, Option, Some, None, codes}
 use Rattle.std.specs.Fmt.{decimal}
 use Rattle.script_reader.specs.Outside.{Rose, NoneLeft, TookMost}
-use Rattle.script_reader.specs.Grammar.{most_bytes, IsScript, IsRefused}
+use Rattle.placement.specs.Config.{placed}
+use Rattle.script_reader.specs.Grammar.{most_bytes, all_built, IsScript, IsRefused}
+use Rattle.script_reader.specs.Split.{split_place}
 use Rattle.script_reader.specs.declared.built.Built.{Built}
+use Rattle.session_known.specs.Form.{HasForm}
 use Rattle.session_known.specs.Legal.{IsLegal}
 use Rattle.session_known.specs.declared.report.Report.{Report}
 use Rattle.session_known.specs.declared.script.Script.{Script}
-use Rattle.report_text.specs.Text.{text_of}
+use Rattle.report_text.specs.Reads.{IsNoReport, IsFirstOutOfForm}
+use Rattle.report_text.specs.Text.{text_of, session_name, key_name}
+use Rattle.anna_check.specs.Unlawful.{IsVerdict}
+use Rattle.anna_check.specs.declared.judge.Verdict.{Verdict}
+use Rattle.anna_check.specs.declared.judge.Verdict.TheVariants as verdicts
 use Rattle.anna_run.specs.declared.words.Command.{Command}
-use Rattle.anna_run.specs.declared.words.Command.TheVariants.{Run}
+use Rattle.anna_run.specs.declared.words.Command.TheVariants.{Run, Check}
 use Rattle.anna_run.specs.declared.run.Status.{Status}
-use Rattle.anna_run.specs.declared.run.Status.TheVariants.{Done, Usage, Refused, ReadFault, WriteFault, NoMemory}
+use Rattle.anna_run.specs.declared.run.Status.TheVariants.{Done, Usage, Refused, Unlawful, ReadFault, WriteFault, NoMemory}
 
 -- a source before and after a call: the bytes left, where it tells them, and its count of faults
 pub record SourceUse : Type 0 where
@@ -28,10 +35,16 @@ exit_number Refused = 3
 exit_number ReadFault = 4
 exit_number WriteFault = 5
 exit_number NoMemory = 6
+exit_number Unlawful = 7
 
--- the most bytes that are taken: one more than a script may have, which tells that an input is too long
-abbrev pub most_taken : ℕ
-most_taken = most_bytes + 1
+-- the greatest length of an input that is checked, in bytes
+abbrev pub most_checked : ℕ
+most_checked = 16777216
+
+-- the most bytes that are taken: one more than the input may have, which tells that it is too long
+abbrev pub most_taken : Option Command → ℕ
+most_taken (Some Check) = most_checked + 1
+most_taken command = most_bytes + 1
 
 abbrev pub usage_text : List ℕ
 usage_text = codes "usage: anna COMMAND" ++ 10 ∷ []
@@ -49,7 +62,7 @@ served_forms = record { workers = false; levels = false }
 -- The whole input was taken, it is a script, and the report is legal for it.
 pub record HasServed (source : SourceUse) (script : Script) (report : Report) : Type 0 where
   pub bytes : List ℕ
-  pub taken : TookMost most_taken source.left_before source.left_now bytes
+  pub taken : TookMost (most_taken (Some Run)) source.left_before source.left_now bytes
   pub whole : NoneLeft source.left_now
   pub is_script : IsScript served_forms bytes script
   pub is_legal : IsLegal script report
@@ -66,19 +79,95 @@ pub record IsRefusal (source : SourceUse) (text : List ℕ) : Type 0 where
   pub bytes : List ℕ
   pub line : ℕ
   pub code : ℕ
-  pub taken : TookMost most_taken source.left_before source.left_now bytes
+  pub taken : TookMost (most_taken (Some Run)) source.left_before source.left_now bytes
   pub refused : IsRefused served_forms bytes line code
   pub is_text : text ≡ refusal_text line code
 
+-- ---- a check
+
+abbrev pub legal_text : List ℕ
+legal_text = codes "legal" ++ 10 ∷ []
+
+abbrev pub report_refusal_text : ℕ → List ℕ
+report_refusal_text line = codes "refused report line " ++ decimal line ++ 10 ∷ []
+
+-- the status that goes with a verdict
+abbrev pub verdict_status : Verdict → Status
+verdict_status verdicts.Legal = Done
+verdict_status verdict = Unlawful
+
+-- what is written of the first place of a report that is not lawful
+abbrev pub verdict_text : Script → Verdict → List ℕ
+verdict_text script verdicts.Legal = legal_text
+verdict_text script (verdicts.Command session command) = codes "unlawful session " ++ (session_name script session ++ (codes " command " ++ (decimal command ++ 10 ∷ [])))
+verdict_text script (verdicts.Final key worker) = codes "unlawful final " ++ (key_name script key ++ (codes " @" ++ (decimal worker ++ 10 ∷ [])))
+
+-- The bytes are a script of any form, up to the line end of the first line whose only word is `end`, and behind it the text of a report
+-- in form.
+pub record AreChecked (bytes : List ℕ) (script : Script) (report : Report) : Type 0 where
+  pub short : length bytes ≤ most_checked
+  pub is_script : IsScript all_built (take (split_place bytes) bytes) script
+  pub in_form : HasForm script (placed script.config) report
+  pub is_report : drop (split_place bytes) bytes ≡ text_of script report
+
+-- they are, and the report is legal
+pub record IsFoundLegal (bytes text : List ℕ) : Type 0 where
+  pub script : Script
+  pub report : Report
+  pub checked : AreChecked bytes script report
+  pub is_legal : IsLegal script report
+  pub is_text : text ≡ legal_text
+
+-- they are, the report is not legal, and the text names its first place that is not lawful
+pub record IsFoundUnlawful (bytes text : List ℕ) : Type 0 where
+  pub script : Script
+  pub report : Report
+  pub checked : AreChecked bytes script report
+  pub not_legal : IsLegal script report → ⊥
+  pub verdict : Verdict
+  pub is_verdict : IsVerdict (placed script.config) script report verdict
+  pub is_text : text ≡ verdict_text script verdict
+
+-- those that stand where the script should are none, and the text says at which line and with which code
+pub record IsFoundNoScript (bytes text : List ℕ) : Type 0 where
+  pub short : length bytes ≤ most_checked
+  pub line : ℕ
+  pub code : ℕ
+  pub refused : IsRefused all_built (take (split_place bytes) bytes) line code
+  pub is_text : text ≡ refusal_text line code
+
+-- those are a script, those behind it are not the text of a report in form, and the text says at which line of theirs
+pub record IsFoundNoReport (bytes text : List ℕ) : Type 0 where
+  pub short : length bytes ≤ most_checked
+  pub script : Script
+  pub is_script : IsScript all_built (take (split_place bytes) bytes) script
+  pub line : ℕ
+  pub no_report : IsNoReport script (placed script.config) (drop (split_place bytes) bytes)
+  pub first : IsFirstOutOfForm script (placed script.config) (drop (split_place bytes) bytes) line
+  pub is_text : text ≡ report_refusal_text line
+
+-- What is found of the bytes that were taken, by its status. Too many are refused, whatever they say.
+abbrev pub IsFound : List ℕ → Status → List ℕ → Type 0
+IsFound bytes Done text = IsFoundLegal bytes text
+IsFound bytes Unlawful text = IsFoundUnlawful bytes text
+IsFound bytes Refused text = ((most_checked < length bytes) × (text ≡ refusal_text 0 12)) ⊎ IsFoundNoScript bytes text ⊎ IsFoundNoReport bytes text
+IsFound bytes status text = ⊥
+
+-- the input was taken, or its first bytes where it is too long, and this is found of it
+pub record IsChecked (source : SourceUse) (status : Status) (text : List ℕ) : Type 0 where
+  pub bytes : List ℕ
+  pub taken : TookMost (most_taken (Some Check)) source.left_before source.left_now bytes
+  pub found : IsFound bytes status text
+
 -- Which text goes with which status, where these words were given and the source was used so. Of WriteFault see `Ends`.
 abbrev pub Owed : Option Command → SourceUse → Status → List ℕ → Type 0
+Owed command source NoMemory text = text ≡ []
+Owed command source WriteFault text = ⊥
 Owed (Some Run) source Done text = IsServed source text
 Owed (Some Run) source Refused text = IsRefusal source text
-Owed (Some Run) source ReadFault text = Rose source.faults_before source.faults_now × (text ≡ read_fault_text)
+Owed (Some Check) source Done text = IsChecked source Done text
+Owed (Some Check) source Unlawful text = IsChecked source Unlawful text
+Owed (Some Check) source Refused text = IsChecked source Refused text
+Owed (Some command) source ReadFault text = Rose source.faults_before source.faults_now × (text ≡ read_fault_text)
 Owed None source Usage text = (source.left_now ≡ source.left_before) × (source.faults_now ≡ source.faults_before) × (text ≡ usage_text)
-Owed command source NoMemory text = text ≡ []
-Owed (Some Run) source Usage text = ⊥
-Owed None source Done text = ⊥
-Owed None source Refused text = ⊥
-Owed None source ReadFault text = ⊥
-Owed command source WriteFault text = ⊥
+Owed command source status text = ⊥

@@ -2,10 +2,10 @@
 use Rattle.std.specs.Prelude.{List, [], ◌∷◌, ℕ, Option, Some, None, codes, if◌then◌else◌}
 use Rattle.std.specs.Str.{bytes_eq}
 use Rattle.anna_run.specs.declared.words.Command.{Command}
-use Rattle.anna_run.specs.declared.words.Command.TheVariants.{Run}
+use Rattle.anna_run.specs.declared.words.Command.TheVariants.{Run, Check}
 
--- the one word `run`
+-- the one word `run` or `check`
 abbrev pub command_of : List (List ℕ) → Option Command
 command_of [] = None
-command_of (word ∷ []) = if bytes_eq word (codes "run") then Some Run else None
+command_of (word ∷ []) = if bytes_eq word (codes "run") then Some Run else (if bytes_eq word (codes "check") then Some Check else None)
 command_of (word ∷ next ∷ words) = None

@@ -6,6 +6,7 @@
 
 mod run;
 mod serve;
+mod texts;
 mod words;
 
 use run::{Status, run};

@@ -2,17 +2,24 @@
 ghost use Rattle.std.specs.Prelude.{◌≡◌, ◌≤◌, ◌⊎◌, ℕ, List, ◌∷◌, [], ◌++◌, Some, Ok, length, map, string_bytes, OnOk, IfOk};
 ghost use Rattle.script_reader.specs.Outside.{Rose, Took, Ends};
 ghost use Rattle.script_reader.specs.Grammar.{IsScript};
+ghost use Rattle.placement.specs.Config.{placed};
+ghost use Rattle.session_known.specs.Form.{HasForm};
+ghost use Rattle.session_known.specs.Legal.{IsLegal};
+ghost use Rattle.session_known.specs.Script.{IsValidScript};
 ghost use Rattle.session_known.specs.declared.script.Script.{Script};
-ghost use Rattle.anna_run.specs.Outcomes.{IsOwed, IsReport};
+ghost use Rattle.session_known.specs.declared.report.Report as reports;
+ghost use Rattle.anna_run.specs.Outcomes.{IsOwed, IsOwedOf, IsReport, TellsOf, TellsVerdict};
 ghost use Rattle.anna_run.specs.Words.{command_of};
-ghost use Rattle.anna_run.specs.Run.{most_taken, served_forms, exit_number, Owed, refusal_text};
+ghost use Rattle.anna_run.specs.Run.{most_taken, served_forms, exit_number, verdict_status, AreChecked, Owed};
 
 use crate::serve::serve;
+use crate::texts::{line, refusal, report_refusal, verdict_line};
 use crate::words::{Command, read_words};
+use anna_check::{Verdict, check};
 use lattice_laws::NoMemory;
-use report_text::write_report;
+use report_text::{ReportFault, read_report, write_report};
 use script_reader::outside::{Failed, ReadFault, Sink, Source, finish, read_all};
-use script_reader::{Built, MOST_BYTES, ScriptFault, read_script_built};
+use script_reader::{Built, MOST_BYTES, ScriptFault, read_script, read_script_built, split_input};
 use session_known::{Report, Script};
 use std::alloc::Global;
 
@@ -22,15 +29,20 @@ const SERVED_FORMS: Built = Built {
     levels: false,
 };
 
+/// The greatest length of an input that is checked, in bytes.
+const MOST_CHECKED: usize = 16_777_216;
+
 /// How a run ended.
 #[derive(Clone, Copy, Debug, PartialEq, Eq)]
 pub enum Status {
-    /// The script was served, and the report was written.
+    /// The script was served, and the report was written; or the report that was checked is legal.
     Done,
     /// The words are of no accepted form.
     Usage,
-    /// What was read is no script.
+    /// What was read is no script, or what stands behind a script that is checked is no report.
     Refused,
+    /// The report that was checked is not legal.
+    Unlawful,
     /// The source failed.
     ReadFault,
     /// The sink failed.
@@ -40,7 +52,7 @@ pub enum Status {
 }
 
 impl Status {
-    /// The exit number: 0, 2, 3, 4, 5 or 6.
+    /// The exit number: 0, or one from 2 to 7.
     pub fn number(self) -> u8
         ensures { result ≡ exit_number self }
     {
@@ -51,25 +63,9 @@ impl Status {
             Status::ReadFault => 4,
             Status::WriteFault => 5,
             Status::NoMemory => 6,
+            Status::Unlawful => 7,
         }
     }
-}
-
-/// A line of text.
-fn line(alloc: Global, text: &str) -> Result<Vec<u8>, NoMemory>
-    ensures { IfOk result (λ line. line.items ≡ text.now ++ 10 ∷ []) }
-{
-    let mut line = Vec::from_slice(alloc, text.as_bytes())?;
-    line.push(b'\n')?;
-    Ok(line)
-}
-
-/// The line that says at which line a script is refused, and why.
-fn refusal(alloc: Global, number: u32, code: u8) -> Result<Vec<u8>, NoMemory>
-    ensures { IfOk result (λ line. line.items ≡ refusal_text number code) }
-{
-    let text = format!(in alloc; "refused line {number}: code {code}")?;
-    line(alloc, &text)
 }
 
 /// What a run owes to whoever asked.
@@ -85,7 +81,7 @@ enum Outcome {
 fn run_script<S: Source>(alloc: Global, src: &mut S) -> Result<Outcome, NoMemory>
     ensures owed { IfOk result (IsOwed (Some Command.Run)
         (record { left_before = S.left src.old; left_now = S.left src.new; faults_before = S.faults src.old; faults_now = S.faults src.new })) }
-    ensures bounded { (bytes : List ℕ) × (length bytes ≤ most_taken) × Took (S.left src.old) (S.left src.new) bytes }
+    ensures bounded { (bytes : List ℕ) × (length bytes ≤ most_taken (Some Command.Run)) × Took (S.left src.old) (S.left src.new) bytes }
     ensures complete { (input : List ℕ) (script : Script) → S.left src.old ≡ Some input → IsScript served_forms input script
         → (Rose (S.faults src.old) (S.faults src.new) → ⊥) → IfOk result IsReport }
 {
@@ -108,28 +104,98 @@ fn run_script<S: Source>(alloc: Global, src: &mut S) -> Result<Outcome, NoMemory
     }
 }
 
+/// Reads a script and the report behind it, and judges the report.
+fn check_input<S: Source>(alloc: Global, src: &mut S) -> Result<Outcome, NoMemory>
+    ensures owed { IfOk result (IsOwed (Some Command.Check)
+        (record { left_before = S.left src.old; left_now = S.left src.new; faults_before = S.faults src.old; faults_now = S.faults src.new })) }
+    ensures bounded { (bytes : List ℕ) × (length bytes ≤ most_taken (Some Command.Check)) × Took (S.left src.old) (S.left src.new) bytes }
+    ensures complete { (input : List ℕ) (script : Script) (report : reports.Report) → S.left src.old ≡ Some input → AreChecked input script report
+        → (Rose (S.faults src.old) (S.faults src.new) → ⊥) → IfOk result (TellsOf script report) }
+{
+    let bytes = match read_all(alloc, src, MOST_CHECKED + 1) {
+        Ok(bytes) => bytes,
+        Err(ReadFault::Failed) => {
+            return Ok(Outcome::Line(Status::ReadFault, line(alloc, "read fault")?));
+        }
+        Err(ReadFault::NoMemory) => return Err(NoMemory),
+    };
+    check_bytes(alloc, &bytes)
+}
+
+/// Judges the report that the bytes say behind their script.
+fn check_bytes(alloc: Global, bytes: &[u8]) -> Result<Outcome, NoMemory>
+    ensures owed { IfOk result (IsOwedOf bytes.now) }
+    ensures complete { (script : Script) (report : reports.Report) → AreChecked bytes.now script report → IfOk result (TellsOf script report) }
+{
+    if bytes.len() > MOST_CHECKED {
+        return Ok(Outcome::Line(Status::Refused, refusal(alloc, 0, 12)?));
+    }
+    let (front, behind) = bytes.split_at(split_input(bytes));
+    let script = match read_script(alloc, front) {
+        Ok(script) => script,
+        Err(ScriptFault::Refused { line, code }) => {
+            return Ok(Outcome::Line(Status::Refused, refusal(alloc, line, code)?));
+        }
+        Err(ScriptFault::NoMemory) => return Err(NoMemory),
+    };
+    let report = match read_report(alloc, &script, behind) {
+        Ok(report) => report,
+        Err(ReportFault::Form { line }) => {
+            return Ok(Outcome::Line(Status::Refused, report_refusal(alloc, line)?));
+        }
+        Err(ReportFault::NoMemory) => return Err(NoMemory),
+    };
+    judged(alloc, &script, &report)
+}
+
+/// Judges a report of the script's form.
+fn judged(alloc: Global, script: &Script, report: &Report) -> Result<Outcome, NoMemory>
+    requires valid { IsValidScript script.now (placed script.now.config) }
+    requires form { HasForm script.now (placed script.now.config) report.now }
+    ensures { IfOk result (TellsVerdict script.now report.now) }
+{
+    let verdict = check(alloc, script, report)?;
+    let text = verdict_line(alloc, script, verdict)?;
+    Ok(Outcome::Line(status_of(verdict), text))
+}
+
+/// The status that goes with what a report is judged.
+fn status_of(verdict: Verdict) -> Status
+    ensures { result ≡ verdict_status verdict }
+{
+    match verdict {
+        Verdict::Legal => Status::Done,
+        Verdict::Command { .. } | Verdict::Final { .. } => Status::Unlawful,
+    }
+}
+
 /// What is owed to these words and this source.
 fn outcome_of<S: Source>(alloc: Global, words: &[String], src: &mut S) -> Result<Outcome, NoMemory>
     ensures owed { IfOk result (IsOwed (command_of (map string_bytes words.now))
         (record { left_before = S.left src.old; left_now = S.left src.new; faults_before = S.faults src.old; faults_now = S.faults src.new })) }
-    ensures bounded { (bytes : List ℕ) × (length bytes ≤ most_taken) × Took (S.left src.old) (S.left src.new) bytes }
+    ensures bounded { (bytes : List ℕ) × (length bytes ≤ most_taken (command_of (map string_bytes words.now))) × Took (S.left src.old) (S.left src.new) bytes }
     ensures complete { (input : List ℕ) (script : Script) → command_of (map string_bytes words.now) ≡ Some Command.Run
         → S.left src.old ≡ Some input → IsScript served_forms input script
         → (Rose (S.faults src.old) (S.faults src.new) → ⊥) → IfOk result IsReport }
+    ensures judges { (input : List ℕ) (script : Script) (report : reports.Report) → command_of (map string_bytes words.now) ≡ Some Command.Check
+        → S.left src.old ≡ Some input → AreChecked input script report
+        → (Rose (S.faults src.old) (S.faults src.new) → ⊥) → IfOk result (TellsOf script report) }
 {
     match read_words(words) {
         Some(Command::Run) => run_script(alloc, src),
+        Some(Command::Check) => check_input(alloc, src),
         None => Ok(Outcome::Line(Status::Usage, line(alloc, "usage: anna COMMAND")?)),
     }
 }
 
-/// Does all that the program does: reads a script from the source where the words ask for it, serves
-/// it, and writes the report to the sink.
+/// Does all that the program does: reads from the source what the words ask for, and writes to the sink.
 ///
-/// The words are those behind the program's name; accepted is the one word `run`. The input is at
-/// most 1,048,576 bytes; served are scripts with one worker and eventual sessions, and the line of
-/// another is refused with code 2. Where the words are of no accepted form the source is left alone,
-/// and where memory runs out nothing is written.
+/// The words are those behind the program's name; accepted is one word. `run` takes a script of at most
+/// 1,048,576 bytes, serves it and writes its report; served are scripts with one worker and eventual
+/// sessions, and the line of another is refused with code 2. `check` takes a script of any form directly
+/// followed by a report, at most 16,777,216 bytes, and writes whether the report is legal, or its first
+/// place that is not lawful. Where the words are of no accepted form the source is left alone, and where
+/// memory runs out nothing is written.
 pub fn run<S: Source, K: Sink>(alloc: Global, words: &[String], src: &mut S, sink: &mut K) -> Status
     // The status says what was owed, and that it was written.
     ensures ends { Ends Status.WriteFault
@@ -138,13 +204,19 @@ pub fn run<S: Source, K: Sink>(alloc: Global, words: &[String], src: &mut S, sin
         (Rose (K.faults sink.old) (K.faults sink.new)) (K.written sink.old) (K.written sink.new) result }
 
     // No more than one byte more than a script may have is taken.
-    ensures bounded { (bytes : List ℕ) × (length bytes ≤ most_taken) × Took (S.left src.old) (S.left src.new) bytes }
+    ensures bounded { (bytes : List ℕ) × (length bytes ≤ most_taken (command_of (map string_bytes words.now))) × Took (S.left src.old) (S.left src.new) bytes }
 
     // A script is served, unless an end failed or memory ran out.
     ensures complete { (input : List ℕ) (script : Script) → command_of (map string_bytes words.now) ≡ Some Command.Run
         → S.left src.old ≡ Some input → IsScript served_forms input script
         → (Rose (S.faults src.old) (S.faults src.new) → ⊥) → (Rose (K.faults sink.old) (K.faults sink.new) → ⊥)
         → (result ≡ Status.Done) ⊎ (result ≡ Status.NoMemory) }
+
+    // A report behind its script is told to be legal, or not to be, unless an end failed or memory ran out.
+    ensures judges { (input : List ℕ) (script : Script) (report : reports.Report) → command_of (map string_bytes words.now) ≡ Some Command.Check
+        → S.left src.old ≡ Some input → AreChecked input script report
+        → (Rose (S.faults src.old) (S.faults src.new) → ⊥) → (Rose (K.faults sink.old) (K.faults sink.new) → ⊥)
+        → ((result ≡ Status.Done) × IsLegal script report) ⊎ ((result ≡ Status.Unlawful) × (IsLegal script report → ⊥)) ⊎ (result ≡ Status.NoMemory) }
 {
     match outcome_of(alloc, words, src) {
         Ok(Outcome::Report(script, report)) => match write_report(&script, &report, sink) {
@@ -156,5 +228,7 @@ pub fn run<S: Source, K: Sink>(alloc: Global, words: &[String], src: &mut S, sin
     }
 }
 
+#[cfg(test)]
+mod check_tests;
 #[cfg(test)]
 mod tests;

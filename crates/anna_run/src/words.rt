@@ -7,14 +7,17 @@ ghost use Rattle.anna_run.specs.Words.{command_of};
 pub enum Command {
     /// Run the script that comes in.
     Run,
+    /// Judge the report that comes in behind its script.
+    Check,
 }
 
-/// The command that the words name, where they are of an accepted form: `run`.
+/// The command that the words name, where they are of an accepted form: `run` or `check`.
 pub fn read_words(words: &[String]) -> Option<Command>
     ensures { result ≡ command_of (map string_bytes words.now) }
 {
     match words {
         [word] if word.as_str() == "run" => Some(Command::Run),
+        [word] if word.as_str() == "check" => Some(Command::Check),
         _ => None,
     }
 }

@@ -1,4 +1,4 @@
-use Rattle.std.proofs.Common.{◌≡◌, ℕ, List, Option, inr, refl, sym, subst}
+use Rattle.std.proofs.Common.{rules, ◌≡◌, ℕ, List, [], Option, inl, inr, refl, sym, subst}
 use Rattle.placement.specs.Config.{placed}
 use Rattle.placement.specs.ConfigLaws.{placement_is}
 use Rattle.script_reader.specs.ValidLaws.{script_is_valid}
@@ -11,7 +11,7 @@ use Rattle.anna_run.specs.Outcomes.{IsOwed}
 use Rattle.anna_run.specs.Run.{SourceUse, HasServed, Owed, served_forms}
 use Rattle.anna_run.specs.declared.run.Outcome.{Outcome}
 use Rattle.anna_run.specs.declared.run.Outcome.TheVariants as outcomes
-use Rattle.anna_run.specs.declared.run.Status.TheVariants.{Done}
+use Rattle.anna_run.specs.declared.run.Status.TheVariants.{Done, NoMemory}
 use Rattle.anna_run.specs.declared.words.Command.{Command}
 use Rattle.anna_run.proofs.run.run.Goals as goal
 
@@ -44,3 +44,13 @@ returns-in-Ok-Report-clause-ends g c =
     let report = c.in-Ok-Report.report in
     let owed = owed_as _ _ _ script report c.in-Ok-Report.field-0-is c.in-Ok-Report.ensures.owed in
     (Done, text_of script report, owed_report _ _ script report owed, inr (refl, c.in-Err-write_report.ensures.cause.1, c.in-Err-write_report.ensures.wrote))
+
+pub returns-in-Ok-clause-ends : goal.returns-in-Ok-clause-ends
+returns-in-Ok-clause-ends g c =
+    let script = c.in-Ok-Report.script in
+    let report = c.in-Ok-Report.report in
+    let owed = owed_as _ _ _ script report c.in-Ok-Report.field-0-is c.in-Ok-Report.ensures.owed in
+    (Done, text_of script report, owed_report _ _ script report owed, inl (refl, c.in-Ok.ensures.wrote))
+
+pub returns-clause-ends : goal.returns-clause-ends
+returns-clause-ends g c = (NoMemory, [], refl, inl (refl, search rules))

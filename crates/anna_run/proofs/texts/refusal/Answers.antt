@@ -2,7 +2,7 @@ use Rattle.std.proofs.Common.{◌≡◌, ℕ, List, [], ◌∷◌, ◌++◌, ap,
 use Rattle.std.specs.Prelude.{codes}
 use Rattle.std.specs.Fmt.{decimal}
 use Rattle.std.proofs.lemmas.Result.{IfOk-weaker}
-use Rattle.anna_run.proofs.run.refusal.Goals as goal
+use Rattle.anna_run.proofs.texts.refusal.Goals as goal
 
 line_of_refusal : (line code : List ℕ) → (codes "refused line " ++ (line ++ (codes ": code " ++ code))) ++ 10 ∷ [] ≡ codes "refused line " ++ line ++ codes ": code " ++ code ++ 10 ∷ []
 line_of_refusal line code = simp append_assoc
