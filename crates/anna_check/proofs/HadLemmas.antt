@@ -1,12 +1,12 @@
 -- A clock more that a session had from a worker.
-use Rattle.std.specs.Prelude.{◌≡◌, ◌≢◌, ◌↔◌, ℕ, ◌-◌, ◌<◌, ◌^◌, ◌==◌, ◌&&◌, Bool, true, false, cond, IsTrue, List, [], ◌∷◌, ◌++◌, length, slice_index_or, slice_set, Option, Some, None, IfSome, All, unwrap_or, replicate}
+use Rattle.std.specs.Prelude.{◌≡◌, ◌≢◌, ◌↔◌, ℕ, ◌-◌, ◌<◌, ◌^◌, ◌==◌, ◌&&◌, Bool, true, false, cond, IsTrue, List, [], ◌∷◌, ◌++◌, length, slice_index_or, slice_set, Option, Some, None, IfSome, All, unwrap_or}
 use Rattle.std.specs.List.{cons_option}
 use Rattle.std.specs.Cmp.{nat_cmp_total, unsigned_tied}
 use Rattle.std.proofs.Common.{refl, sym, ap, subst, ◌∙◌, inl, inr, arith}
 use Rattle.std.proofs.lemmas.Bool.{cases_eq, ne_eqb, eq-eqb}
 use Rattle.std.proofs.lemmas.Cmp.{tied_itself}
 use Rattle.std.specs.Ordering.{is_eq}
-use Rattle.std.proofs.lemmas.List.{append-nil, length-replicate, get_or-replicate, length-set, get_or-set_same, get_or-set_other}
+use Rattle.std.proofs.lemmas.List.{append-nil, length-set, get_or-set_same, get_or-set_other}
 use Rattle.std.proofs.lemmas.List.Elements.{filter_map-append, All-append, All-nil, All-cons, All-pop}
 use Rattle.clock_lattice.specs.Clock.{IsClock, joined_clocks, covers}
 use Rattle.clock_lattice.specs.ClockLaws.{clock_coverage, covers_through}
@@ -113,14 +113,6 @@ joined_more workers earlier line answer had key worker clock some_worker fits is
       let both = covers_more covering (clock_from had its_key by) more (earlier_from its_key by earlier) is_clock (clocks_there had key worker clock its_key by is are) (before.join its_key by covering some_by is_clock) in
       subst (λ (at : List (ℕ × ℕ) × List (List (ℕ × ℕ))). IsTrue (covers covering at.0) ↔ All (λ before. IsTrue (covers covering before)) at.1)
       (λ i. (sym (from_each had key worker clock its_key by some_worker some_by_had fits is are) i, sym (earlier_more its_key by earlier (line, answer) more (from its_key by)) i)) both;
-}
-
--- Where nothing was had, there is the join of nothing.
-pub joined_none : (workers : ℕ) → AreJoined workers [] (replicate workers [])
-joined_none workers = record {
-  workers_are = length-replicate workers [];
-  join = λ key worker clock within is.
-      subst (λ had. IsTrue (covers clock (clock_at key had)) ↔ All (λ before. IsTrue (covers clock before)) []) (sym (get_or-replicate workers (worker - 1) [] [] (omega (arith, within)))) ((λ _. All-nil (λ before. IsTrue (covers clock before))), (λ _. refl));
 }
 
 -- An answer without a clock changes nothing.

@@ -1,13 +1,9 @@
 -- What a reply must cover, and who is asked last.
-use Rattle.std.specs.Prelude.{◌≡◌, ◌↔◌, ℕ, zero, suc, ◌+◌, ◌-◌, ◌*◌, ◌<◌, ◌^◌, ◌==◌, ◌&&◌, leb, not, Bool, true, false, cond, IsTrue, IsFalse, List, [], ◌∷◌, ◌++◌, take, length, filter, slice_index_or, Option}
-use Rattle.std.proofs.Common.{refl, sym, ap, ◌∙◌, length-append, arith}
-use Rattle.std.proofs.Math.Seq.{take-suc}
+use Rattle.std.specs.Prelude.{◌≡◌, ◌↔◌, ℕ, zero, suc, ◌*◌, ◌<◌, ◌^◌, ◌==◌, ◌&&◌, leb, not, Bool, true, false, IsTrue, IsFalse, List, length, filter, Option}
+use Rattle.std.proofs.Common.{refl, sym, ap, ◌∙◌, arith}
 use Rattle.std.specs.Cmp.{both_ways}
-use Rattle.std.proofs.Math.Seq.{get_or-append_seam}
 use Rattle.std.proofs.lemmas.Bool.{leb-true, le-leb, true≢false}
-use Rattle.std.proofs.lemmas.List.{append-nil}
 use Rattle.lattice_laws.specs.Ascending.{and_both, and_left, and_right}
-use Rattle.std.proofs.lemmas.List.Elements.{filter-append}
 use Rattle.clock_lattice.specs.Clock.{IsClock, count_of, joined_clocks, one_count, covers}
 use Rattle.clock_lattice.specs.ClockLaws.{clock_coverage, covers_through, one_count_is_clock}
 use Rattle.session_known.specs.Lawful.{MayReply, required, last_asked, IsClockFrom, IsLawfulReply, IsLawfulAgain}
@@ -35,35 +31,9 @@ pub covers_raised_both : (clock known : List (ℕ × ℕ)) (session n : ℕ) →
 covers_raised_both clock known session n fits n_fits is is_known =
     covers_both clock known (one_count session n) is is_known (one_count_is_clock session n fits n_fits) ∙ ap (λ t. covers clock known && t) (covers_one clock session n)
 
--- the last of a list
-abbrev last_of : List ℕ → ℕ
-last_of xs = slice_index_or xs (length xs - 1) 0
-
--- of a list with one more behind a first, the one more is the last
-last_of_more : (first : ℕ) (xs : List ℕ) (last : ℕ) → last_of (first ∷ (xs ++ last ∷ [])) ≡ last
-last_of_more first xs last =
-    let place : length (first ∷ (xs ++ last ∷ [])) - 1 ≡ length (first ∷ xs) = omega (arith, length-append xs (last ∷ [])) in
-    ap (λ n. slice_index_or (first ∷ (xs ++ last ∷ [])) n 0) place ∙ get_or-append_seam (first ∷ xs) last [] 0
-
 -- those that are not the home
 abbrev pub others : ℕ → List ℕ → List ℕ
 others home replicas = filter (λ replica. not (replica == home)) replicas
-
--- the last of those that were asked, the home first, with one more
-last_with : (t : Bool) (home : ℕ) (xs : List ℕ) (replica : ℕ) → cond t (last_of (home ∷ xs)) replica ≡ last_of (home ∷ (xs ++ cond (not t) (replica ∷ []) []))
-last_with true home xs replica = ap (λ xs. last_of (home ∷ xs)) (sym (append-nil xs))
-last_with false home xs replica = sym (last_of_more home xs replica)
-
--- One more replica is asked behind the others, unless it is the home.
-pub asked_more : (home : ℕ) (replicas : List ℕ) (i replica last new : ℕ) → i < length replicas → replica ≡ slice_index_or replicas i replica → last ≡ last_of (home ∷ others home (take i replicas)) → new ≡ cond (replica == home) last replica → new ≡ last_of (home ∷ others home (take (i + 1) replicas))
-asked_more home replicas i replica last new within is so new_is =
-    let p : ℕ → Bool = λ replica. not (replica == home) in
-    let next : i + 1 ≡ suc i = omega arith in
-    let front : take (i + 1) replicas ≡ take i replicas ++ replica ∷ [] = ap (λ n. take n replicas) next ∙ take-suc replicas i replica within ∙ ap (λ r. take i replicas ++ r ∷ []) (sym is) in
-    new_is
-    ∙ ap (λ last. cond (replica == home) last replica) so
-    ∙ last_with (replica == home) home (others home (take i replicas)) replica
-    ∙ ap (λ xs. last_of (home ∷ xs)) (sym (ap (filter p) front ∙ filter-append p (take i replicas) (replica ∷ [])))
 
 -- a test whose negation passes fails
 not_true : (t : Bool) → IsTrue (not t) → IsFalse t

@@ -9,3 +9,4 @@ pub mod SessionsLemmas
 pub mod SoundLemmas
 pub mod ToldLemmas
 pub mod TrueLemmas
+pub mod VerdictLemmas

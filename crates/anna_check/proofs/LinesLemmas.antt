@@ -1,6 +1,6 @@
 -- The lines of a session, judged one behind another.
 use Rattle.std.specs.Prelude.{◌≡◌, ℕ, zero, suc, ◌+◌, ◌<◌, ◌≤◌, List, [], ◌∷◌, ◌++◌, All, drop, length, get_or}
-use Rattle.std.proofs.Common.{refl, sym, ap, subst, ◌∙◌, append_assoc, append-nil, length-append, arith}
+use Rattle.std.proofs.Common.{sym, ap, subst, ◌∙◌, append_assoc, append-nil, length-append, arith}
 use Rattle.std.proofs.lemmas.List.{at_drop_more, at_drop_all}
 use Rattle.std.proofs.lemmas.List.Elements.{All-append, All-nil, All-cons}
 use Rattle.composed_value.specs.declared.kind.Kind.{Kind}
@@ -73,23 +73,6 @@ pub record AreJudging (table : List (List ℕ)) (client : Client) (workers : ℕ
       → (so_far : List (ℕ × Put)) × AreByKey kinds so_far more × (so_far ++ puts_from client inside.state (drop i all_lines) (drop i all_answers) ≡ made ++ puts_from client start all_lines all_answers)
   pub held : MayAllBePut (kinds_of accepted) (held_puts inside.state)
   pub counts : (key : ℕ) → own_count inside.state.knows key + length (held_puts inside.state) ≤ i
-
--- Before the first line.
-pub judging_none : (table : List (List ℕ)) (client : Client) (workers : ℕ) (all_lines : List Line) (all_answers : List Answer) (accepted : List OfKey) (inside : Judged) (had : List (List (ℕ × List (ℕ × ℕ)))) → inside.client ≡ client → inside.state ≡ start → AreJoined workers [] had
-    → AreJudging table client workers all_lines all_answers accepted 0 inside had accepted
-judging_none table client workers all_lines all_answers accepted inside had client_is state_is joined = record {
-  earlier = [];
-  client_is = client_is;
-  joined = joined;
-  lawful = subst (λ state. AreLawful table client state [] all_lines all_answers) state_is;
-  unlawful = λ command some first.
-      let same : command ≡ 0 + command = omega arith in
-      subst (IsFirstUnlawful table client start [] all_lines all_answers) same (subst (λ state. IsFirstUnlawful table client state [] all_lines all_answers command) state_is first);
-  kinds = refl;
-  puts = λ kinds made by_key. (made, by_key, ap (λ state. made ++ puts_from client state all_lines all_answers) state_is);
-  held = subst (λ state. MayAllBePut (kinds_of accepted) (held_puts state)) (sym state_is) (All-nil (λ (held : ℕ × Payload). MayBePut (kinds_of accepted) held.0 held.1));
-  counts = λ key. subst (λ state. own_count state.knows key + length (held_puts state) ≤ 0) (sym state_is) (omega arith);
-}
 
 module _ (table : List (List ℕ)) (client : Client) (workers : ℕ) (all_lines : List Line) (all_answers : List Answer) (accepted : List OfKey) (i : ℕ) (inside : Judged) (had : List (List (ℕ × List (ℕ × ℕ)))) (more : List OfKey) (are : AreJudging table client workers all_lines all_answers accepted i inside had more)
     (line : Line) (answer : Answer) (within : i < length all_lines) (each : length all_answers ≡ length all_lines) (line_is : line ≡ get_or all_lines i line) (answer_is : answer ≡ get_or all_answers i answer) where

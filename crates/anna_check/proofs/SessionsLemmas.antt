@@ -2,11 +2,9 @@
 use Rattle.std.specs.Prelude.{◌≡◌, ℕ, zero, suc, ◌+◌, ◌<◌, ◌≤◌, List, [], ◌∷◌, ◌++◌, All, drop, length, get_or}
 use Rattle.std.specs.List.{AllZip}
 use Rattle.std.proofs.Common.{refl, sym, ap, subst, ◌∙◌, append_assoc, append-nil, inl, inr, arith}
-use Rattle.std.proofs.lemmas.List.{at_drop_more, at_drop_all, length-map}
+use Rattle.std.proofs.lemmas.List.{at_drop_more, at_drop_all}
 use Rattle.std.proofs.lemmas.List.Sums.{get_or-le-sum_by}
 use Rattle.std.proofs.lemmas.Slice.Zip.{AllZip-long}
-use Rattle.placement.specs.Config.{IsPlacement, replicas_on}
-use Rattle.placement.specs.declared.config.Config.{Config}
 use Rattle.composed_value.specs.declared.kind.Kind.{Kind}
 use Rattle.composed_value.specs.declared.put.Put.{Put}
 use Rattle.session_known.specs.Accepted.{client_of, accepted_from}
@@ -87,10 +85,6 @@ can_be_judged script table all_answers i plan theirs valid form within plan_is t
       payloads = λ k d inside. may_take script table plan.level (get_or plan.lines k d) valid.kinds (may k d inside);
       workers_named = λ k d inside. worker_named script plan.level (get_or plan.lines k lines.Begin) (get_or theirs k d) (zip_at (Fits script plan.level) plan.lines theirs fits k lines.Begin d (omega (arith, inside, long)));
     }
-
--- a placement has as many keys as its config
-pub placed_keys : (config : Config) (table : List (List ℕ)) → IsPlacement config table → length table ≡ length config.keys
-placed_keys config table placed = ap length placed.replicas ∙ length-map config.keys (replicas_on placed.ring config)
 
 -- So many sessions were judged, and were lawful: where those that are left are lawful all are, the first place of them that is not is the
 -- first of all, and what was accepted with what they accept is what all accept.

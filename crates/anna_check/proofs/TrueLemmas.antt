@@ -19,13 +19,6 @@ pub record AreTrueSoFar (kinds : List Kind) (puts : List (ℕ × Put)) (all_line
   pub true_of : AllZip (IsTrueOf kinds puts) (drop i all_lines) (drop i all_answers) → AllZip (IsTrueOf kinds puts) all_lines all_answers
   pub untrue : (command : ℕ) → 0 < command → IsFirstUntrue kinds puts (drop i all_lines) (drop i all_answers) command → IsFirstUntrue kinds puts all_lines all_answers (i + command)
 
--- Before the first answer.
-pub true_none : (kinds : List Kind) (puts : List (ℕ × Put)) (all_lines : List Line) (all_answers : List Answer) → AreTrueSoFar kinds puts all_lines all_answers 0
-true_none kinds puts all_lines all_answers = record {
-  true_of = λ all. all;
-  untrue = λ command some first. let same : command ≡ 0 + command = omega arith in subst (IsFirstUntrue kinds puts all_lines all_answers) same first;
-}
-
 module _ (kinds : List Kind) (puts : List (ℕ × Put)) (all_lines : List Line) (all_answers : List Answer) (i : ℕ) (are : AreTrueSoFar kinds puts all_lines all_answers i) (each : length all_answers ≡ length all_lines) where
   module _ (line : Line) (answer : Answer) (within : i < length all_lines) (line_is : line ≡ get_or all_lines i line) (answer_is : answer ≡ get_or all_answers i answer) where
     -- what is said of those that are left, of the line and its answer and those behind them

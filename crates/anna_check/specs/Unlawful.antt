@@ -1,5 +1,5 @@
 -- Where a report is unlawful first: inside a session, else in what it says of all accepted puts, else in a final cell.
-use Rattle.std.specs.Prelude.{◌≡◌, ℕ, zero, suc, ◌+◌, List, [], ◌∷◌, ◌++◌}
+use Rattle.std.specs.Prelude.{◌≡◌, ℕ, zero, suc, ◌+◌, List, [], ◌∷◌, ◌++◌, All}
 use Rattle.std.specs.List.{AllZip}
 use Rattle.std.proofs.Common.{◌⊎◌}
 use Rattle.composed_value.specs.declared.kind.Kind.{Kind}
@@ -71,6 +71,12 @@ IsLawfulInside table script report = AreLawfulFrom table 1 script.sessions repor
 -- what every answer says of the accepted puts is true
 abbrev pub IsTrueOfPuts : Script → Report → Type 0
 IsTrueOfPuts script report = AllZip (AreTrueOf script.kinds (accepted script report)) script.sessions report.answers
+
+-- What a report in form whose answers are all lawful inside their sessions is judged.
+abbrev pub IsVerdictOfPuts : Script → Report → Verdict → Type 0
+IsVerdictOfPuts script report Legal = IsTrueOfPuts script report × All (IsLawfulFinal script.kinds (accepted script report)) report.finals
+IsVerdictOfPuts script report (Command session command) = IsFirstUntrueFrom script.kinds (accepted script report) 1 script.sessions report.answers session command
+IsVerdictOfPuts script report (Final key worker) = IsTrueOfPuts script report × IsFirstUnlawfulFinal script.kinds (accepted script report) report.finals key worker
 
 -- What a report in form is judged, where the keys live as the table says: legal, or the first place that is not.
 abbrev pub IsVerdict : List (List ℕ) → Script → Report → Verdict → Type 0

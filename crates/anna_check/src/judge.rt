@@ -1,8 +1,13 @@
 //! The judge.
-ghost use Rattle.std.specs.Prelude.{List, ℕ, IfOk};
+ghost use Rattle.std.specs.Prelude.{◌≤◌, List, ℕ, All, IfOk, length};
+ghost use Rattle.std.specs.List.{AllZip};
+ghost use Rattle.session_known.specs.Accepted as made;
 ghost use Rattle.session_known.specs.Form.{HasForm};
+ghost use Rattle.session_known.specs.Numbered.{made_on, AreNext};
 ghost use Rattle.session_known.specs.Script.{IsValidScript};
-ghost use Rattle.anna_check.specs.Unlawful.{IsVerdict};
+ghost use Rattle.anna_check.specs.ByKey.{AreByKey};
+ghost use Rattle.anna_check.specs.Stand.{CanAllBeHeldAgainst, CanBeFinal};
+ghost use Rattle.anna_check.specs.Unlawful.{IsVerdict, IsVerdictOfPuts};
 
 use crate::accepted::Accepted;
 use crate::first::find_unlawful;
@@ -45,25 +50,36 @@ fn judge(
     requires form { HasForm script.now placement.now report.now }
     ensures { IfOk result (IsVerdict placement.now script.now report.now) }
 {
-    let kinds = script.kinds.as_slice();
     let answers = report.answers.as_slice();
-    let mut accepted = Accepted::new(alloc, kinds)?;
-    if let Some((session, command)) = find_unlawful(
-        alloc,
-        script,
-        placement,
-        answers,
-        &mut accepted,
-    )? {
-        return Ok(Verdict::Command { session, command });
+    let mut accepted = Accepted::new(alloc, script.kinds.as_slice())?;
+    match find_unlawful(alloc, script, placement, answers, &mut accepted)? {
+        Some((session, command)) => Ok(Verdict::Command { session, command }),
+        None => hold_against(alloc, script, &accepted, report),
     }
-    let mut told = Told::new(alloc, kinds, script.config.workers)?;
+}
+
+/// Judges a report whose answers are all lawful inside their sessions by the puts that they accept.
+fn hold_against(
+    alloc: Global,
+    script: &Script,
+    accepted: &Accepted,
+    report: &Report,
+) -> Result<Verdict, NoMemory>
+    requires few { length script.now.sessions ≤ 16 }
+    requires answers { AllZip (λ plan answers. CanAllBeHeldAgainst script.now.kinds script.now.config.workers plan.lines answers) script.now.sessions report.now.answers }
+    requires finals { All (CanBeFinal script.now.kinds script.now.config.workers) report.now.finals }
+    requires numbered { (session key : ℕ) → AreNext 0 (made_on session key (made.accepted script.now report.now)) }
+    requires puts { AreByKey script.now.kinds (made.accepted script.now report.now) accepted.now }
+    ensures { IfOk result (IsVerdictOfPuts script.now report.now) }
+{
+    let mut told = Told::new(alloc, script.kinds.as_slice(), script.config.workers)?;
     let sessions = script.sessions.as_slice();
-    if let Some((session, command)) = find_untrue(alloc, &accepted, &mut told, sessions, answers)? {
+    let answers = report.answers.as_slice();
+    if let Some((session, command)) = find_untrue(alloc, accepted, &mut told, sessions, answers)? {
         return Ok(Verdict::Command { session, command });
     }
     let finals = report.finals.as_slice();
-    if let Some((key, worker)) = find_unlawful_final(alloc, &accepted, &mut told, finals)? {
+    if let Some((key, worker)) = find_unlawful_final(alloc, accepted, &mut told, finals)? {
         return Ok(Verdict::Final { key, worker });
     }
     Ok(Verdict::Legal)

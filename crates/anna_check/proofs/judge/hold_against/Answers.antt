@@ -1,0 +1,90 @@
+use Rattle.std.proofs.Common.{rules, ◌≡◌, ℕ, List, Option, Some, None, MatchOption, All, sym, subst}
+use Rattle.std.specs.List.{AllZip}
+use Rattle.composed_value.specs.declared.kind.Kind.{Kind}
+use Rattle.session_known.specs.Accepted.{accepted}
+use Rattle.session_known.specs.Legal.{IsLawfulFinal}
+use Rattle.session_known.specs.declared.report.Answer.{Answer}
+use Rattle.session_known.specs.declared.report.FinalCell.{FinalCell}
+use Rattle.session_known.specs.declared.script.SessionPlan.{SessionPlan}
+use Rattle.anna_check.specs.Counted.{AreOfTheirPuts}
+use Rattle.anna_check.specs.Stand.{StandFor, CanAllBeHeldAgainst, CanBeFinal}
+use Rattle.anna_check.specs.Unlawful.{AreTrueOf, IsFirstUntrueFrom, IsFirstUnlawfulFinal}
+use Rattle.anna_check.proofs.judge.hold_against.Goals as goal
+
+pub find_untrue-requires-clause-held : goal.find_untrue-requires-clause-held
+find_untrue-requires-clause-held c =
+    let kinds = c.args.script.now.kinds in
+    let workers = c.args.script.now.config.workers in
+    let made = accepted c.args.script.now c.args.report.now in
+    let stand : StandFor kinds workers made c.args.accepted.now c.in_ok-told.told = record {
+      puts = c.requires.puts;
+      numbered = c.requires.numbered;
+      cells_are = subst (λ kinds. AreOfTheirPuts kinds workers made c.in_ok-told.told) c.as_slice.ensures (c.in_ok-told.ensures.of_their_puts made c.requires.numbered);
+    } in (
+      workers,
+      made,
+      subst (λ kinds. StandFor kinds workers made c.args.accepted.now c.in_ok-told.told) (sym c.requires.puts.kinds_are) stand,
+      subst (λ (at : List Kind × List SessionPlan × List (List Answer)). AllZip (λ plan answers. CanAllBeHeldAgainst at.0 workers plan.lines answers) at.1 at.2) (λ j. (sym c.requires.puts.kinds_are j, sym c.as_slice-sessions.ensures j, sym c.as_slice-answers.ensures j)) c.requires.answers,
+    )
+
+pub returns-in-Some : goal.returns-in-Some
+returns-in-Some c =
+    let kinds = c.args.script.now.kinds in
+    let workers = c.args.script.now.config.workers in
+    let made = accepted c.args.script.now c.args.report.now in
+    let stand : StandFor kinds workers made c.args.accepted.now c.in_ok-told.told = record {
+      puts = c.requires.puts;
+      numbered = c.requires.numbered;
+      cells_are = subst (λ kinds. AreOfTheirPuts kinds workers made c.in_ok-told.told) c.as_slice.ensures (c.in_ok-told.ensures.of_their_puts made c.requires.numbered);
+    } in
+    let place_is : c.in_ok-session.field-0 ≡ Some (c.in-Some.session, c.in-Some.command) = search rules in
+    let untrue = subst (λ (at : Option (ℕ × ℕ) × List SessionPlan × List (List Answer)). MatchOption at.0 (AllZip (AreTrueOf kinds made) at.1 at.2) (λ place. IsFirstUntrueFrom kinds made 1 at.1 at.2 place.0 place.1)) (λ j. (place_is j, c.as_slice-sessions.ensures j, c.as_slice-answers.ensures j)) (c.in_ok-session.ensures.true_of kinds workers made stand) in
+    untrue
+
+pub find_unlawful_final-requires : goal.find_unlawful_final-requires
+find_unlawful_final-requires c =
+    let kinds = c.args.script.now.kinds in
+    let workers = c.args.script.now.config.workers in
+    let made = accepted c.args.script.now c.args.report.now in
+    let stand : StandFor kinds workers made c.args.accepted.now c.in_ok-told.told = record {
+      puts = c.requires.puts;
+      numbered = c.requires.numbered;
+      cells_are = subst (λ kinds. AreOfTheirPuts kinds workers made c.in_ok-told.told) c.as_slice.ensures (c.in_ok-told.ensures.of_their_puts made c.requires.numbered);
+    } in (
+      workers,
+      made,
+      subst (λ kinds. StandFor kinds workers made c.args.accepted.now c.find_untrue.new.told) (sym c.requires.puts.kinds_are) (c.find_untrue.ensures.stand kinds workers made stand),
+      subst (λ (at : List Kind × List FinalCell). All (CanBeFinal at.0 workers) at.1) (λ j. (sym c.requires.puts.kinds_are j, sym c.as_slice-finals.ensures j)) c.requires.finals,
+    )
+
+pub returns-in-Some-2 : goal.returns-in-Some-2
+returns-in-Some-2 c =
+    let kinds = c.args.script.now.kinds in
+    let workers = c.args.script.now.config.workers in
+    let made = accepted c.args.script.now c.args.report.now in
+    let stand : StandFor kinds workers made c.args.accepted.now c.in_ok-told.told = record {
+      puts = c.requires.puts;
+      numbered = c.requires.numbered;
+      cells_are = subst (λ kinds. AreOfTheirPuts kinds workers made c.in_ok-told.told) c.as_slice.ensures (c.in_ok-told.ensures.of_their_puts made c.requires.numbered);
+    } in
+    let all_true : c.in_ok-session.field-0 ≡ None = search rules in
+    let last_is : c.in_ok-key.field-0 ≡ Some (c.in-Some-2.key, c.in-Some-2.worker) = search rules in
+    let untrue = subst (λ (at : Option (ℕ × ℕ) × List SessionPlan × List (List Answer)). MatchOption at.0 (AllZip (AreTrueOf kinds made) at.1 at.2) (λ place. IsFirstUntrueFrom kinds made 1 at.1 at.2 place.0 place.1)) (λ j. (all_true j, c.as_slice-sessions.ensures j, c.as_slice-answers.ensures j)) (c.in_ok-session.ensures.true_of kinds workers made stand) in
+    let finals = subst (λ (at : Option (ℕ × ℕ) × List FinalCell). MatchOption at.0 (All (IsLawfulFinal kinds made) at.1) (λ place. IsFirstUnlawfulFinal kinds made at.1 place.0 place.1)) (λ j. (last_is j, c.as_slice-finals.ensures j)) (c.in_ok-key.ensures kinds workers made (c.find_untrue.ensures.stand kinds workers made stand)) in
+    (untrue, finals)
+
+pub returns : goal.returns
+returns c =
+    let kinds = c.args.script.now.kinds in
+    let workers = c.args.script.now.config.workers in
+    let made = accepted c.args.script.now c.args.report.now in
+    let stand : StandFor kinds workers made c.args.accepted.now c.in_ok-told.told = record {
+      puts = c.requires.puts;
+      numbered = c.requires.numbered;
+      cells_are = subst (λ kinds. AreOfTheirPuts kinds workers made c.in_ok-told.told) c.as_slice.ensures (c.in_ok-told.ensures.of_their_puts made c.requires.numbered);
+    } in
+    let all_true : c.in_ok-session.field-0 ≡ None = search rules in
+    let all_lawful : c.in_ok-key.field-0 ≡ None = search rules in
+    let untrue = subst (λ (at : Option (ℕ × ℕ) × List SessionPlan × List (List Answer)). MatchOption at.0 (AllZip (AreTrueOf kinds made) at.1 at.2) (λ place. IsFirstUntrueFrom kinds made 1 at.1 at.2 place.0 place.1)) (λ j. (all_true j, c.as_slice-sessions.ensures j, c.as_slice-answers.ensures j)) (c.in_ok-session.ensures.true_of kinds workers made stand) in
+    let finals = subst (λ (at : Option (ℕ × ℕ) × List FinalCell). MatchOption at.0 (All (IsLawfulFinal kinds made) at.1) (λ place. IsFirstUnlawfulFinal kinds made at.1 place.0 place.1)) (λ j. (all_lawful j, c.as_slice-finals.ensures j)) (c.in_ok-key.ensures kinds workers made (c.find_untrue.ensures.stand kinds workers made stand)) in
+    (untrue, finals)
