@@ -1,6 +1,6 @@
 #!/usr/bin/env bash
 # Makes the longest script that the program takes, 1,048,576 bytes with 4,096 commands, and scripts with a half and
-# a quarter of its commands, runs ./anna on each, and prints how long each run took.
+# a quarter of its commands, runs and checks each, and prints how long each run and each check took.
 set -u
 top=$(cd "$(dirname "$0")/.." && pwd) || exit 1
 folder=$(mktemp -d) || exit 1
@@ -53,5 +53,7 @@ for commands in 1024 2048 4096; do
     begun=$(date +%s%N)
     "$top/anna" run <"$folder/script" >"$folder/report" || exit 1
     ended=$(date +%s%N)
-    echo "$commands commands, $(wc -c <"$folder/script") bytes in, $(wc -c <"$folder/report") bytes out: $(((ended - begun) / 1000000)) ms"
+    cat "$folder/script" "$folder/report" | "$top/anna" check >/dev/null || exit 1
+    checked=$(date +%s%N)
+    echo "$commands commands, $(wc -c <"$folder/script") bytes in, $(wc -c <"$folder/report") bytes out: $(((ended - begun) / 1000000)) ms, checked in $(((checked - ended) / 1000000)) ms"
 done
