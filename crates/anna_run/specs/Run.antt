@@ -96,7 +96,7 @@ abbrev pub verdict_status : Verdict → Status
 verdict_status verdicts.Legal = Done
 verdict_status verdict = Unlawful
 
--- what is written of the first place of a report that is not lawful
+-- the text that goes with it: of a report that is not legal, its first place that is not lawful
 abbrev pub verdict_text : Script → Verdict → List ℕ
 verdict_text script verdicts.Legal = legal_text
 verdict_text script (verdicts.Command session command) = codes "unlawful session " ++ (session_name script session ++ (codes " command " ++ (decimal command ++ 10 ∷ [])))
@@ -146,7 +146,7 @@ pub record IsFoundNoReport (bytes text : List ℕ) : Type 0 where
   pub first : IsFirstOutOfForm script (placed script.config) (drop (split_place bytes) bytes) line
   pub is_text : text ≡ report_refusal_text line
 
--- What is found of the bytes that were taken, by its status. Too many are refused, whatever they say.
+-- What is found of the bytes that were taken, by its status. Too many are refused at line 0, whatever they say.
 abbrev pub IsFound : List ℕ → Status → List ℕ → Type 0
 IsFound bytes Done text = IsFoundLegal bytes text
 IsFound bytes Unlawful text = IsFoundUnlawful bytes text

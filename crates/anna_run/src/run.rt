@@ -32,6 +32,9 @@ const SERVED_FORMS: Built = Built {
 /// The greatest length of an input that is checked, in bytes.
 const MOST_CHECKED: usize = 16_777_216;
 
+/// The code of an input that is too long.
+const TOO_LONG: u8 = 12;
+
 /// How a run ended.
 #[derive(Clone, Copy, Debug, PartialEq, Eq)]
 pub enum Status {
@@ -128,7 +131,7 @@ fn check_bytes(alloc: Global, bytes: &[u8]) -> Result<Outcome, NoMemory>
     ensures complete { (script : Script) (report : reports.Report) → AreChecked bytes.now script report → IfOk result (TellsOf script report) }
 {
     if bytes.len() > MOST_CHECKED {
-        return Ok(Outcome::Line(Status::Refused, refusal(alloc, 0, 12)?));
+        return Ok(Outcome::Line(Status::Refused, refusal(alloc, 0, TOO_LONG)?));
     }
     let (front, behind) = bytes.split_at(split_input(bytes));
     let script = match read_script(alloc, front) {
@@ -203,7 +206,7 @@ pub fn run<S: Source, K: Sink>(alloc: Global, words: &[String], src: &mut S, sin
         (record { left_before = S.left src.old; left_now = S.left src.new; faults_before = S.faults src.old; faults_now = S.faults src.new }))
         (Rose (K.faults sink.old) (K.faults sink.new)) (K.written sink.old) (K.written sink.new) result }
 
-    // No more than one byte more than a script may have is taken.
+    // No more than one byte more than the input may have is taken.
     ensures bounded { (bytes : List ℕ) × (length bytes ≤ most_taken (command_of (map string_bytes words.now))) × Took (S.left src.old) (S.left src.new) bytes }
 
     // A script is served, unless an end failed or memory ran out.
