@@ -58,6 +58,35 @@ const SHOP: Worked = (
     "anna report 1\nsession ann eventual\nput cart 1 at 1\nput cart 2 at 2\nput hits 1 at 3\nsession bob eventual\nput hits 1 at 1\nput hits 2 at 2\nget cart @1 clock ann:1 top 1 value {milk}\nsession cid committed\nbegin\nput profile held\nput stock held\ncommit 2 at 1\nsession dee committed\nbegin\nput stock held\nabort 1\nput sale 1 at 1\nsession eve causal\nput notes 1 at 1\nawait stock cid 1 @4 clock cid:1 top 1 value 40 needs -\nget cart @2 clock ann:2 top 2 value {bread,milk} needs -\nsession fay causal\nput notes 1 at 1\nget notes @1 clock eve:1,fay:1 top 1 value draft(eve:1)|final(fay:1) needs -\nfinal\ncart @1 clock ann:2 top 2 value {bread,milk}\ncart @2 clock ann:2 top 2 value {bread,milk}\ncart @4 clock ann:2 top 2 value {bread,milk}\nhits @1 clock ann:1,bob:2 top 3 value {about=1,home=5}\nhits @3 clock ann:1,bob:2 top 3 value {about=1,home=5}\nhits @4 clock ann:1,bob:2 top 3 value {about=1,home=5}\nprofile @1 clock cid:1 top 1 value blue/1/cid/0\nprofile @2 clock cid:1 top 1 value blue/1/cid/0\nprofile @4 clock cid:1 top 1 value blue/1/cid/0\nstock @1 clock cid:1 top 1 value 40\nstock @3 clock cid:1 top 1 value 40\nstock @4 clock cid:1 top 1 value 40\nsale @1 clock dee:1 top 1 value on\nsale @3 clock dee:1 top 1 value on\nsale @4 clock dee:1 top 1 value on\nnotes @1 clock eve:1,fay:1 top 1 value draft(eve:1)|final(fay:1)\nnotes @3 clock eve:1,fay:1 top 1 value draft(eve:1)|final(fay:1)\nnotes @4 clock eve:1,fay:1 top 1 value draft(eve:1)|final(fay:1)\nend\n",
 );
 
+/// Short ones: an empty cell, the greatest number, replies of the home, two transactions, a held put, and an
+/// await that gives up.
+const SHORT: [Worked; 6] = [
+    (
+        "anna 1\nworkers 1\nkey a max\nsession s eventual\nget a\nend\n",
+        "anna report 1\nsession s eventual\nget a @1 clock - top 0 value none\nfinal\na @1 clock - top 0 value none\nend\n",
+    ),
+    (
+        "anna 1\nworkers 1\nkey a max\nsession s eventual\nput a 18446744073709551615\nend\n",
+        "anna report 1\nsession s eventual\nput a 1 at 1\nfinal\na @1 clock s:1 top 1 value 18446744073709551615\nend\n",
+    ),
+    (
+        "anna 1\nworkers 2\nkey a set at 2 1\nsession s eventual\nput a x\nget a\nput a y\nget a\nend\n",
+        "anna report 1\nsession s eventual\nput a 1 at 1\nget a @2 clock s:1 top 1 value {x}\nput a 2 at 2\nget a @2 clock s:2 top 2 value {x,y}\nfinal\na @1 clock s:2 top 2 value {x,y}\na @2 clock s:2 top 2 value {x,y}\nend\n",
+    ),
+    (
+        "anna 1\nworkers 1\nkey a max\nkey l last\nsession s committed\nbegin\nput a 5\nput l red\nabort\nbegin\nput a 5\nput l red\ncommit\nget l\nend\n",
+        "anna report 1\nsession s committed\nbegin\nput a held\nput l held\nabort 2\nbegin\nput a held\nput l held\ncommit 2 at 1\nget l @1 clock s:1 top 1 value red/1/s/1\nfinal\na @1 clock s:1 top 1 value 5\nl @1 clock s:1 top 1 value red/1/s/1\nend\n",
+    ),
+    (
+        "anna 1\nworkers 1\nkey a max\nsession s committed\nbegin\nput a 5\nget a\ncommit\nget a\nend\n",
+        "anna report 1\nsession s committed\nbegin\nput a held\nget a @1 clock - top 0 value none\ncommit 1 at 1\nget a @1 clock s:1 top 1 value 5\nfinal\na @1 clock s:1 top 1 value 5\nend\n",
+    ),
+    (
+        "anna 1\nworkers 1\nkey a max\nsession s causal\nawait a t 3\nsession t eventual\nput a 5\nend\n",
+        "anna report 1\nsession s causal\nawait a t 3 gave up after 8 @1 clock t:1\nsession t eventual\nput a 1 at 1\nfinal\na @1 clock t:1 top 1 value 5\nend\n",
+    ),
+];
+
 /// Runs `check` on an input, and says how it ended and what was written.
 fn check_on(alloc: Global, input: Vec<u8>) -> Result<(Status, Vec<u8>), NoMemory> {
     let mut words = Vec::new(alloc);
@@ -86,6 +115,12 @@ fn input_of(alloc: Global, worked: Worked, spoilt: &[(u32, &str)]) -> Result<Vec
     Ok(input)
 }
 
+/// Whether the report is told to be legal.
+fn is_legal(alloc: Global, worked: Worked) -> Result<bool, NoMemory> {
+    let (status, text) = check_on(alloc, input_of(alloc, worked, &[])?)?;
+    Ok(status == Status::Done && text.as_slice() == b"legal\n".as_slice())
+}
+
 #[test]
 fn worked_reports_are_legal(rt: HostRuntime) -> Result<(), Fail> {
     let all = [
@@ -100,10 +135,10 @@ fn worked_reports_are_legal(rt: HostRuntime) -> Result<(), Fail> {
         SHOP,
     ];
     for worked in all {
-        let input = input_of(rt.alloc(), worked, &[])?;
-        let (status, text) = check_on(rt.alloc(), input)?;
-        assert_eq!(rt; status, Status::Done);
-        assert_eq!(rt; text.as_slice(), b"legal\n".as_slice());
+        assert!(rt; is_legal(rt.alloc(), worked)?);
+    }
+    for worked in SHORT {
+        assert!(rt; is_legal(rt.alloc(), worked)?);
     }
     Ok(())
 }
