@@ -23,7 +23,7 @@ use Rattle.session_known.specs.declared.script.Line.{Line}
 use Rattle.session_known.specs.declared.script.SessionPlan.{SessionPlan}
 use Rattle.script_reader.specs.Entries.{Shows}
 use Rattle.script_reader.specs.Faults.{Context, code_of, keys_of, level_of, last_level, commands_of, is_committed, is_declared, is_replica, kind_of_key, may_follow, may_have, suits, is_served, lacks_word, lacks_number, lacks_name, repeats, is_unknown, misfits, passes_limit, breaks_transaction}
-use Rattle.script_reader.specs.FaultsLaws.{code_limit, code_transaction, code_none}
+use Rattle.script_reader.proofs.FaultsLaws.{code_limit, code_transaction, code_none}
 use Rattle.script_reader.specs.Keywords.{is_factor, is_round}
 use Rattle.script_reader.specs.Reader.{seen, plans_of, begun_of, with_added, begun_behind, AreKept, IsKept, MayStand, IsFaultOf, HasRead, HasAdded, Reads, IsFound, MayBound, IsBoundFault}
 use Rattle.script_reader.specs.Said.{place_of, number_in, payload_for, line_said}

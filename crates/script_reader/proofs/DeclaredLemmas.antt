@@ -21,10 +21,10 @@ use Rattle.session_known.specs.declared.script.Line.{Line}
 use Rattle.session_known.specs.declared.script.SessionPlan.{SessionPlan}
 use Rattle.script_reader.specs.Entries.{AreKeyWords, AreSessionWords}
 use Rattle.script_reader.specs.Faults.{Context, level_of, sessions_of, may_follow, may_have, suits, is_served, is_declared, has_repeat, is_within, code_of}
-use Rattle.script_reader.specs.FaultsLaws.{code_number, code_name, code_twice, code_unknown, code_limit, code_transaction, code_none}
+use Rattle.script_reader.proofs.FaultsLaws.{code_number, code_name, code_twice, code_unknown, code_limit, code_transaction, code_none}
 use Rattle.script_reader.specs.Reader.{seen, plans_of, begun_of, AreKept, IsKept, MayStand, IsFaultOf, IsNameFault, HasRead, Reads, HasOpened}
 use Rattle.script_reader.specs.Said.{place_of, with_name, pins_said}
-use Rattle.script_reader.specs.ValidListsLaws.{within_is, are_workers, no_repeat, name_new}
+use Rattle.script_reader.proofs.ValidListsLaws.{within_is, are_workers, no_repeat, name_new}
 use Rattle.script_reader.specs.Words.{number_said, is_number, number_of, is_name, kind_said, level_said}
 use Rattle.script_reader.specs.declared.code.Code.{Code}
 use Rattle.script_reader.specs.declared.code.Code.TheVariants as codes_of

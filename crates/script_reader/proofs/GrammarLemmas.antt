@@ -10,15 +10,15 @@ use Rattle.std.proofs.lemmas.List.Sums.{fold-append}
 use Rattle.script_reader.specs.Codes.{number_of_code}
 use Rattle.script_reader.specs.Faults.{Setting, Context, context_of, code_of, code_said, code_behind, is_text_byte}
 use Rattle.script_reader.specs.Grammar.{AreInOrder, IsFirstFault, IsEndMissing, IsScriptOf}
-use Rattle.script_reader.specs.GrammarLaws.{two_cuts}
+use Rattle.script_reader.proofs.GrammarLaws.{two_cuts}
 use Rattle.script_reader.specs.Keywords.{is_end, is_session}
 use Rattle.script_reader.specs.LineReads.{HasReadLine, IsWhyNoLines, named_after, says_end, told}
 use Rattle.script_reader.specs.Lines.{Statement, those, word, statement_of, statements_of, is_end_line, has_end}
 use Rattle.script_reader.specs.Reader.{seen, IsKept, IsFaultOf, HasRead}
 use Rattle.script_reader.specs.Said.{named_in, with_name, script_said}
-use Rattle.script_reader.specs.SaidLaws.{those_keep, those_skip}
+use Rattle.script_reader.proofs.SaidLaws.{those_keep, those_skip}
 use Rattle.script_reader.specs.Steps.{after}
-use Rattle.script_reader.specs.StepsLaws.{context_after}
+use Rattle.script_reader.proofs.StepsLaws.{context_after}
 use Rattle.script_reader.specs.declared.code.Code.{Code}
 use Rattle.script_reader.specs.declared.code.Code.TheVariants as codes_of
 use Rattle.script_reader.specs.declared.keyword.Keyword.{Keyword}

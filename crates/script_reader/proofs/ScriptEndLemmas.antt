@@ -11,7 +11,7 @@ use Rattle.std.proofs.lemmas.List.Splits.{length-slice_split}
 use Rattle.std.proofs.lemmas.Slice.Eq.{bytes_eq-Decides}
 use Rattle.session_known.specs.declared.script.Script.{Script}
 use Rattle.script_reader.specs.Faults.{Setting, Context, context_of, code_of, code_said, code_behind}
-use Rattle.script_reader.specs.FaultsLaws.{word_fine}
+use Rattle.script_reader.proofs.FaultsLaws.{word_fine}
 use Rattle.script_reader.specs.Grammar.{AreInOrder, IsScript, setting_of}
 use Rattle.script_reader.specs.Keywords.{keyword_of, is_end}
 use Rattle.script_reader.specs.LineReads.{says_end}

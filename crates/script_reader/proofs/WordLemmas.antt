@@ -17,7 +17,7 @@ use Rattle.basic_lattices.specs.declared.word.WordFault.TheVariants as faults
 use Rattle.lattice_laws.specs.Spelling.{is_spelling_byte, IsSpelled, IsWhyMisspelled}
 use Rattle.lattice_laws.specs.declared.spelling.Misspelled.{Misspelled}
 use Rattle.lattice_laws.specs.declared.spelling.Misspelled.TheVariants.{Length, Byte}
-use Rattle.script_reader.specs.ValidListsLaws.{is_spelling}
+use Rattle.script_reader.proofs.ValidListsLaws.{is_spelling}
 use Rattle.script_reader.specs.Words.{is_spelled, is_numeral, number_said, word_said}
 
 -- a test that holds of just what meets the property

@@ -1,11 +1,7 @@
-pub mod BehindLaws
 pub mod Codes
 pub mod Entries
 pub mod Faults
-pub mod FaultsLaws
-pub mod FormsLaws
 pub mod Grammar
-pub mod GrammarLaws
 pub mod Keywords
 pub mod LineReads
 pub mod Lines
@@ -13,13 +9,6 @@ pub mod Memory
 pub mod Outside
 pub mod Reader
 pub mod Said
-pub mod SaidLaws
 pub mod Split
 pub mod Steps
-pub mod StepsLaws
-pub mod ValidContext
-pub mod ValidContextLaws
-pub mod ValidLaws
-pub mod ValidListsLaws
-pub mod ValidSessionsLaws
 pub mod Words

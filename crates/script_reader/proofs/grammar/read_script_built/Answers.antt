@@ -3,9 +3,9 @@ use Rattle.placement.specs.Config.{placed}
 use Rattle.session_known.specs.Script.{IsValidScript}
 use Rattle.session_known.specs.declared.script.Script.{Script}
 use Rattle.script_reader.specs.Grammar.{IsScript, IsRefused, IsWhyNoScript, IsReadAs, IsRefusedAs, HasForms}
-use Rattle.script_reader.specs.FormsLaws.{script_has_forms}
-use Rattle.script_reader.specs.GrammarLaws.{script_not_refused, one_script, one_refusal}
-use Rattle.script_reader.specs.ValidLaws.{script_is_valid}
+use Rattle.script_reader.proofs.FormsLaws.{script_has_forms}
+use Rattle.script_reader.proofs.GrammarLaws.{script_not_refused, one_script, one_refusal}
+use Rattle.script_reader.proofs.ValidLaws.{script_is_valid}
 use Rattle.script_reader.specs.declared.built.Built.{Built}
 use Rattle.script_reader.specs.declared.fault.ScriptFault.{ScriptFault}
 use Rattle.script_reader.specs.declared.fault.ScriptFault.TheVariants.{Refused, NoMemory}

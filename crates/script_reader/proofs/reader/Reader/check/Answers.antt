@@ -3,7 +3,7 @@ use Rattle.script_reader.proofs.CommandLemmas.{and_here, and_there, header_stand
 use Rattle.script_reader.proofs.reader.Reader.check.Goals as goal
 use Rattle.script_reader.proofs.reader.Reader.check.Goals.{else-not-self-via-then-not-self+else-not-is_header, else-not-self-via-else-not-self, then-not-suits-via-then-not-suits, then-not-suits-via-else-not-suits+then-not-is_served}
 use Rattle.script_reader.specs.Faults.{suits, lacks_word}
-use Rattle.script_reader.specs.FaultsLaws.{code_header, code_word}
+use Rattle.script_reader.proofs.FaultsLaws.{code_header, code_word}
 use Rattle.script_reader.specs.Reader.{seen}
 
 pub returns-then-not-is_header : goal.returns-then-not-is_header

@@ -3,7 +3,7 @@ use Rattle.session_known.specs.declared.script.Line.TheVariants as lines
 use Rattle.script_reader.proofs.CommandLemmas.{command_read, in_session, holds_not, fails_not, both_spelled, found_number}
 use Rattle.script_reader.proofs.reader.Reader.take_await.Goals.{then-not-is_spelling-via-then-not-is_spelling, then-not-is_spelling-via-else-not-is_spelling+then-not-is_spelling-2}
 use Rattle.script_reader.specs.Faults.{keys_of}
-use Rattle.script_reader.specs.FaultsLaws.{code_number, code_name, code_unknown, code_limit, code_none}
+use Rattle.script_reader.proofs.FaultsLaws.{code_number, code_name, code_unknown, code_limit, code_none}
 use Rattle.script_reader.specs.Reader.{seen}
 use Rattle.script_reader.specs.Said.{place_of, number_in, session_number}
 use Rattle.script_reader.specs.Words.{is_name, number_of}

@@ -1,6 +1,6 @@
 use Rattle.std.proofs.Common.{refl, sym}
 use Rattle.script_reader.proofs.CommandLemmas.{end_read}
-use Rattle.script_reader.specs.FaultsLaws.{code_transaction}
+use Rattle.script_reader.proofs.FaultsLaws.{code_transaction}
 use Rattle.script_reader.proofs.reader.Reader.take_end.Goals as goal
 
 pub returns-then-is_begun : goal.returns-then-is_begun

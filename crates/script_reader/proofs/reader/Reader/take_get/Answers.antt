@@ -1,7 +1,7 @@
 use Rattle.std.proofs.Common.{◌+◌, not, [], ◌∷◌, None, is_some, refl, sym, ap}
 use Rattle.session_known.specs.declared.script.Line.TheVariants as lines
 use Rattle.script_reader.proofs.CommandLemmas.{command_read, in_session, holds_not, fails_not, found_number}
-use Rattle.script_reader.specs.FaultsLaws.{code_name, code_unknown, code_limit, code_none}
+use Rattle.script_reader.proofs.FaultsLaws.{code_name, code_unknown, code_limit, code_none}
 use Rattle.script_reader.specs.Reader.{seen, IsFound}
 use Rattle.script_reader.specs.declared.keyword.Keyword.TheVariants.{Get}
 use Rattle.script_reader.proofs.reader.Reader.take_get.Goals as goal

@@ -2,7 +2,7 @@ use Rattle.std.proofs.Common.{◌≡◌, ◌+◌, ◌≤◌, ◌&&◌, not, [], 
 use Rattle.session_known.specs.declared.script.Line.TheVariants as lines
 use Rattle.script_reader.proofs.CommandLemmas.{command_read, IsInSession, in_session, holds_not, fails_not, found_number, unknown_worker, replica_few}
 use Rattle.script_reader.specs.Faults.{is_replica}
-use Rattle.script_reader.specs.FaultsLaws.{code_number, code_name, code_unknown, code_limit, code_none}
+use Rattle.script_reader.proofs.FaultsLaws.{code_number, code_name, code_unknown, code_limit, code_none}
 use Rattle.script_reader.specs.Reader.{seen, IsFound}
 use Rattle.script_reader.specs.Words.{number_of}
 use Rattle.script_reader.specs.declared.keyword.Keyword.TheVariants.{Get}

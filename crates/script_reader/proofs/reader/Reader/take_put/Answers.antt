@@ -4,7 +4,7 @@ use Rattle.script_reader.proofs.CommandLemmas.{command_read, in_session, holds_n
 use Rattle.composed_value.specs.declared.payload.Payload.TheVariants as payloads
 use Rattle.script_reader.specs.Faults.{keys_of}
 use Rattle.script_reader.specs.Said.{number_in}
-use Rattle.script_reader.specs.FaultsLaws.{code_number, code_name, code_unknown, code_kind, code_limit, code_none}
+use Rattle.script_reader.proofs.FaultsLaws.{code_number, code_name, code_unknown, code_kind, code_limit, code_none}
 use Rattle.script_reader.specs.Reader.{seen}
 use Rattle.script_reader.specs.declared.keyword.Keyword.TheVariants.{Put}
 use Rattle.script_reader.proofs.reader.Reader.take_put.Goals as goal

@@ -49,17 +49,9 @@ fine context keyword words none =
     let at_transaction = none_here _ _ _ at_limit.1 in
     record { header_is = at_header.0; word_is = at_word.0; number_is = at_number.0; name_is = at_name.0; twice_is = at_twice.0; unknown_is = at_unknown.0; kind_is = at_kind.0; limit_is = at_limit.0; transaction_is = at_transaction.0 }
 
--- a statement with no code has no fault of the code `header`
-pub header_fine : (context : Context) (keyword : Keyword) (words : List (List ℕ)) → code_of context keyword words ≡ None → lacks_header context keyword words ≡ false
-header_fine context keyword words none = (fine context keyword words none).header_is
-
 -- a statement with no code has no fault of the code `word`
 pub word_fine : (context : Context) (keyword : Keyword) (words : List (List ℕ)) → code_of context keyword words ≡ None → lacks_word context keyword words ≡ false
 word_fine context keyword words none = (fine context keyword words none).word_is
-
--- a statement with no code has no fault of the code `number`
-pub number_fine : (context : Context) (keyword : Keyword) (words : List (List ℕ)) → code_of context keyword words ≡ None → lacks_number context keyword words ≡ false
-number_fine context keyword words none = (fine context keyword words none).number_is
 
 -- a statement with no code has no fault of the code `name`
 pub name_fine : (context : Context) (keyword : Keyword) (words : List (List ℕ)) → code_of context keyword words ≡ None → lacks_name keyword words ≡ false
@@ -111,14 +103,6 @@ follow_fine context keyword words none = (held context keyword words none).follo
 -- it has the words that it may have
 pub words_fine : (context : Context) (keyword : Keyword) (words : List (List ℕ)) → code_of context keyword words ≡ None → may_have keyword words ≡ true
 words_fine context keyword words none = (held context keyword words none).has_words_is
-
--- it suits the level of its session
-pub suits_fine : (context : Context) (keyword : Keyword) (words : List (List ℕ)) → code_of context keyword words ≡ None → suits (level_of context) keyword words ≡ true
-suits_fine context keyword words none = (held context keyword words none).suited_is
-
--- its form is served
-pub served_fine : (context : Context) (keyword : Keyword) (words : List (List ℕ)) → code_of context keyword words ≡ None → is_served context.built keyword words ≡ true
-served_fine context keyword words none = (held context keyword words none).served_is
 
 -- the code of a statement where `header` is the first condition that holds
 pub code_header : (context : Context) (keyword : Keyword) (words : List (List ℕ)) → lacks_header context keyword words ≡ true → code_of context keyword words ≡ Some codes_of.Header

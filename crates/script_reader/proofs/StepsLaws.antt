@@ -6,11 +6,11 @@ use Rattle.std.proofs.lemmas.List.{map-append, nil_from_length, length-append}
 use Rattle.session_known.specs.declared.script.Script.{Script}
 use Rattle.session_known.specs.declared.script.SessionPlan.{SessionPlan}
 use Rattle.script_reader.specs.Faults.{Setting, Context, context_of, last_begins, keys_of, may_follow, may_have, repeats, code_of}
-use Rattle.script_reader.specs.FaultsLaws.{follow_fine, words_fine, twice_fine}
+use Rattle.script_reader.proofs.FaultsLaws.{follow_fine, words_fine, twice_fine}
 use Rattle.script_reader.specs.Keywords.{is_factor, is_round, is_key, is_session, is_boundary}
 use Rattle.script_reader.specs.Lines.{Statement, those, word}
 use Rattle.script_reader.specs.Said.{number_or, key_said, kind_in, line_said, own_commands, sessions_said, script_said}
-use Rattle.script_reader.specs.SaidLaws.{those_skip, those_keep, some_push, last_begins_push, number_first, workers_kept, key_names, sessions_kept, sessions_begun, sessions_line, no_session}
+use Rattle.script_reader.proofs.SaidLaws.{those_skip, those_keep, some_push, last_begins_push, number_first, workers_kept, key_names, sessions_kept, sessions_begun, sessions_line, no_session}
 use Rattle.script_reader.specs.Steps.{with_line, script_after, begun_after, after}
 use Rattle.script_reader.specs.declared.keyword.Keyword.{Keyword}
 use Rattle.script_reader.specs.declared.keyword.Keyword.TheVariants.{Anna, Workers, Factor, Round, Key, Session, Begin, Commit, Abort, End, Unknown}

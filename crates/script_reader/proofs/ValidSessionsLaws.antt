@@ -10,8 +10,8 @@ use Rattle.composed_value.specs.declared.kind.Kind.{Kind}
 use Rattle.script_reader.specs.Faults.{last_level}
 use Rattle.script_reader.specs.Steps.{with_line}
 use Rattle.placement.specs.Name.{IsName}
-use Rattle.script_reader.specs.ValidContext.{AreApart, AreLed, AreSessions, Leads, Stands}
-use Rattle.script_reader.specs.ValidListsLaws.{apart_push}
+use Rattle.script_reader.proofs.ValidContext.{AreApart, AreLed, AreSessions, Leads, Stands}
+use Rattle.script_reader.proofs.ValidListsLaws.{apart_push}
 use Rattle.session_known.specs.declared.script.Level.{Level}
 use Rattle.session_known.specs.declared.script.Line.{Line}
 use Rattle.session_known.specs.declared.script.Line.TheVariants.{Put, Get, Await, Begin, Commit, Abort}

@@ -11,13 +11,13 @@ use Rattle.placement.specs.Config.{ArePins, placed}
 use Rattle.placement.specs.Name.{IsName}
 use Rattle.placement.specs.declared.config.KeyPlace.{KeyPlace}
 use Rattle.script_reader.specs.Faults.{Setting, Context, context_of, keys_of, level_of, commands_of, is_declared, is_causal, is_committed, may_follow, may_have, suits, lacks_name, repeats, is_unknown, misfits, passes_limit, breaks_transaction, code_of}
-use Rattle.script_reader.specs.FaultsLaws.{word_fine, name_fine, twice_fine, unknown_fine, kind_fine, limit_fine, transaction_fine}
+use Rattle.script_reader.proofs.FaultsLaws.{word_fine, name_fine, twice_fine, unknown_fine, kind_fine, limit_fine, transaction_fine}
 use Rattle.script_reader.specs.Lines.{Statement}
 use Rattle.script_reader.specs.Said.{key_said, kind_in, pins_said, number_in, line_said}
 use Rattle.script_reader.specs.Steps.{after, new_session, with_line, with_factor}
-use Rattle.script_reader.specs.ValidContext.{AreApart, AreKeys, AreSessions, IsValidContext, Leads, Stands}
-use Rattle.script_reader.specs.ValidListsLaws.{within_is, are_workers, no_repeat, apart_push, number_within, session_within, name_new, payload_kind, payload_is, is_spelling, replica_contained}
-use Rattle.script_reader.specs.ValidSessionsLaws.{sessions_line, sessions_push, sessions_none}
+use Rattle.script_reader.proofs.ValidContext.{AreApart, AreKeys, AreSessions, IsValidContext, Leads, Stands}
+use Rattle.script_reader.proofs.ValidListsLaws.{within_is, are_workers, no_repeat, apart_push, number_within, session_within, name_new, payload_kind, payload_is, is_spelling, replica_contained}
+use Rattle.script_reader.proofs.ValidSessionsLaws.{sessions_line, sessions_push, sessions_none}
 use Rattle.script_reader.specs.Words.{number_of}
 use Rattle.script_reader.specs.declared.keyword.Keyword.{Keyword}
 use Rattle.script_reader.specs.declared.keyword.Keyword.TheVariants.{Anna, Workers, Factor, Round, Key, Session, Put, Get, Await, Begin, Commit, Abort, End, Unknown}

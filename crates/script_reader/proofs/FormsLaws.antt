@@ -4,14 +4,14 @@ use Rattle.std.specs.Option.{option_map_or}
 use Rattle.std.proofs.Common.{refl, sym, subst, arith}
 use Rattle.std.proofs.lemmas.Bool.{false≢true, both_ways, not-true, not-false, and_parts, leb-false}
 use Rattle.std.proofs.lemmas.List.Elements.{All-nil, All-cons, All-head, All-tail, All-push}
-use Rattle.script_reader.specs.BehindLaws.{holds_behind}
+use Rattle.script_reader.proofs.BehindLaws.{holds_behind}
 use Rattle.script_reader.specs.Faults.{Context, context_of, level_of, may_follow, may_have, suits, is_eventual, is_served, is_within, passes_limit, code_of}
-use Rattle.script_reader.specs.FaultsLaws.{word_fine, limit_fine}
+use Rattle.script_reader.proofs.FaultsLaws.{word_fine, limit_fine}
 use Rattle.script_reader.specs.Grammar.{IsScript, HasForms, setting_of}
 use Rattle.script_reader.specs.Lines.{script_lines}
 use Rattle.script_reader.specs.Steps.{after, new_session, with_line}
-use Rattle.script_reader.specs.ValidLaws.{script_is_valid}
-use Rattle.script_reader.specs.ValidListsLaws.{within_is}
+use Rattle.script_reader.proofs.ValidLaws.{script_is_valid}
+use Rattle.script_reader.proofs.ValidListsLaws.{within_is}
 use Rattle.script_reader.specs.Words.{number_of, level_said}
 use Rattle.script_reader.specs.declared.built.Built.{Built}
 use Rattle.script_reader.specs.declared.keyword.Keyword.{Keyword}

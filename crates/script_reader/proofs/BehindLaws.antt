@@ -7,12 +7,12 @@ use Rattle.std.proofs.lemmas.List.{append-nil}
 use Rattle.std.proofs.lemmas.List.Elements.{filter_map-append}
 use Rattle.std.proofs.lemmas.List.Folds.{list_any-append}
 use Rattle.script_reader.specs.Faults.{Setting, Context, context_of, code_of, code_said, is_text_byte}
-use Rattle.script_reader.specs.FaultsLaws.{none_here}
+use Rattle.script_reader.proofs.FaultsLaws.{none_here}
 use Rattle.script_reader.specs.Grammar.{AreInOrder}
 use Rattle.script_reader.specs.Keywords.{is_end}
 use Rattle.script_reader.specs.Lines.{Statement, statement_of, statements_of, is_end_line}
 use Rattle.script_reader.specs.Steps.{after}
-use Rattle.script_reader.specs.StepsLaws.{context_after}
+use Rattle.script_reader.proofs.StepsLaws.{context_after}
 use Rattle.script_reader.specs.declared.code.Code.TheVariants as codes_of
 use Rattle.script_reader.specs.declared.keyword.Keyword.{Keyword}
 

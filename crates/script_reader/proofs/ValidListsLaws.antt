@@ -25,7 +25,7 @@ use Rattle.placement.specs.Config.{AreDifferent, IsWorker}
 use Rattle.placement.specs.Name.{IsName}
 use Rattle.script_reader.specs.Faults.{has_repeat, is_within}
 use Rattle.script_reader.specs.Said.{place_of, number_in, session_number, payload_for}
-use Rattle.script_reader.specs.ValidContext.{AreApart}
+use Rattle.script_reader.proofs.ValidContext.{AreApart}
 use Rattle.script_reader.specs.Words.{is_spelled, is_value_word, is_numeral, number_said, word_said, payload_said}
 use Rattle.session_known.specs.Script.{IsOneOf, kind_at, replicas_of}
 

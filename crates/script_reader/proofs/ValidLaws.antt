@@ -11,15 +11,15 @@ use Rattle.placement.specs.Config.{placed}
 use Rattle.placement.specs.ConfigLaws.{is_placement}
 use Rattle.placement.specs.Name.{IsName}
 use Rattle.placement.specs.declared.config.KeyPlace.{KeyPlace}
-use Rattle.script_reader.specs.BehindLaws.{holds_behind}
+use Rattle.script_reader.proofs.BehindLaws.{holds_behind}
 use Rattle.script_reader.specs.Faults.{Setting, Context, context_of, code_of}
 use Rattle.script_reader.specs.Grammar.{IsScript, IsScriptOf, setting_of}
 use Rattle.script_reader.specs.Keywords.{is_end, is_session}
 use Rattle.script_reader.specs.Lines.{Statement, script_lines, statements_of, those, word, is_end_line}
 use Rattle.script_reader.specs.Said.{named_in, sessions_said, with_name}
 use Rattle.script_reader.specs.Steps.{after}
-use Rattle.script_reader.specs.ValidContext.{AreApart, AreLed, IsValidContext, Leads, Stands}
-use Rattle.script_reader.specs.ValidContextLaws.{start, step, ended}
+use Rattle.script_reader.proofs.ValidContext.{AreApart, AreLed, IsValidContext, Leads, Stands}
+use Rattle.script_reader.proofs.ValidContextLaws.{start, step, ended}
 use Rattle.script_reader.specs.declared.built.Built.{Built}
 use Rattle.script_reader.specs.declared.keyword.Keyword.{Keyword}
 use Rattle.script_reader.specs.declared.keyword.Keyword.TheVariants.{End}
