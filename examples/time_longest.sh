@@ -1,8 +1,10 @@
 #!/usr/bin/env bash
-# Makes the longest script that the program takes, 1,048,576 bytes with 4,096 commands, and scripts with a half and
-# a quarter of its commands, runs and checks each, and prints how long each run and each check took.
+# Times the program on long scripts, and prints how long each run took: the longest script that it takes, 1,048,576
+# bytes with 4,096 commands, and scripts with a half and a quarter of its commands, whose reports are checked too; 2,048
+# puts of words of 60 bytes into one set with a get after each, and the same into one map (130 MB of report each); and
+# 4,096 puts by 16 sessions to one key.
 set -u
-top=$(cd "$(dirname "$0")/.." && pwd) || exit 1
+top=$(cd "$(dirname "$(readlink -f "$0")")/.." && pwd) || exit 1
 folder=$(mktemp -d) || exit 1
 trap 'rm -rf "$folder"' EXIT
 
@@ -47,13 +49,56 @@ make_script() {
     }'
 }
 
-"$top/anna" run <"$top/examples/first.anna" >/dev/null || exit 1 # builds it where that is due
-for commands in 1024 2048 4096; do
-    make_script "$commands" $((commands * 256)) >"$folder/script"
+# 2,048 puts of different words of 60 bytes to one key of this kind, with a get after each; a map's field has a number.
+make_words() {
+    awk -v kind="$1" 'BEGIN {
+        printf "anna 1\nworkers 1\nkey k %s\nsession s eventual\n", kind
+        for (c = 0; c < 2048; c++)
+            printf "put k w%059d%s\nget k\n", c, kind == "map" ? " 7" : ""
+        print "end"
+    }'
+}
+
+# 4,096 puts to one key, by 16 sessions.
+make_puts() {
+    awk 'BEGIN {
+        print "anna 1\nworkers 1\nkey k max"
+        for (s = 0; s < 16; s++) {
+            print "session s" s " eventual"
+            for (c = 0; c < 256; c++)
+                print "put k " s * 256 + c
+        }
+        print "end"
+    }'
+}
+
+# Runs the script, and says how long that took.
+time_run() {
+    local begun ended
     begun=$(date +%s%N)
     "$top/anna" run <"$folder/script" >"$folder/report" || exit 1
     ended=$(date +%s%N)
+    echo "$1, $(wc -c <"$folder/script") bytes in, $(wc -c <"$folder/report") bytes out: $(((ended - begun) / 1000000)) ms"
+}
+
+# Checks the report of the script, and says how long that took.
+time_check() {
+    local begun ended
+    begun=$(date +%s%N)
     cat "$folder/script" "$folder/report" | "$top/anna" check >/dev/null || exit 1
-    checked=$(date +%s%N)
-    echo "$commands commands, $(wc -c <"$folder/script") bytes in, $(wc -c <"$folder/report") bytes out: $(((ended - begun) / 1000000)) ms, checked in $(((checked - ended) / 1000000)) ms"
+    ended=$(date +%s%N)
+    echo "$1, checked: $(((ended - begun) / 1000000)) ms"
+}
+
+"$top/anna" run <"$top/examples/first.anna" >/dev/null || exit 1 # builds it where that is due
+for commands in 1024 2048 4096; do
+    make_script "$commands" $((commands * 256)) >"$folder/script"
+    time_run "$commands commands"
+    time_check "$commands commands"
 done
+for kind in set map; do
+    make_words "$kind" >"$folder/script"
+    time_run "2048 puts of words into one $kind with a get after each"
+done
+make_puts >"$folder/script"
+time_run "4096 puts by 16 sessions to one key"
