@@ -26,8 +26,8 @@ use Rattle.session_known.specs.declared.script.Line.{Line}
 use Rattle.session_known.specs.declared.script.Line.TheVariants as lines
 use Rattle.session_known.specs.declared.script.Script.{Script}
 use Rattle.session_known.specs.declared.script.SessionPlan.{SessionPlan}
-use Rattle.worker_core.specs.OneMap.{cell_for, cells_with}
-use Rattle.anna_run.specs.OnePutsLaws.{puts_on-append}
+use Rattle.anna_run.specs.OneMap.{cell_for, cells_with}
+use Rattle.anna_run.proofs.OnePutsLaws.{puts_on-append}
 use Rattle.anna_run.specs.OneWorker.{cell_at, shown_plainly, answer_of, session_answers, run_answers, final_at, report_of}
 use Rattle.anna_run.specs.Serving.{kinds_of, CanServe, outside, answer_from, cells_merged, cells_then, knows_then, lines_answered, cells_behind, sessions_answered, cells_at_end, final_of}
 

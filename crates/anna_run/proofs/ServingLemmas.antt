@@ -25,7 +25,7 @@ use Rattle.session_known.specs.declared.script.Level.TheVariants.{Eventual}
 use Rattle.session_known.specs.declared.script.Line.{Line}
 use Rattle.session_known.specs.declared.script.Line.TheVariants as lines
 use Rattle.session_known.specs.declared.script.SessionPlan.{SessionPlan}
-use Rattle.worker_core.specs.OneMap.{cell_for, cells_with}
+use Rattle.anna_run.specs.OneMap.{cell_for, cells_with}
 use Rattle.anna_run.specs.Serving.{CanServe, HasAnswered, IsKept, kinds_of, cells_then, knows_then, lines_answered, cells_behind, sessions_answered, cells_at_end}
 
 -- the join of two values of one kind is of that kind
@@ -106,80 +106,8 @@ pub record IsServing (client : Client) (at_first : List PlainCell) (plan_lines :
   pub answers_are : lines_answered client at_first nothing_known plan_lines ≡ given ++ lines_answered client cells known.knows (drop i plan_lines)
   pub cells_are : cells_behind client at_first nothing_known plan_lines ≡ cells_behind client cells known.knows (drop i plan_lines)
 
--- before the first line
-pub serving_none : (client : Client) (cells : List PlainCell) (plan_lines : List Line) (known : Knows) → known.client ≡ client → known.knows ≡ nothing_known → IsServing client cells plan_lines 0 cells known []
-serving_none client cells plan_lines known client_is knows_is = record {
-  client_is = client_is;
-  kept = subst IsKept (sym knows_is) (λ key. omega arith);
-  kinds_are = refl;
-  answers_are = ap (λ knows. lines_answered client cells knows plan_lines) (sym knows_is);
-  cells_are = ap (λ knows. cells_behind client cells knows plan_lines) (sym knows_is);
-}
-
--- one line more
-pub serving_more : (client : Client) (at_first : List PlainCell) (plan_lines : List Line) (i : ℕ) (cells : List PlainCell) (known : Knows) (given : List Answer) (d : Line) (answer : Answer) (cells_now : List PlainCell) (known_now : Knows)
-    → IsServing client at_first plan_lines i cells known given → i < length plan_lines → HasAnswered cells known (get_or plan_lines i d) answer cells_now known_now
-    → IsServing client at_first plan_lines (i + 1) cells_now known_now (given ++ answer ∷ [])
-serving_more client at_first plan_lines i cells known given d answer cells_now known_now serving below answered =
-    let line = get_or plan_lines i d in
-    let rest = drop (i + 1) plan_lines in
-    let cells_is : cells_then client cells known.knows line answer ≡ cells_now = ap (λ c. cells_then c cells known.knows line answer) (sym serving.client_is) ∙ sym answered.cells_are in
-    let knows_is : knows_then client known.knows line answer ≡ known_now.knows = ap (λ c. knows_then c known.knows line answer) (sym serving.client_is) ∙ sym answered.knows_is in
-    let answers_then : Answer → List Answer = λ a. a ∷ lines_answered client (cells_then client cells known.knows line a) (knows_then client known.knows line a) rest in
-    let cells_after : Answer → List PlainCell = λ a. cells_behind client (cells_then client cells known.knows line a) (knows_then client known.knows line a) rest in
-    record {
-      client_is = answered.client_is ∙ serving.client_is;
-      kept = answered.kept;
-      kinds_are = answered.kinds_are ∙ serving.kinds_are;
-      answers_are =
-          serving.answers_are
-          ∙ ap (λ more. given ++ more) (at_drop_more (lines_answered client cells known.knows) plan_lines i d below ∙ ap answers_then (sym answered.answer_is) ∙ (λ i. answer ∷ lines_answered client (cells_is i) (knows_is i) rest))
-          ∙ sym (append_assoc given (answer ∷ []) (lines_answered client cells_now known_now.knows rest));
-      cells_are =
-          serving.cells_are
-          ∙ at_drop_more (cells_behind client cells known.knows) plan_lines i d below ∙ ap cells_after (sym answered.answer_is) ∙ (λ i. cells_behind client (cells_is i) (knows_is i) rest);
-    }
-
--- all lines
-pub served_answers : (client : Client) (at_first : List PlainCell) (plan_lines : List Line) (i : ℕ) (cells : List PlainCell) (known : Knows) (given : List Answer) → IsServing client at_first plan_lines i cells known given → length plan_lines ≤ i → given ≡ lines_answered client at_first nothing_known plan_lines
-served_answers client at_first plan_lines i cells known given serving all =
-    sym (serving.answers_are ∙ ap (λ more. given ++ more) (at_drop_all (lines_answered client cells known.knows) plan_lines i all) ∙ append-nil given)
-
-pub served_cells : (client : Client) (at_first : List PlainCell) (plan_lines : List Line) (i : ℕ) (cells : List PlainCell) (known : Knows) (given : List Answer) → IsServing client at_first plan_lines i cells known given → length plan_lines ≤ i → cells ≡ cells_behind client at_first nothing_known plan_lines
-served_cells client at_first plan_lines i cells known given serving all =
-    sym (serving.cells_are ∙ at_drop_all (cells_behind client cells known.knows) plan_lines i all)
-
 -- The first sessions are served.
 pub record AreServing (at_first : List PlainCell) (plans : List SessionPlan) (i : ℕ) (cells : List PlainCell) (given : List (List Answer)) : Type 0 where
   pub kinds_are : kinds_of cells ≡ kinds_of at_first
   pub answers_are : sessions_answered 1 at_first plans ≡ given ++ sessions_answered (i + 1) cells (drop i plans)
   pub cells_are : cells_at_end 1 at_first plans ≡ cells_at_end (i + 1) cells (drop i plans)
-
--- one session more
-pub sessions_more : (at_first : List PlainCell) (plans : List SessionPlan) (i : ℕ) (cells : List PlainCell) (given : List (List Answer)) (d : SessionPlan) (answers : List Answer) (cells_now : List PlainCell)
-    → AreServing at_first plans i cells given → i < length plans → (get_or plans i d).level ≡ Eventual
-    → answers ≡ lines_answered (record { session = i + 1; level = Eventual }) cells nothing_known (get_or plans i d).lines
-    → cells_now ≡ cells_behind (record { session = i + 1; level = Eventual }) cells nothing_known (get_or plans i d).lines
-    → kinds_of cells_now ≡ kinds_of cells
-    → AreServing at_first plans (i + 1) cells_now (given ++ answers ∷ [])
-sessions_more at_first plans i cells given d answers cells_now serving below eventual answers_is cells_is kinds_is =
-    let plan = get_or plans i d in
-    let rest = drop (i + 1) plans in
-    let answers_of : lines_answered (client_of (i + 1) plan) cells nothing_known plan.lines ≡ answers = ap (λ level. lines_answered (record { session = i + 1; level = level }) cells nothing_known plan.lines) eventual ∙ sym answers_is in
-    let cells_of : cells_behind (client_of (i + 1) plan) cells nothing_known plan.lines ≡ cells_now = ap (λ level. cells_behind (record { session = i + 1; level = level }) cells nothing_known plan.lines) eventual ∙ sym cells_is in
-    record {
-      kinds_are = kinds_is ∙ serving.kinds_are;
-      answers_are =
-          serving.answers_are
-          ∙ ap (λ more. given ++ more) (at_drop_more (sessions_answered (i + 1) cells) plans i d below ∙ (λ k. answers_of k ∷ sessions_answered (i + 1 + 1) (cells_of k) rest))
-          ∙ sym (append_assoc given (answers ∷ []) (sessions_answered (i + 1 + 1) cells_now rest));
-      cells_are = serving.cells_are ∙ at_drop_more (cells_at_end (i + 1) cells) plans i d below ∙ ap (λ now. cells_at_end (i + 1 + 1) now rest) cells_of;
-    }
-
--- all sessions
-pub sessions_served : (at_first : List PlainCell) (plans : List SessionPlan) (i : ℕ) (cells : List PlainCell) (given : List (List Answer)) → AreServing at_first plans i cells given → length plans ≤ i → given ≡ sessions_answered 1 at_first plans
-sessions_served at_first plans i cells given serving all =
-    sym (serving.answers_are ∙ ap (λ more. given ++ more) (at_drop_all (sessions_answered (i + 1) cells) plans i all) ∙ append-nil given)
-
-pub sessions_left : (at_first : List PlainCell) (plans : List SessionPlan) (i : ℕ) (cells : List PlainCell) (given : List (List Answer)) → AreServing at_first plans i cells given → length plans ≤ i → cells ≡ cells_at_end 1 at_first plans
-sessions_left at_first plans i cells given serving all = sym (serving.cells_are ∙ at_drop_all (cells_at_end (i + 1) cells) plans i all)

@@ -1,13 +1,5 @@
-pub mod OneCellFormLaws
-pub mod OneCellLaws
-pub mod OneKnownLaws
-pub mod OneLinesLaws
-pub mod OnePlaceLaws
-pub mod OnePutsLaws
-pub mod OneRunLaws
-pub mod OneSessionLaws
+pub mod OneMap
 pub mod OneWorker
-pub mod OneWorkerLaws
 pub mod Outcomes
 pub mod Run
 pub mod Serving

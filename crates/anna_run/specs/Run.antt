@@ -1,7 +1,8 @@
 -- What the program owes, by its status.
-use Rattle.std.specs.Prelude.{◌≡◌, ℕ, ◌+◌, ◌<◌, ◌≤◌, ◌⊎◌, false, List, [], ◌∷◌, ◌++◌, take, drop, length, Option, Some, None, codes}
+use Rattle.std.specs.Prelude.{◌≡◌, ℕ, ◌+◌, ◌<◌, ◌≤◌, ◌⊎◌, false, List, [], ◌∷◌, ◌++◌, take, drop, length, Option, Some, None, Result, Ok, Err, Vec, String, codes}
+use Rattle.std.specs.Global.{Global}
 use Rattle.std.specs.Fmt.{decimal}
-use Rattle.script_reader.specs.Outside.{Rose, NoneLeft, TookMost}
+use Rattle.script_reader.specs.Outside.{Rose, NoneLeft, Took, TookMost, Grew, Ends}
 use Rattle.placement.specs.Config.{placed}
 use Rattle.script_reader.specs.Grammar.{most_bytes, all_built, IsScript, IsRefused}
 use Rattle.script_reader.specs.Split.{split_place}
@@ -15,8 +16,11 @@ use Rattle.report_text.specs.Text.{text_of, session_name, key_name}
 use Rattle.anna_check.specs.Unlawful.{IsVerdict}
 use Rattle.anna_check.specs.declared.judge.Verdict.{Verdict}
 use Rattle.anna_check.specs.declared.judge.Verdict.TheVariants as verdicts
+use Rattle.anna_run.specs.Words.{command_in}
 use Rattle.anna_run.specs.declared.words.Command.{Command}
 use Rattle.anna_run.specs.declared.words.Command.TheVariants.{Run, Check}
+use Rattle.anna_run.specs.declared.words.WordsFault.{WordsFault}
+use Rattle.anna_run.specs.declared.words.WordsFault.TheVariants as faults
 use Rattle.anna_run.specs.declared.run.Status.{Status}
 use Rattle.anna_run.specs.declared.run.Status.TheVariants.{Done, Usage, Refused, Unlawful, ReadFault, WriteFault, NoMemory}
 
@@ -26,6 +30,28 @@ pub record SourceUse : Type 0 where
   pub left_now : Option (List ℕ)
   pub faults_before : ℕ
   pub faults_now : ℕ
+
+abbrev pub use_of : {Source : Type 0} → (Source → Option (List ℕ)) → (Source → ℕ) → Source → Source → SourceUse
+use_of left faults old new = record { left_before = left old; left_now = left new; faults_before = faults old; faults_now = faults new }
+
+-- no byte was taken, and no fault counted
+pub record IsUntouched (source : SourceUse) : Type 0 where
+  pub left : source.left_now ≡ source.left_before
+  pub faults : source.faults_now ≡ source.faults_before
+
+-- a sink before and after a call: the bytes written, where it tells them, and its count of faults
+pub record SinkUse : Type 0 where
+  pub written_before : Option (List ℕ)
+  pub written_now : Option (List ℕ)
+  pub faults_before : ℕ
+  pub faults_now : ℕ
+
+abbrev pub sink_use_of : {Sink : Type 0} → (Sink → Option (List ℕ)) → (Sink → ℕ) → Sink → Sink → SinkUse
+sink_use_of written faults old new = record { written_before = written old; written_now = written new; faults_before = faults old; faults_now = faults new }
+
+-- neither end failed in the call
+abbrev pub IsFaultless : SourceUse → SinkUse → Type 0
+IsFaultless source sink = (Rose source.faults_before source.faults_now → ⊥) × (Rose sink.faults_before sink.faults_now → ⊥)
 
 -- the exit number of a status
 abbrev pub exit_number : Status → ℕ
@@ -41,10 +67,16 @@ exit_number Unlawful = 7
 abbrev pub most_checked : ℕ
 most_checked = 16777216
 
--- the most bytes that are taken: one more than the input may have, which tells that it is too long
+-- the most bytes that are taken: one more than the input may have, which tells that it is too long; none where the words are of no
+-- accepted form
 abbrev pub most_taken : Option Command → ℕ
+most_taken (Some Run) = most_bytes + 1
 most_taken (Some Check) = most_checked + 1
-most_taken command = most_bytes + 1
+most_taken None = 0
+
+-- no more than that was taken
+abbrev pub IsBounded : Option Command → SourceUse → Type 0
+IsBounded command source = (bytes : List ℕ) × (length bytes ≤ most_taken command) × Took source.left_before source.left_now bytes
 
 abbrev pub usage_text : List ℕ
 usage_text = codes "usage: anna COMMAND" ++ 10 ∷ []
@@ -159,15 +191,58 @@ pub record IsChecked (source : SourceUse) (status : Status) (text : List ℕ) : 
   pub taken : TookMost (most_taken (Some Check)) source.left_before source.left_now bytes
   pub found : IsFound bytes status text
 
--- Which text goes with which status, where these words were given and the source was used so. Of WriteFault see `Ends`.
+-- Which text goes with which status, where these words were given and the source was used so.
 abbrev pub Owed : Option Command → SourceUse → Status → List ℕ → Type 0
-Owed command source NoMemory text = text ≡ []
-Owed command source WriteFault text = ⊥
 Owed (Some Run) source Done text = IsServed source text
 Owed (Some Run) source Refused text = IsRefusal source text
 Owed (Some Check) source Done text = IsChecked source Done text
 Owed (Some Check) source Unlawful text = IsChecked source Unlawful text
 Owed (Some Check) source Refused text = IsChecked source Refused text
 Owed (Some command) source ReadFault text = Rose source.faults_before source.faults_now × (text ≡ read_fault_text)
-Owed None source Usage text = (source.left_now ≡ source.left_before) × (source.faults_now ≡ source.faults_before) × (text ≡ usage_text)
+Owed None source Usage text = IsUntouched source × (text ≡ usage_text)
 Owed command source status text = ⊥
+
+-- How a run ends: memory ran out, and nothing was written; or a text that is owed was written, and the run ends with the status that
+-- goes with it, or a front of it was, and the run ends as the sink failed.
+abbrev pub IsEnd : Option Command → SourceUse → SinkUse → Status → Type 0
+IsEnd command source sink status =
+    ((status ≡ NoMemory) × Grew sink.written_before sink.written_now [])
+    ⊎ Ends WriteFault (Owed command source) (Rose sink.faults_before sink.faults_now) sink.written_before sink.written_now status
+
+-- Where a script that is served was asked to be run, and neither end failed, it was, unless memory ran out.
+abbrev pub IsComplete : Option Command → SourceUse → SinkUse → Status → Type 0
+IsComplete command source sink status =
+    (input : List ℕ) (script : Script) → command ≡ Some Run → source.left_before ≡ Some input → IsScript served_forms input script
+    → IsFaultless source sink → (status ≡ Done) ⊎ (status ≡ NoMemory)
+
+-- Where a report after its script was asked to be judged, and neither end failed, the status says whether the report is legal, unless
+-- memory ran out.
+abbrev pub IsJudged : Option Command → SourceUse → SinkUse → Status → Type 0
+IsJudged command source sink status =
+    (input : List ℕ) (script : Script) (report : Report) → command ≡ Some Check → source.left_before ≡ Some input → AreChecked input script report
+    → IsFaultless source sink
+    → ((status ≡ Done) × IsLegal script report) ⊎ ((status ≡ Unlawful) × (IsLegal script report → ⊥)) ⊎ (status ≡ NoMemory)
+
+-- neither count of faults fell
+pub record KeepsCounts (source : SourceUse) (sink : SinkUse) : Type 0 where
+  pub source_count : source.faults_before ≤ source.faults_now
+  pub sink_count : sink.faults_before ≤ sink.faults_now
+
+-- All that a run owes to whoever gave these words, by the ends that it used and the status that it ended with.
+pub record IsRun (command : Option Command) (source : SourceUse) (sink : SinkUse) (status : Status) : Type 0 where
+  pub ends : IsEnd command source sink status
+  pub bounded : IsBounded command source
+  pub untouched : command ≡ None → IsUntouched source
+  pub complete : IsComplete command source sink status
+  pub judges : IsJudged command source sink status
+  pub counts : KeepsCounts source sink
+
+-- the words that the program was given: some, or none that can be read
+abbrev pub IsRunOf : Result (Vec (String Global) Global) WordsFault → SourceUse → SinkUse → Status → Type 0
+IsRunOf (Ok words) source sink status = IsRun (command_in words.items) source sink status
+IsRunOf (Err faults.NotText) source sink status = IsRun None source sink status
+IsRunOf (Err faults.NoMemory) source sink status = (status ≡ NoMemory) × IsUntouched source × (sink.written_now ≡ sink.written_before)
+
+-- The program ends with the number of a status with which such a run ends.
+abbrev pub IsExitOf : Result (Vec (String Global) Global) WordsFault → SourceUse → SinkUse → ℕ → Type 0
+IsExitOf words source sink number = (status : Status) × (number ≡ exit_number status) × IsRunOf words source sink status

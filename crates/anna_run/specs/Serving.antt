@@ -16,7 +16,7 @@ use Rattle.session_known.specs.declared.report.FinalCell.{FinalCell}
 use Rattle.session_known.specs.declared.script.Line.{Line}
 use Rattle.session_known.specs.declared.script.Line.TheVariants as lines
 use Rattle.session_known.specs.declared.script.SessionPlan.{SessionPlan}
-use Rattle.worker_core.specs.OneMap.{cells_with}
+use Rattle.anna_run.specs.OneMap.{cells_with}
 use Rattle.anna_run.specs.OneWorker.{shown_plainly, final_from}
 
 -- the cell of a key

@@ -1,20 +1,19 @@
 //! The call that does all that the program does.
-ghost use Rattle.std.specs.Prelude.{◌≡◌, ◌≤◌, ◌⊎◌, ℕ, List, ◌∷◌, [], ◌++◌, Some, Ok, length, map, string_bytes, OnOk, IfOk};
-ghost use Rattle.script_reader.specs.Outside.{Rose, Took, Ends};
+ghost use Rattle.std.specs.Prelude.{◌≡◌, ◌≤◌, ℕ, List, Some, None, IfOk};
+ghost use Rattle.script_reader.specs.Outside.{Rose};
 ghost use Rattle.script_reader.specs.Grammar.{IsScript};
 ghost use Rattle.placement.specs.Config.{placed};
 ghost use Rattle.session_known.specs.Form.{HasForm};
-ghost use Rattle.session_known.specs.Legal.{IsLegal};
 ghost use Rattle.session_known.specs.Script.{IsValidScript};
 ghost use Rattle.session_known.specs.declared.script.Script.{Script};
 ghost use Rattle.session_known.specs.declared.report.Report as reports;
 ghost use Rattle.anna_run.specs.Outcomes.{IsOwed, IsOwedOf, IsReport, TellsOf, TellsVerdict};
-ghost use Rattle.anna_run.specs.Words.{command_of};
-ghost use Rattle.anna_run.specs.Run.{most_taken, served_forms, exit_number, verdict_status, AreChecked, Owed};
+ghost use Rattle.anna_run.specs.Words.{command_in};
+ghost use Rattle.anna_run.specs.Run.{use_of, sink_use_of, served_forms, exit_number, verdict_status, AreChecked, IsUntouched, IsBounded, IsEnd, IsComplete, IsJudged, KeepsCounts, IsRunOf, IsExitOf};
 
 use crate::serve::serve;
 use crate::texts::{line, refusal, report_refusal, verdict_line};
-use crate::words::{Command, read_words};
+use crate::words::{Command, WordsFault, read_words};
 use anna_check::{Verdict, check};
 use lattice_laws::NoMemory;
 use report_text::{ReportFault, read_report, write_report};
@@ -82,9 +81,9 @@ enum Outcome {
 
 /// Reads a script and serves it.
 fn run_script<S: Source>(alloc: Global, src: &mut S) -> Result<Outcome, NoMemory>
-    ensures owed { IfOk result (IsOwed (Some Command.Run)
-        (record { left_before = S.left src.old; left_now = S.left src.new; faults_before = S.faults src.old; faults_now = S.faults src.new })) }
-    ensures bounded { (bytes : List ℕ) × (length bytes ≤ most_taken (Some Command.Run)) × Took (S.left src.old) (S.left src.new) bytes }
+    ensures owed { IfOk result (IsOwed (Some Command.Run) (use_of S.left S.faults src.old src.new)) }
+    ensures bounded { IsBounded (Some Command.Run) (use_of S.left S.faults src.old src.new) }
+    ensures count { S.faults src.old ≤ S.faults src.new }
     ensures complete { (input : List ℕ) (script : Script) → S.left src.old ≡ Some input → IsScript served_forms input script
         → (Rose (S.faults src.old) (S.faults src.new) → ⊥) → IfOk result IsReport }
 {
@@ -109,9 +108,9 @@ fn run_script<S: Source>(alloc: Global, src: &mut S) -> Result<Outcome, NoMemory
 
 /// Reads a script and the report behind it, and judges the report.
 fn check_input<S: Source>(alloc: Global, src: &mut S) -> Result<Outcome, NoMemory>
-    ensures owed { IfOk result (IsOwed (Some Command.Check)
-        (record { left_before = S.left src.old; left_now = S.left src.new; faults_before = S.faults src.old; faults_now = S.faults src.new })) }
-    ensures bounded { (bytes : List ℕ) × (length bytes ≤ most_taken (Some Command.Check)) × Took (S.left src.old) (S.left src.new) bytes }
+    ensures owed { IfOk result (IsOwed (Some Command.Check) (use_of S.left S.faults src.old src.new)) }
+    ensures bounded { IsBounded (Some Command.Check) (use_of S.left S.faults src.old src.new) }
+    ensures count { S.faults src.old ≤ S.faults src.new }
     ensures complete { (input : List ℕ) (script : Script) (report : reports.Report) → S.left src.old ≡ Some input → AreChecked input script report
         → (Rose (S.faults src.old) (S.faults src.new) → ⊥) → IfOk result (TellsOf script report) }
 {
@@ -174,13 +173,14 @@ fn status_of(verdict: Verdict) -> Status
 
 /// What is owed to these words and this source.
 fn outcome_of<S: Source>(alloc: Global, words: &[String], src: &mut S) -> Result<Outcome, NoMemory>
-    ensures owed { IfOk result (IsOwed (command_of (map string_bytes words.now))
-        (record { left_before = S.left src.old; left_now = S.left src.new; faults_before = S.faults src.old; faults_now = S.faults src.new })) }
-    ensures bounded { (bytes : List ℕ) × (length bytes ≤ most_taken (command_of (map string_bytes words.now))) × Took (S.left src.old) (S.left src.new) bytes }
-    ensures complete { (input : List ℕ) (script : Script) → command_of (map string_bytes words.now) ≡ Some Command.Run
+    ensures owed { IfOk result (IsOwed (command_in words.now) (use_of S.left S.faults src.old src.new)) }
+    ensures bounded { IsBounded (command_in words.now) (use_of S.left S.faults src.old src.new) }
+    ensures untouched { command_in words.now ≡ None → IsUntouched (use_of S.left S.faults src.old src.new) }
+    ensures count { S.faults src.old ≤ S.faults src.new }
+    ensures complete { (input : List ℕ) (script : Script) → command_in words.now ≡ Some Command.Run
         → S.left src.old ≡ Some input → IsScript served_forms input script
         → (Rose (S.faults src.old) (S.faults src.new) → ⊥) → IfOk result IsReport }
-    ensures judges { (input : List ℕ) (script : Script) (report : reports.Report) → command_of (map string_bytes words.now) ≡ Some Command.Check
+    ensures judges { (input : List ℕ) (script : Script) (report : reports.Report) → command_in words.now ≡ Some Command.Check
         → S.left src.old ≡ Some input → AreChecked input script report
         → (Rose (S.faults src.old) (S.faults src.new) → ⊥) → IfOk result (TellsOf script report) }
 {
@@ -201,25 +201,24 @@ fn outcome_of<S: Source>(alloc: Global, words: &[String], src: &mut S) -> Result
 /// memory runs out nothing is written.
 pub fn run<S: Source, K: Sink>(alloc: Global, words: &[String], src: &mut S, sink: &mut K) -> Status
     // The status says what was owed, and that it was written.
-    ensures ends { Ends Status.WriteFault
-        (Owed (command_of (map string_bytes words.now))
-        (record { left_before = S.left src.old; left_now = S.left src.new; faults_before = S.faults src.old; faults_now = S.faults src.new }))
-        (Rose (K.faults sink.old) (K.faults sink.new)) (K.written sink.old) (K.written sink.new) result }
+    ensures ends { IsEnd (command_in words.now) (use_of S.left S.faults src.old src.new)
+        (sink_use_of K.written K.faults sink.old sink.new) result }
 
-    // No more than one byte more than the input may have is taken.
-    ensures bounded { (bytes : List ℕ) × (length bytes ≤ most_taken (command_of (map string_bytes words.now))) × Took (S.left src.old) (S.left src.new) bytes }
+    // No more than one byte more than the input may have is taken, and nothing at words of no accepted form.
+    ensures bounded { IsBounded (command_in words.now) (use_of S.left S.faults src.old src.new) }
+    ensures untouched { command_in words.now ≡ None → IsUntouched (use_of S.left S.faults src.old src.new) }
 
     // A script is served, unless an end failed or memory ran out.
-    ensures complete { (input : List ℕ) (script : Script) → command_of (map string_bytes words.now) ≡ Some Command.Run
-        → S.left src.old ≡ Some input → IsScript served_forms input script
-        → (Rose (S.faults src.old) (S.faults src.new) → ⊥) → (Rose (K.faults sink.old) (K.faults sink.new) → ⊥)
-        → (result ≡ Status.Done) ⊎ (result ≡ Status.NoMemory) }
+    ensures complete { IsComplete (command_in words.now) (use_of S.left S.faults src.old src.new)
+        (sink_use_of K.written K.faults sink.old sink.new) result }
 
-    // A report behind its script is told to be legal, or not to be, unless an end failed or memory ran out.
-    ensures judges { (input : List ℕ) (script : Script) (report : reports.Report) → command_of (map string_bytes words.now) ≡ Some Command.Check
-        → S.left src.old ≡ Some input → AreChecked input script report
-        → (Rose (S.faults src.old) (S.faults src.new) → ⊥) → (Rose (K.faults sink.old) (K.faults sink.new) → ⊥)
-        → ((result ≡ Status.Done) × IsLegal script report) ⊎ ((result ≡ Status.Unlawful) × (IsLegal script report → ⊥)) ⊎ (result ≡ Status.NoMemory) }
+    // A report after its script is told to be legal, or not to be, unless an end failed or memory ran out.
+    ensures judges { IsJudged (command_in words.now) (use_of S.left S.faults src.old src.new)
+        (sink_use_of K.written K.faults sink.old sink.new) result }
+
+    // No count of faults falls.
+    ensures counts { KeepsCounts (use_of S.left S.faults src.old src.new)
+        (sink_use_of K.written K.faults sink.old sink.new) }
 {
     match outcome_of(alloc, words, src) {
         Ok(Outcome::Report(script, report)) => match write_report(&script, &report, sink) {
@@ -229,6 +228,37 @@ pub fn run<S: Source, K: Sink>(alloc: Global, words: &[String], src: &mut S, sin
         Ok(Outcome::Line(status, text)) => finish(sink, status, &text, Status::WriteFault),
         Err(NoMemory) => Status::NoMemory,
     }
+}
+
+/// Runs the program on the words that it was given, where there are some. Words that are no text are of
+/// no accepted form; where there was no room for them, nothing is read or written.
+fn run_given<S: Source, K: Sink>(
+    alloc: Global,
+    words: Result<Vec<String>, WordsFault>,
+    src: &mut S,
+    sink: &mut K,
+) -> Status
+    ensures { IsRunOf words (use_of S.left S.faults src.old src.new)
+        (sink_use_of K.written K.faults sink.old sink.new) result }
+{
+    match words {
+        Ok(words) => run(alloc, &words, src, sink),
+        Err(WordsFault::NotText) => run(alloc, &[], src, sink),
+        Err(WordsFault::NoMemory) => Status::NoMemory,
+    }
+}
+
+/// Runs the program on the words that it was given, and answers the number that it exits with.
+pub fn exit_of<S: Source, K: Sink>(
+    alloc: Global,
+    words: Result<Vec<String>, WordsFault>,
+    src: &mut S,
+    sink: &mut K,
+) -> u8
+    ensures { IsExitOf words (use_of S.left S.faults src.old src.new)
+        (sink_use_of K.written K.faults sink.old sink.new) result }
+{
+    run_given(alloc, words, src, sink).number()
 }
 
 #[cfg(test)]

@@ -15,7 +15,7 @@ use composed_value::{Cell, Payload, Put};
 use lattice_laws::{Items, Lattice, NoMemory};
 use session_known::{Answer, FinalCell, Known, Level, Line, Report, Script, SessionPlan, Shown};
 use std::alloc::Global;
-use worker_core::OneMap;
+use crate::one_map::OneMap;
 
 /// A cell, as a session that is not causal is shown it.
 fn shown(cell: &Cell) -> Result<Shown, NoMemory>

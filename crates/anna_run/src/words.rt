@@ -1,6 +1,6 @@
 //! What is asked for by the words behind the program's name.
-ghost use Rattle.std.specs.Prelude.{◌≡◌, map, string_bytes};
-ghost use Rattle.anna_run.specs.Words.{command_of};
+ghost use Rattle.std.specs.Prelude.{◌≡◌};
+ghost use Rattle.anna_run.specs.Words.{command_in};
 
 /// What the program can be asked for.
 #[derive(Clone, Copy, Debug, PartialEq, Eq)]
@@ -11,9 +11,18 @@ pub enum Command {
     Check,
 }
 
+/// Why there are no words.
+#[derive(Clone, Copy, Debug, PartialEq, Eq)]
+pub enum WordsFault {
+    /// One of them is no text.
+    NotText,
+    /// There was no room for them.
+    NoMemory,
+}
+
 /// The command that the words name, where they are of an accepted form: `run` or `check`.
 pub fn read_words(words: &[String]) -> Option<Command>
-    ensures { result ≡ command_of (map string_bytes words.now) }
+    ensures { result ≡ command_in words.now }
 {
     match words {
         [word] if word.as_str() == "run" => Some(Command::Run),

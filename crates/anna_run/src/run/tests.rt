@@ -316,6 +316,42 @@ fn refuses_a_script_at_a_line_with_a_code(rt: HostRuntime) -> Result<(), Fail> {
     Ok(())
 }
 
+/// Lines that take the place of the first put of the first script, and the code that refuses each.
+const REFUSED: [(&str, u32); 14] = [
+    ("put a", 2),
+    ("put a 5 6", 7),
+    ("put a x", 7),
+    ("put a 18446744073709551616", 3),
+    ("put b 5", 6),
+    ("put a+ 5", 4),
+    ("begin", 9),
+    ("get a 2", 6),
+    ("get a x", 3),
+    ("await a s 1", 2),
+    ("session s eventual", 5),
+    ("session t lazy", 2),
+    ("key b max", 2),
+    ("round 5", 2),
+];
+
+#[test]
+fn refuses_each_of_these_lines_by_its_code(rt: HostRuntime) -> Result<(), Fail> {
+    for (line, code) in REFUSED {
+        let input = format!(in rt.alloc(); "anna 1\nworkers 1\nkey a max\nsession s eventual\n{line}\nput a 3\nget a\nend\n")?;
+        let (status, text) = run_on(rt.alloc(), input.as_bytes())?;
+        let want = refused(rt.alloc(), 5, code)?;
+        assert_eq!(rt; status, Status::Refused, "{line:?}");
+        assert_eq!(rt; text.as_slice(), want.as_bytes(), "{line:?}");
+    }
+    let (status, text) = run_on(
+        rt.alloc(),
+        b"anna 1\nworkers 1\nkey a max\nsession s eventual\nput a \x80\nput a 3\nget a\nend\n",
+    )?;
+    assert_eq!(rt; status, Status::Refused);
+    assert_eq!(rt; text.as_slice(), b"refused line 5: code 13\n".as_slice());
+    Ok(())
+}
+
 /// A script of one worker with so many keys, `k1` and on, and so many sessions.
 fn script_of(alloc: Global, keys: u32, sessions: u32) -> Result<String, NoMemory> {
     let mut text = String::from_str(alloc, "anna 1\nworkers 1\n")?;
@@ -474,23 +510,46 @@ fn each_write_fails_in_turn(rt: HostRuntime) -> Result<(), Fail> {
 #[test]
 fn faults_outside(rt: HostRuntime) -> Result<(), Fail> {
     let words = words_of(rt.alloc(), "run")?;
-    // Of a sink that takes each piece whole, the first write fails, and then the second.
-    let mut src = SureSource::new(FIRST.as_bytes().to_vec(rt.alloc())?);
-    let mut sink = MemSink::new(rt.alloc(), [1].to_vec(rt.alloc())?)?;
-    assert_eq!(rt;
-        run(rt.alloc(), &words, &mut src, &mut sink),
-        Status::WriteFault
-    );
-    assert!(rt; sink.written().is_empty());
-    let mut src = SureSource::new(FIRST.as_bytes().to_vec(rt.alloc())?);
-    let mut sink = MemSink::new(rt.alloc(), [2].to_vec(rt.alloc())?)?;
-    assert_eq!(rt;
-        run(rt.alloc(), &words, &mut src, &mut sink),
-        Status::WriteFault
-    );
-    let written = sink.written();
-    assert!(rt; FIRST_REPORT.as_bytes().starts_with(written));
-    assert!(rt; !written.is_empty() && written.len() < FIRST_REPORT.len());
+    // Of a sink that takes each piece whole the first write fails; and the second, which does not come,
+    // since the report is short.
+    for (failing, status, written) in [
+        (1, Status::WriteFault, ""),
+        (2, Status::Done, FIRST_REPORT),
+    ] {
+        let mut src = SureSource::new(FIRST.as_bytes().to_vec(rt.alloc())?);
+        let mut sink = MemSink::new(rt.alloc(), [failing].to_vec(rt.alloc())?)?;
+        assert_eq!(rt; run(rt.alloc(), &words, &mut src, &mut sink), status);
+        assert_eq!(rt; sink.written(), written.as_bytes());
+    }
+    Ok(())
+}
+
+#[test]
+fn a_long_report_is_written_in_blocks(rt: HostRuntime) -> Result<(), Fail> {
+    let words = words_of(rt.alloc(), "run")?;
+    let mut script =
+        String::from_str(rt.alloc(), "anna 1\nworkers 1\nkey a max\nsession s eventual\nput a 5\n")?;
+    let mut report =
+        String::from_str(rt.alloc(), "anna report 1\nsession s eventual\nput a 1 at 1\n")?;
+    for _ in 0..1000 {
+        push_line(&mut script, "get a")?;
+        push_line(&mut report, "get a @1 clock s:1 top 1 value 5")?;
+    }
+    push_line(&mut script, "end")?;
+    report.push_str("final\na @1 clock s:1 top 1 value 5\nend\n")?;
+    // 33 kB are two blocks of 16,384 bytes and a rest: three writes, of which each fails in turn.
+    for (failing, status, length) in [
+        (1, Status::WriteFault, 0),
+        (2, Status::WriteFault, 16_384),
+        (3, Status::WriteFault, 32_768),
+        (4, Status::Done, report.len()),
+    ] {
+        let mut src = SureSource::new(script.as_bytes().to_vec(rt.alloc())?);
+        let mut sink = MemSink::new(rt.alloc(), [failing].to_vec(rt.alloc())?)?;
+        assert_eq!(rt; run(rt.alloc(), &words, &mut src, &mut sink), status);
+        assert_eq!(rt; sink.written().len(), length);
+        assert!(rt; report.as_bytes().starts_with(sink.written()));
+    }
     Ok(())
 }
 

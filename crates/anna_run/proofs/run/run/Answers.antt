@@ -1,7 +1,7 @@
 use Rattle.std.proofs.Common.{rules, ◌≡◌, ℕ, List, [], Option, inl, inr, refl, sym, subst}
 use Rattle.placement.specs.Config.{placed}
 use Rattle.placement.specs.ConfigLaws.{placement_is}
-use Rattle.script_reader.specs.ValidLaws.{script_is_valid}
+use Rattle.script_reader.proofs.ValidLaws.{script_is_valid}
 use Rattle.session_known.specs.Form.{HasForm}
 use Rattle.session_known.specs.Script.{IsValidScript}
 use Rattle.session_known.specs.declared.report.Report.{Report}
@@ -43,14 +43,14 @@ returns-in-Ok-Report-clause-ends g c =
     let script = c.in-Ok-Report.script in
     let report = c.in-Ok-Report.report in
     let owed = owed_as _ _ _ script report c.in-Ok-Report.field-0-is c.in-Ok-Report.ensures.owed in
-    (Done, text_of script report, owed_report _ _ script report owed, inr (refl, c.in-Err-write_report.ensures.cause.1, c.in-Err-write_report.ensures.wrote))
+    inr (Done, text_of script report, owed_report _ _ script report owed, inr (refl, c.in-Err-write_report.ensures.cause.1, c.in-Err-write_report.ensures.wrote))
 
 pub returns-in-Ok-clause-ends : goal.returns-in-Ok-clause-ends
 returns-in-Ok-clause-ends g c =
     let script = c.in-Ok-Report.script in
     let report = c.in-Ok-Report.report in
     let owed = owed_as _ _ _ script report c.in-Ok-Report.field-0-is c.in-Ok-Report.ensures.owed in
-    (Done, text_of script report, owed_report _ _ script report owed, inl (refl, c.in-Ok.ensures.wrote))
+    inr (Done, text_of script report, owed_report _ _ script report owed, inl (refl, c.in-Ok.ensures.wrote))
 
 pub returns-clause-ends : goal.returns-clause-ends
-returns-clause-ends g c = (NoMemory, [], refl, inl (refl, search rules))
+returns-clause-ends g c = inl (refl, search rules)

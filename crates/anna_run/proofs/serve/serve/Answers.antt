@@ -3,7 +3,7 @@ use Rattle.composed_value.specs.Cell.{empty_cell}
 use Rattle.placement.specs.Config.{placed}
 use Rattle.session_known.specs.Legal.{IsLegal}
 use Rattle.session_known.specs.declared.report.Report.{Report}
-use Rattle.anna_run.specs.OneWorkerLaws.{one_worker_is_legal}
+use Rattle.anna_run.proofs.OneWorkerLaws.{one_worker_is_legal}
 use Rattle.anna_run.specs.Serving.{kinds_of, sessions_answered, cells_at_end}
 use Rattle.anna_run.proofs.ReportLemmas.{all_can_serve, kinds_at_start, cells_left, report_is}
 use Rattle.anna_run.proofs.serve.serve.Goals as goal

@@ -13,8 +13,8 @@ use Rattle.clock_lattice.specs.Clock.{one_count}
 use Rattle.clock_lattice.specs.Needs.{clock_at, joined_needs, one_need}
 use Rattle.session_known.specs.Session.{Knowledge, known_raised}
 use Rattle.session_known.specs.Script.{IsOneOf}
-use Rattle.anna_run.specs.OneCellFormLaws.{clock_of_laws, no_clock_of, one_count_of}
-use Rattle.anna_run.specs.OnePutsLaws.{IsClockOf}
+use Rattle.anna_run.proofs.OneCellFormLaws.{clock_of_laws, no_clock_of, one_count_of}
+use Rattle.anna_run.proofs.OnePutsLaws.{IsClockOf}
 
 -- of each key a clock of so many sessions
 abbrev pub AreNeedsOf : ℕ → List (ℕ × List (ℕ × ℕ)) → Type 0

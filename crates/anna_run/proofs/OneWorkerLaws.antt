@@ -15,12 +15,12 @@ use Rattle.session_known.specs.declared.report.Answer.{Answer}
 use Rattle.session_known.specs.declared.script.Level.TheVariants.{Eventual}
 use Rattle.session_known.specs.declared.script.Script.{Script}
 use Rattle.anna_run.specs.OneWorker.{cell_at, run_answers, final_at, report_of}
-use Rattle.anna_run.specs.OneCellFormLaws.{final_is_in}
-use Rattle.anna_run.specs.OneCellLaws.{counts_each, sound_at}
-use Rattle.anna_run.specs.OnePlaceLaws.{final_places_of_one}
-use Rattle.anna_run.specs.OnePutsLaws.{ArePutsIn, no_puts_in}
-use Rattle.anna_run.specs.OneRunLaws.{sessions_are_served, sessions_are_true}
-use Rattle.anna_run.specs.OneSessionLaws.{none_are_made}
+use Rattle.anna_run.proofs.OneCellFormLaws.{final_is_in}
+use Rattle.anna_run.proofs.OneCellLaws.{counts_each, sound_at}
+use Rattle.anna_run.proofs.OnePlaceLaws.{final_places_of_one}
+use Rattle.anna_run.proofs.OnePutsLaws.{ArePutsIn, no_puts_in}
+use Rattle.anna_run.proofs.OneRunLaws.{sessions_are_served, sessions_are_true}
+use Rattle.anna_run.proofs.OneSessionLaws.{none_are_made}
 
 -- the final cell of a key is lawful
 final_is_lawful : (script : Script) (all : List (ℕ × Put)) (key : ℕ) → ArePutsIn script all → IsLawfulFinal script.kinds all (final_at script.kinds all key)

@@ -26,10 +26,10 @@ use Rattle.session_known.specs.declared.script.Line.{Line}
 use Rattle.session_known.specs.declared.script.Line.TheVariants as lines
 use Rattle.session_known.specs.declared.script.Script.{Script}
 use Rattle.anna_run.specs.OneWorker.{cell_at, shown_at}
-use Rattle.anna_run.specs.OneCellFormLaws.{clock_of_cell, clock_of_is_clock, one_count_of}
-use Rattle.anna_run.specs.OneCellLaws.{cell_is, covers_before, top_at_most}
-use Rattle.anna_run.specs.OneKnownLaws.{AreNeedsOf, no_needs_of, needs_with, seen_is_of}
-use Rattle.anna_run.specs.OnePutsLaws.{IsPutIn, ArePutsIn, none_made, next_put_in}
+use Rattle.anna_run.proofs.OneCellFormLaws.{clock_of_cell, clock_of_is_clock, one_count_of}
+use Rattle.anna_run.proofs.OneCellLaws.{cell_is, covers_before, top_at_most}
+use Rattle.anna_run.proofs.OneKnownLaws.{AreNeedsOf, no_needs_of, needs_with, seen_is_of}
+use Rattle.anna_run.proofs.OnePutsLaws.{IsPutIn, ArePutsIn, none_made, next_put_in}
 
 -- an eventual session
 abbrev pub eventual : ℕ → Client

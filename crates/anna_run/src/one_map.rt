@@ -1,9 +1,9 @@
-//! The map of a worker that is alone.
+//! The map of a worker that is alone: it holds every key and exchanges updates with no other.
 ghost use Rattle.std.specs.Prelude.{◌≡◌, ◌↔◌, ◌<◌, ◌≤◌, ◌-◌, length, map, slice_get, Some, IsSome, IfSome, IfOk, OnOk, OnErr};
 ghost use Rattle.composed_value.specs.Cell.{empty_cell};
 ghost use Rattle.composed_value.specs.Kind.{kind_of, kind_of_value};
 ghost use Rattle.composed_value.specs.declared.kind.Kind.TheVariants as kinds;
-ghost use Rattle.worker_core.specs.OneMap.{cell_for, cells_with};
+ghost use Rattle.anna_run.specs.OneMap.{cell_for, cells_with};
 
 use composed_value::{Cell, Kind, Put};
 use lattice_laws::{Lattice, NoMemory};
@@ -14,7 +14,7 @@ use std::marker::Model;
 /// (a worker's key-value map in Wu, Faleiro, Lin, Hellerstein 2018). Keys are numbered from 1.
 /// Contracts see the cells in the order of the keys.
 #[derive(Debug, Drop)]
-pub struct OneMap {
+pub(crate) struct OneMap {
     cells: Vec<Cell>,
 }
 
@@ -29,7 +29,7 @@ impl Model for OneMap {
 
 impl OneMap {
     /// Cells of no puts, one of each key, whose kinds are given in order.
-    pub fn new(alloc: Global, kinds: &[Kind]) -> Result<OneMap, NoMemory>
+    pub(crate) fn new(alloc: Global, kinds: &[Kind]) -> Result<OneMap, NoMemory>
         ensures { IfOk result (λ cells. cells ≡ map empty_cell kinds.now) }
     {
         let mut cells = Vec::new(alloc);
@@ -41,7 +41,7 @@ impl OneMap {
 
     /// Merges a put into the cell of its key. The key is one of 1 to the last and of the put's kind, and
     /// the put's number is at least 1. After `NoMemory` the cells are as before.
-    pub fn put(&mut self, key: u16, put: &Put) -> Result<(), NoMemory>
+    pub(crate) fn put(&mut self, key: u16, put: &Put) -> Result<(), NoMemory>
         requires some { 1 ≤ key }
         requires known { key ≤ length self.old }
         requires kind { kind_of_value (cell_for self.old key put.now).value ≡ kind_of put.now.payload }
@@ -54,7 +54,7 @@ impl OneMap {
     }
 
     /// The cell of the key, and nothing where there is no such key. Takes no memory.
-    pub fn cell(&self, key: u16) -> Option<&Cell>
+    pub(crate) fn cell(&self, key: u16) -> Option<&Cell>
         ensures some { IsSome result ↔ ((1 ≤ key) × (key ≤ length self.now)) }
         ensures cell { IfSome result (λ cell. slice_get self.now (key - 1) ≡ Some cell.now) }
     {

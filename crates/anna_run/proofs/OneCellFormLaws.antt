@@ -35,8 +35,8 @@ use Rattle.session_known.specs.Form.{NamesSessions, IsClockIn, ValueNamesSession
 use Rattle.session_known.specs.Script.{IsOneOf, kind_at}
 use Rattle.session_known.specs.declared.script.Script.{Script}
 use Rattle.anna_run.specs.OneWorker.{cell_at, final_at}
-use Rattle.anna_run.specs.OneCellLaws.{cell_is}
-use Rattle.anna_run.specs.OnePutsLaws.{IsClockOf, IsPutIn, ArePutsIn, each_on_key}
+use Rattle.anna_run.proofs.OneCellLaws.{cell_is}
+use Rattle.anna_run.proofs.OnePutsLaws.{IsClockOf, IsPutIn, ArePutsIn, each_on_key}
 
 -- clocks of so many sessions keep the laws of clocks
 pub clock_of_laws : (sessions : ℕ) → LatticeLaws (IsClockOf sessions) (λ _ _. ⊤) joined_clocks

@@ -23,10 +23,10 @@ use Rattle.session_known.specs.declared.script.Line.TheVariants as lines
 use Rattle.session_known.specs.declared.script.Script.{Script}
 use Rattle.session_known.specs.declared.script.SessionPlan.{SessionPlan}
 use Rattle.anna_run.specs.OneWorker.{cell_at, shown_at, answer_of, session_answers, run_answers}
-use Rattle.anna_run.specs.OneCellLaws.{sound_at}
-use Rattle.anna_run.specs.OneLinesLaws.{HasOneWorker, AreAnswered, session_is_answered}
-use Rattle.anna_run.specs.OnePutsLaws.{ArePutsIn}
-use Rattle.anna_run.specs.OneSessionLaws.{AreMade, start_is_reached}
+use Rattle.anna_run.proofs.OneCellLaws.{sound_at}
+use Rattle.anna_run.proofs.OneLinesLaws.{HasOneWorker, AreAnswered, session_is_answered}
+use Rattle.anna_run.proofs.OnePutsLaws.{ArePutsIn}
+use Rattle.anna_run.proofs.OneSessionLaws.{AreMade, start_is_reached}
 
 -- the sessions from a number on, behind some puts, have these answers lawfully and in form, and all puts are ones that the script may lead to
 pub record AreServed (script : Script) (number : ℕ) (done : List (ℕ × Put)) (plans : List SessionPlan) (answers : List (List Answer)) : Type 0 where
