@@ -7,4 +7,3 @@ pub mod StampedLaws
 pub mod TextSet
 pub mod TextSetLaws
 pub mod Word
-pub mod WordLaws

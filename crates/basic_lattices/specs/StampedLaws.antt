@@ -9,11 +9,11 @@ use Rattle.lattice_laws.specs.Lattice.{LatticeLaws, Associative}
 use Rattle.lattice_laws.specs.Ties.{both_tie}
 use Rattle.basic_lattices.specs.GreaterLaws.{greater_laws, greater_associative, greater_unless_below, greater_if_below, greater_is_second}
 use Rattle.basic_lattices.specs.Stamped.{stamp_cmp, IsStamped}
-use Rattle.basic_lattices.specs.WordLaws.{word_total, word_exact}
+use Rattle.lattice_laws.specs.SpellingLaws.{spelled_total, spelled_exact}
 use Rattle.basic_lattices.specs.declared.stamped.Stamped.{Stamped}
 
 pub stamp_total : IsTotalOrder stamp_cmp
-stamp_total = then_total (on_total (λ s. s.number) nat_cmp_total) (then_total (on_total (λ s. s.session) nat_cmp_total) (then_total (on_total (λ s. s.place) nat_cmp_total) (on_total (λ s. s.word) word_total)))
+stamp_total = then_total (on_total (λ s. s.number) nat_cmp_total) (then_total (on_total (λ s. s.session) nat_cmp_total) (then_total (on_total (λ s. s.place) nat_cmp_total) (on_total (λ s. s.word) spelled_total)))
 
 -- stamped words that tie are one
 pub stamp_exact : (a b : Stamped) → stamp_cmp a b ≡ Equal → a ≡ b
@@ -24,7 +24,7 @@ stamp_exact a b e =
     let number = nat_cmp-IsAntisymmetric a.number b.number by_number.0 in
     let session = nat_cmp-IsAntisymmetric a.session b.session by_session.0 in
     let place = nat_cmp-IsAntisymmetric a.place b.place by_place.0 in
-    let word = word_exact a.word b.word by_place.1 in
+    let word = spelled_exact a.word b.word by_place.1 in
     λ i. record { number = number i; session = session i; place = place i; word = word i }
 
 pub stamp_laws : LatticeLaws IsStamped (λ _ _. ⊤) (ord_max stamp_cmp)

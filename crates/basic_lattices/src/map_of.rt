@@ -192,10 +192,10 @@ mod tests {
     fn fields_are_words(rt: HostRuntime) -> Result<(), Fail> {
         let mut fields: FieldMax = MapOf::new(rt.alloc());
         for (field, value) in [(b"y".as_slice(), 1), (b"x", 2), (b"y", 3)] {
-            fields.raise(Word::of(rt.alloc(), field)?, MaxNum(value))?;
+            fields.raise(Word::of(field)?, MaxNum(value))?;
         }
         assert_eq!(rt; fields.len(), 2);
-        let field = Word::of(rt.alloc(), b"y")?;
+        let field = Word::of(b"y")?;
         assert!(rt; matches!(fields.get(&field), Some(value) if value.0 == 3));
         Ok(())
     }

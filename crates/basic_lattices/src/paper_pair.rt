@@ -30,8 +30,8 @@ impl PaperPair {
         requires { IsWord bytes.now }
         ensures { IfOk result (λ pair. seen pair ≡ record { clock = (session, count) ∷ []; words = bytes.now ∷ [] }) }
     {
-        let Ok(word) = Word::of(alloc, bytes) else {
-            return Err(NoMemory);
+        let Ok(word) = Word::of(bytes) else {
+            unreachable!()
         };
         let mut clock = MapOf::new(alloc);
         clock.raise(session, MaxNum(count))?;

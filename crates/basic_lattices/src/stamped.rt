@@ -68,44 +68,37 @@ impl AllFit for Stamped {
 #[cfg(test)]
 mod tests {
     use super::*;
-    use std::alloc::Global;
     use std::test::Fail;
 
-    fn stamped(
-        alloc: Global,
-        number: u64,
-        session: u16,
-        place: u32,
-        word: &[u8],
-    ) -> Result<Stamped, Fail> {
+    fn stamped(number: u64, session: u16, place: u32, word: &[u8]) -> Result<Stamped, Fail> {
         Ok(Stamped {
             number,
             session,
             place,
-            word: Word::of(alloc, word)?,
+            word: Word::of(word)?,
         })
     }
 
     #[test]
     fn the_place_decides_before_the_word(rt: HostRuntime) -> Result<(), Fail> {
-        let mut kept = stamped(rt.alloc(), 3, 1, 0, b"red")?;
-        kept.join(&stamped(rt.alloc(), 3, 1, 1, b"blue")?)?;
-        assert_eq!(rt; kept, stamped(rt.alloc(), 3, 1, 1, b"blue")?);
-        kept.join(&stamped(rt.alloc(), 3, 1, 1, b"red")?)?;
-        assert_eq!(rt; kept, stamped(rt.alloc(), 3, 1, 1, b"red")?);
-        kept.join(&stamped(rt.alloc(), 3, 1, 1, b"blue")?)?;
-        assert_eq!(rt; kept, stamped(rt.alloc(), 3, 1, 1, b"red")?);
+        let mut kept = stamped(3, 1, 0, b"red")?;
+        kept.join(&stamped(3, 1, 1, b"blue")?)?;
+        assert_eq!(rt; kept, stamped(3, 1, 1, b"blue")?);
+        kept.join(&stamped(3, 1, 1, b"red")?)?;
+        assert_eq!(rt; kept, stamped(3, 1, 1, b"red")?);
+        kept.join(&stamped(3, 1, 1, b"blue")?)?;
+        assert_eq!(rt; kept, stamped(3, 1, 1, b"red")?);
         Ok(())
     }
 
     #[test]
     fn each_field_decides_before_the_next(rt: HostRuntime) -> Result<(), Fail> {
         let ascending = [
-            stamped(rt.alloc(), 1, 9, 9, b"z")?,
-            stamped(rt.alloc(), 2, 1, 9, b"z")?,
-            stamped(rt.alloc(), 2, 2, 1, b"z")?,
-            stamped(rt.alloc(), 2, 2, 2, b"a")?,
-            stamped(rt.alloc(), 2, 2, 2, b"b")?,
+            stamped(1, 9, 9, b"z")?,
+            stamped(2, 1, 9, b"z")?,
+            stamped(2, 2, 1, b"z")?,
+            stamped(2, 2, 2, b"a")?,
+            stamped(2, 2, 2, b"b")?,
         ];
         for i in 1..ascending.len() {
             let (lesser, greater) = (&ascending[i - 1], &ascending[i]);

@@ -132,7 +132,7 @@ mod tests {
     fn set_of(alloc: Global, words: &[&[u8]]) -> Result<TextSet, Fail> {
         let mut set = TextSet::new(alloc);
         for word in words {
-            set.insert(Word::of(alloc, word)?)?;
+            set.insert(Word::of(word)?)?;
         }
         Ok(set)
     }
@@ -149,11 +149,11 @@ mod tests {
     fn a_word_is_new_once(rt: HostRuntime) -> Result<(), Fail> {
         let mut set = TextSet::new(rt.alloc());
         for (word, is_new) in [(b"b".as_slice(), true), (b"a", true), (b"b", false)] {
-            assert_eq!(rt; set.insert(Word::of(rt.alloc(), word)?)?, is_new);
+            assert_eq!(rt; set.insert(Word::of(word)?)?, is_new);
         }
         assert!(rt; shows(&set, &[b"a", b"b"]));
-        assert!(rt; set.has(&Word::of(rt.alloc(), b"a")?));
-        assert!(rt; !set.has(&Word::of(rt.alloc(), b"ab")?));
+        assert!(rt; set.has(&Word::of(b"a")?));
+        assert!(rt; !set.has(&Word::of(b"ab")?));
         Ok(())
     }
 
@@ -168,7 +168,7 @@ mod tests {
             (b"milk1", true),
         ];
         for (word, is_pushed) in pushes {
-            assert_eq!(rt; set.push(Word::of(rt.alloc(), word)?)?, is_pushed);
+            assert_eq!(rt; set.push(Word::of(word)?)?, is_pushed);
         }
         assert!(rt; shows(&set, &[b"b", b"milk", b"milk1"]));
         Ok(())

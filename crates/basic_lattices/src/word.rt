@@ -1,29 +1,25 @@
 //! Words: the values of sets, fields and registers.
-ghost use Rattle.std.specs.Prelude.{◌≡◌, refl, MatchResult, IfOk};
+ghost use Rattle.std.specs.Prelude.{◌≡◌, refl, MatchResult};
 ghost use Rattle.std.specs.Cmp.Lexicographic.{texts_ties};
-ghost use Rattle.basic_lattices.specs.Word.{IsWord, IsWhyNoWord, word_eq, word_cmp, word_partial_cmp};
-ghost use Rattle.basic_lattices.specs.WordLaws.{word_equivalence, word_partial_equivalence, word_total, word_partial_order, word_exact};
+ghost use Rattle.lattice_laws.specs.SpellingLaws.{spelled_equivalence, spelled_partial_equivalence, spelled_total, spelled_partial_order, spelled_exact};
+ghost use Rattle.basic_lattices.specs.Word.{IsWord, IsWhyNoWord, word_fault, word_eq, word_cmp, word_partial_cmp};
 
-use lattice_laws::{MapKey, Misspelled, NoMemory, test_spelling};
-use std::alloc::Global;
+use lattice_laws::{MapKey, Misspelled, NoMemory, Spelled};
 use std::cmp::Ordering;
 use std::marker::Model;
 
 /// A word: 1 to 64 bytes of `A-Z a-z 0-9 _ . -`, ordered by its bytes. Contracts see the bytes.
+///
+/// A word is kept in place: to make, copy or move one takes no memory.
 #[derive(Debug, Drop)]
-pub struct Word {
-    bytes: Vec<u8>,
-}
+pub struct Word(Spelled<64>);
 
 impl Model for Word {
     ghost use Rattle.std.specs.Prelude.{List, ℕ};
-    ghost use Rattle.lattice_laws.specs.Spelling.{IsSpelled};
 
     ghost Value = { List ℕ };
 
-    ghost view = { λ word. word.bytes.items };
-
-    ghost invariant = { λ word. IsSpelled 64 word.bytes.items };
+    ghost view = { λ word. word.0 };
 }
 
 /// Why bytes are no word.
@@ -33,23 +29,29 @@ pub enum WordFault {
     Length,
     /// The length fits, and a byte is not allowed.
     Byte,
-    /// There was no room for the word.
+    /// There was no room for the word. Never answered, since a word takes no memory.
     NoMemory,
 }
 
-impl Word {
-    /// The word that the bytes spell.
-    pub fn of(alloc: Global, bytes: &[u8]) -> Result<Word, WordFault>
-        ensures { MatchResult result (λ word. (word ≡ bytes.now) × IsWord bytes.now) (IsWhyNoWord bytes.now) }
-    {
-        match test_spelling(bytes, 64) {
-            Ok(()) => match Vec::from_slice(alloc, bytes) {
-                Ok(bytes) => Ok(Word { bytes }),
-                Err(_) => Err(WordFault::NoMemory),
-            },
-            Err(Misspelled::Length) => Err(WordFault::Length),
-            Err(Misspelled::Byte) => Err(WordFault::Byte),
+impl From<Misspelled> for WordFault {
+    ghost from_gives = { λ why fault. fault ≡ word_fault why };
+
+    fn from(why: Misspelled) -> WordFault {
+        match why {
+            Misspelled::Length => WordFault::Length,
+            Misspelled::Byte => WordFault::Byte,
         }
+    }
+}
+
+impl Word {
+    /// The word that the bytes spell. Takes no memory.
+    pub fn of(bytes: &[u8]) -> Result<Word, WordFault>
+        ensures { MatchResult result
+            (λ word. (word ≡ bytes.now) × IsWord bytes.now)
+            (IsWhyNoWord bytes.now) }
+    {
+        Ok(Word(Spelled::of(bytes)?))
     }
 
     /// The bytes of the word. Takes no memory.
@@ -57,28 +59,28 @@ impl Word {
         ensures bytes { result.now ≡ self.now }
         ensures word { IsWord self.now }
     {
-        self.bytes.as_slice()
+        self.0.as_bytes()
     }
 }
 
 impl PartialEq for Word {
     ghost eq = { word_eq };
 
-    ghost laws = { word_partial_equivalence };
+    ghost laws = { spelled_partial_equivalence };
 
     fn eq(&self, other: &Word) -> bool {
-        self.bytes.as_slice() == other.bytes.as_slice()
+        self.0 == other.0
     }
 }
 
 impl Eq for Word {
-    ghost laws = { word_equivalence };
+    ghost laws = { spelled_equivalence };
 }
 
 impl PartialOrd for Word {
     ghost partial_cmp = { word_partial_cmp };
 
-    ghost laws = { word_partial_order };
+    ghost laws = { spelled_partial_order };
 
     fn partial_cmp(&self, other: &Word) -> Option<Ordering> {
         Some(self.cmp(other))
@@ -88,14 +90,14 @@ impl PartialOrd for Word {
 impl Ord for Word {
     ghost cmp = { word_cmp };
 
-    ghost total = { word_total };
+    ghost total = { spelled_total };
 
     ghost matches_partial_cmp = { λ a b. refl };
 
     ghost matches_eq = { texts_ties };
 
     fn cmp(&self, other: &Word) -> Ordering {
-        self.bytes.as_slice().cmp(other.bytes.as_slice())
+        self.0.cmp(&other.0)
     }
 }
 
@@ -103,18 +105,16 @@ impl MapKey for Word {
     ghost is_key = { IsWord };
 
     fn known(&self) {
-        let _bytes = &self.bytes;
+        let _bytes = self.as_bytes();
     }
 
     fn copy(&self) -> Result<Word, NoMemory>
-        ensures { IfOk result (λ copy. copy ≡ self.now) }
+        ensures { MatchResult result (λ copy. copy ≡ self.now) (λ _. ⊥) }
     {
-        Ok(Word {
-            bytes: Vec::from_slice(*self.bytes.allocator(), self.bytes.as_slice())?,
-        })
+        Ok(Word(self.0.copy()))
     }
 
-    ghost exact = { word_exact };
+    ghost exact = { spelled_exact };
 }
 
 #[cfg(test)]
@@ -126,7 +126,7 @@ mod tests {
     fn is_1_to_64_of_the_allowed_bytes(rt: HostRuntime) -> Result<(), Fail> {
         let longest = [b'w'; 64];
         for bytes in [b"a".as_slice(), b"AZaz09_.-", &longest] {
-            let word = Word::of(rt.alloc(), bytes)?;
+            let word = Word::of(bytes)?;
             assert_eq!(rt; word.as_bytes(), bytes);
             assert_eq!(rt; MapKey::copy(&word)?, word);
         }
@@ -139,7 +139,7 @@ mod tests {
             (b"\xc3\xa4", WordFault::Byte),
         ];
         for (bytes, fault) in refused {
-            assert!(rt; matches!(Word::of(rt.alloc(), bytes), Err(why) if why == fault));
+            assert!(rt; matches!(Word::of(bytes), Err(why) if why == fault));
         }
         Ok(())
     }
@@ -158,8 +158,8 @@ mod tests {
             b"b",
         ];
         for i in 1..ascending.len() {
-            let lesser = Word::of(rt.alloc(), ascending[i - 1])?;
-            let greater = Word::of(rt.alloc(), ascending[i])?;
+            let lesser = Word::of(ascending[i - 1])?;
+            let greater = Word::of(ascending[i])?;
             assert!(rt; lesser < greater);
             assert!(rt; lesser != greater);
         }

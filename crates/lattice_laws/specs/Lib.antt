@@ -16,5 +16,6 @@ pub mod Places
 pub mod Sets
 pub mod SetsLaws
 pub mod Spelling
+pub mod SpellingLaws
 pub mod Through
 pub mod Ties

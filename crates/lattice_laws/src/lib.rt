@@ -10,7 +10,7 @@
 //! joins a list, and [`joins_by_members_alone`] says that neither order nor repetition changes what
 //! comes out. [`entries`] has maps from a [`MapKey`] to such values, joined key by key in one pass; a
 //! map to [`Member`] is a set. [`Items`] is the list type of all fields that contracts see as lists,
-//! and [`test_spelling`] what names and words have in common.
+//! and [`Spelled`] what names and words have in common.
 //!
 //! This crate stands on no other; it offers the words of `specs/` to the layers above: what a lattice
 //! is (`Lattice.antt`), joins of lists (`Joins.antt`), maps (`Entries.antt`), sets (`Sets.antt`) and the
@@ -33,4 +33,4 @@ pub use lattice::{AllFit, Lattice, NoMemory};
 pub use map_key::MapKey;
 pub use maybe::Maybe;
 pub use member::Member;
-pub use spelling::{Misspelled, test_spelling};
+pub use spelling::{Misspelled, Spelled, test_spelling};

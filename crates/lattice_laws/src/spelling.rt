@@ -1,6 +1,11 @@
 //! The bytes of names and words.
-ghost use Rattle.std.specs.Prelude.{◌≡◌, MatchResult};
-ghost use Rattle.lattice_laws.specs.Spelling.{IsSpelled, IsWhyMisspelled, is_spelling_byte as spelling_byte};
+ghost use Rattle.std.specs.Prelude.{◌≡◌, MatchResult, refl};
+ghost use Rattle.std.specs.Cmp.Lexicographic.{texts_ties};
+ghost use Rattle.lattice_laws.specs.Spelling.{IsSpelled, IsWhyMisspelled, is_spelling_byte as spelling_byte, spelled_eq, spelled_cmp, spelled_partial_cmp};
+ghost use Rattle.lattice_laws.specs.SpellingLaws.{spelled_equivalence, spelled_partial_equivalence, spelled_total, spelled_partial_order};
+
+use std::cmp::Ordering;
+use std::marker::Model;
 
 /// Why bytes spell nothing.
 #[derive(Clone, Copy, Debug, PartialEq, Eq)]
@@ -9,6 +14,101 @@ pub enum Misspelled {
     Length,
     /// The length fits, and a byte is not allowed.
     Byte,
+}
+
+/// 1 to `MOST` of the bytes `A-Z a-z 0-9 _ . -`, ordered by these bytes. Contracts see the bytes.
+///
+/// The bytes are kept in place, so that to make, copy or move a value takes no memory.
+#[derive(Debug, Drop)]
+pub struct Spelled<const MOST: usize> {
+    // The bytes, and behind them zeros.
+    room: [u8; MOST],
+    len: usize,
+}
+
+impl<const MOST: usize> Model for Spelled<MOST> {
+    ghost use Rattle.std.specs.Prelude.{List, ℕ, ◌≤◌, take};
+    ghost use Rattle.lattice_laws.specs.Spelling.{IsSpelled};
+
+    ghost Value = { List ℕ };
+
+    ghost view = { λ spelled. take spelled.len spelled.room };
+
+    ghost invariant = { λ spelled.
+        (spelled.len ≤ MOST) × IsSpelled MOST (take spelled.len spelled.room) };
+}
+
+impl<const MOST: usize> Spelled<MOST> {
+    /// What the bytes spell. Takes no memory.
+    pub fn of(bytes: &[u8]) -> Result<Spelled<MOST>, Misspelled>
+        ensures { MatchResult result
+            (λ spelled. (spelled ≡ bytes.now) × IsSpelled MOST bytes.now)
+            (IsWhyMisspelled MOST bytes.now) }
+    {
+        test_spelling(bytes, MOST)?;
+        let mut room = [0; MOST];
+        room[..bytes.len()].copy_from_slice(bytes);
+        Ok(Spelled {
+            room,
+            len: bytes.len(),
+        })
+    }
+
+    /// The bytes. Takes no memory.
+    pub fn as_bytes(&self) -> &[u8]
+        ensures bytes { result.now ≡ self.now }
+        ensures spelled { IsSpelled MOST self.now }
+    {
+        &self.room[..self.len]
+    }
+
+    /// An equal value. Takes no memory.
+    pub fn copy(&self) -> Spelled<MOST>
+        ensures { result ≡ self.now }
+    {
+        Spelled {
+            room: self.room,
+            len: self.len,
+        }
+    }
+}
+
+impl<const MOST: usize> PartialEq for Spelled<MOST> {
+    ghost eq = { spelled_eq };
+
+    ghost laws = { spelled_partial_equivalence };
+
+    fn eq(&self, other: &Spelled<MOST>) -> bool {
+        self.as_bytes() == other.as_bytes()
+    }
+}
+
+impl<const MOST: usize> Eq for Spelled<MOST> {
+    ghost laws = { spelled_equivalence };
+}
+
+impl<const MOST: usize> PartialOrd for Spelled<MOST> {
+    ghost partial_cmp = { spelled_partial_cmp };
+
+    ghost laws = { spelled_partial_order };
+
+    fn partial_cmp(&self, other: &Spelled<MOST>) -> Option<Ordering> {
+        Some(self.cmp(other))
+    }
+}
+
+impl<const MOST: usize> Ord for Spelled<MOST> {
+    ghost cmp = { spelled_cmp };
+
+    ghost total = { spelled_total };
+
+    ghost matches_partial_cmp = { λ a b. refl };
+
+    ghost matches_eq = { texts_ties };
+
+    fn cmp(&self, other: &Spelled<MOST>) -> Ordering {
+        self.as_bytes().cmp(other.as_bytes())
+    }
 }
 
 /// Whether a byte may stand in a name or a word: one of `A-Z a-z 0-9 _ . -`.
@@ -35,6 +135,7 @@ pub fn test_spelling(bytes: &[u8], most: usize) -> Result<(), Misspelled>
 #[cfg(test)]
 mod tests {
     use super::*;
+    use std::test::Fail;
 
     #[test]
     fn tells_why_bytes_spell_nothing(rt: HostRuntime) {
@@ -51,6 +152,33 @@ mod tests {
         ];
         for (bytes, want) in cases {
             assert_eq!(rt; test_spelling(bytes, 8), want);
+            let spelled: Result<Spelled<8>, Misspelled> = Spelled::of(bytes);
+            assert_eq!(rt; spelled.is_ok(), want.is_ok());
         }
+    }
+
+    #[test]
+    fn is_ordered_by_bytes(rt: HostRuntime) -> Result<(), Fail> {
+        let ascending = [
+            b"-".as_slice(),
+            b".",
+            b"0",
+            b"Z",
+            b"_",
+            b"a",
+            b"a-",
+            b"aa",
+            b"b",
+            b"bbbb",
+        ];
+        for i in 1..ascending.len() {
+            let lesser: Spelled<4> = Spelled::of(ascending[i - 1])?;
+            let greater: Spelled<4> = Spelled::of(ascending[i])?;
+            assert!(rt; lesser < greater);
+            assert!(rt; lesser != greater);
+            assert_eq!(rt; greater.copy(), greater);
+            assert_eq!(rt; greater.as_bytes(), ascending[i]);
+        }
+        Ok(())
     }
 }

@@ -1,7 +1,8 @@
--- Names of keys and sessions.
-use Rattle.std.specs.Prelude.{ℕ, ◌<◌, ◌≤◌, ◌⊎◌, List, length, ⊤}
-use Rattle.std.specs.List.{AllPass}
-use Rattle.lattice_laws.specs.Spelling.{is_spelling_byte, IsSpelled}
+-- Names of keys and sessions, and why bytes are none.
+use Rattle.std.specs.Prelude.{ℕ, List}
+use Rattle.lattice_laws.specs.Spelling.{IsSpelled, IsWhyMisspelled}
+use Rattle.lattice_laws.specs.declared.spelling.Misspelled.{Misspelled}
+use Rattle.lattice_laws.specs.declared.spelling.Misspelled.TheVariants as misspelled
 use Rattle.placement.specs.declared.name.NameFault.{NameFault}
 use Rattle.placement.specs.declared.name.NameFault.TheVariants.{Length, Byte, NoMemory}
 
@@ -9,8 +10,13 @@ use Rattle.placement.specs.declared.name.NameFault.TheVariants.{Length, Byte, No
 abbrev pub IsName : List ℕ → Type 0
 IsName bytes = IsSpelled 32 bytes
 
--- The fault says why the bytes are no name; of want of memory nothing is said.
+-- The fault says why the bytes are no name; want of memory is never the cause.
 abbrev pub IsWhyNoName : List ℕ → NameFault → Type 0
-IsWhyNoName bytes Length = (length bytes < 1) ⊎ (32 < length bytes)
-IsWhyNoName bytes Byte = (1 ≤ length bytes) × (length bytes ≤ 32) × (AllPass is_spelling_byte bytes → ⊥)
-IsWhyNoName bytes NoMemory = ⊤
+IsWhyNoName bytes Length = IsWhyMisspelled 32 bytes misspelled.Length
+IsWhyNoName bytes Byte = IsWhyMisspelled 32 bytes misspelled.Byte
+IsWhyNoName bytes NoMemory = ⊥
+
+-- the fault of a name that is told of misspelled bytes
+abbrev pub name_fault : Misspelled → NameFault
+name_fault misspelled.Length = Length
+name_fault misspelled.Byte = Byte

@@ -1,26 +1,22 @@
 //! Names of keys and sessions.
 ghost use Rattle.std.specs.Prelude.{◌≡◌, MatchResult};
-ghost use Rattle.placement.specs.Name.{IsName, IsWhyNoName};
+ghost use Rattle.placement.specs.Name.{IsName, IsWhyNoName, name_fault};
 
-use lattice_laws::{Misspelled, test_spelling};
-use std::alloc::Global;
+use lattice_laws::{Misspelled, Spelled};
 use std::marker::Model;
 
 /// A name: 1 to 32 bytes of `A-Z a-z 0-9 _ . -`. Contracts see its bytes.
+///
+/// A name is kept in place: to make or move one takes no memory.
 #[derive(Debug, Drop)]
-pub struct Name {
-    bytes: Vec<u8>,
-}
+pub struct Name(Spelled<32>);
 
 impl Model for Name {
     ghost use Rattle.std.specs.Prelude.{List, ℕ};
-    ghost use Rattle.lattice_laws.specs.Spelling.{IsSpelled};
 
     ghost Value = { List ℕ };
 
-    ghost view = { λ name. name.bytes.items };
-
-    ghost invariant = { λ name. IsSpelled 32 name.bytes.items };
+    ghost view = { λ name. name.0 };
 }
 
 /// Why bytes are no name.
@@ -30,23 +26,29 @@ pub enum NameFault {
     Length,
     /// The length fits, and a byte is not allowed.
     Byte,
-    /// There was no room for the name.
+    /// There was no room for the name. Never answered, since a name takes no memory.
     NoMemory,
 }
 
-impl Name {
-    /// The name that the bytes spell.
-    pub fn of(alloc: Global, bytes: &[u8]) -> Result<Name, NameFault>
-        ensures { MatchResult result (λ name. (name ≡ bytes.now) × IsName bytes.now) (IsWhyNoName bytes.now) }
-    {
-        match test_spelling(bytes, 32) {
-            Ok(()) => match Vec::from_slice(alloc, bytes) {
-                Ok(bytes) => Ok(Name { bytes }),
-                Err(_) => Err(NameFault::NoMemory),
-            },
-            Err(Misspelled::Length) => Err(NameFault::Length),
-            Err(Misspelled::Byte) => Err(NameFault::Byte),
+impl From<Misspelled> for NameFault {
+    ghost from_gives = { λ why fault. fault ≡ name_fault why };
+
+    fn from(why: Misspelled) -> NameFault {
+        match why {
+            Misspelled::Length => NameFault::Length,
+            Misspelled::Byte => NameFault::Byte,
         }
+    }
+}
+
+impl Name {
+    /// The name that the bytes spell. Takes no memory.
+    pub fn of(bytes: &[u8]) -> Result<Name, NameFault>
+        ensures { MatchResult result
+            (λ name. (name ≡ bytes.now) × IsName bytes.now)
+            (IsWhyNoName bytes.now) }
+    {
+        Ok(Name(Spelled::of(bytes)?))
     }
 
     /// The bytes of the name. Takes no memory.
@@ -54,7 +56,7 @@ impl Name {
         ensures bytes { result.now ≡ self.now }
         ensures name { IsName self.now }
     {
-        self.bytes.as_slice()
+        self.0.as_bytes()
     }
 }
 
@@ -66,7 +68,7 @@ mod tests {
     #[test]
     fn tells_why_bytes_are_no_name(rt: HostRuntime) -> Result<(), Fail> {
         let longest = [b'a'; 32];
-        let name = Name::of(rt.alloc(), &longest)?;
+        let name = Name::of(&longest)?;
         assert_eq!(rt; name.as_bytes(), longest.as_slice());
         let cases = [
             (b"".as_slice(), NameFault::Length),
@@ -74,7 +76,7 @@ mod tests {
             (b"a+", NameFault::Byte),
         ];
         for (bytes, want) in cases {
-            assert_eq!(rt; Name::of(rt.alloc(), bytes).err(), Some(want));
+            assert_eq!(rt; Name::of(bytes).err(), Some(want));
         }
         Ok(())
     }

@@ -6,7 +6,7 @@ use Rattle.std.proofs.lemmas.Cmp.{on_total, then_total}
 use Rattle.std.specs.Cmp.{IsTotalOrder}
 use Rattle.std.specs.declared.cmp.Ordering.TheVariants.{Equal}
 use Rattle.lattice_laws.specs.Ties.{both_tie}
-use Rattle.basic_lattices.specs.WordLaws.{word_total, word_exact}
+use Rattle.lattice_laws.specs.SpellingLaws.{spelled_total, spelled_exact}
 use Rattle.clock_lattice.specs.Clock.{covers}
 use Rattle.clock_lattice.specs.ClockLaws.{covers_through}
 use Rattle.clock_lattice.specs.ClockOrder.{clock_cmp, clock_total, clock_exact}
@@ -15,14 +15,14 @@ use Rattle.version_antichain.specs.Version.{version_cmp, is_below}
 use Rattle.version_antichain.specs.declared.version.Version.{Version}
 
 pub version_total : IsTotalOrder version_cmp
-version_total = then_total (on_total (λ v. v.clock) clock_total) (on_total (λ v. v.word) word_total)
+version_total = then_total (on_total (λ v. v.clock) clock_total) (on_total (λ v. v.word) spelled_total)
 
 -- versions that tie are one
 pub version_exact : (a b : Version) → version_cmp a b ≡ Equal → a ≡ b
 version_exact a b e =
     let ties = both_tie (clock_cmp a.clock b.clock) _ e in
     let clock = clock_exact a.clock b.clock ties.0 in
-    let word = word_exact a.word b.word ties.1 in
+    let word = spelled_exact a.word b.word ties.1 in
     λ i. record { clock = clock i; word = word i }
 
 -- no test and its negation pass
