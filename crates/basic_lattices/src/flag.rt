@@ -28,7 +28,7 @@ impl Lattice for Flag {
 
     ghost joined = { ◌||◌ };
 
-    fn known(&self) {}
+    fn attest(&self) {}
 
     fn join(&mut self, other: &Flag) -> Result<(), NoMemory> {
         self.0 = self.0 || other.0;

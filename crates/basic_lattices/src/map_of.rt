@@ -7,7 +7,8 @@ ghost use Rattle.lattice_laws.specs.EntriesLaws.{map_laws, map_associative};
 
 use crate::{MaxNum, Word};
 use lattice_laws::entries::{
-    at_most_entries, copy_entries, find_entry, join_entries, known_entries, push_entry, raise_entry,
+    at_most_entries, attest_entries, copy_entries, find_entry, join_entries, push_entry,
+    raise_entry,
 };
 use lattice_laws::{AllFit, Lattice, MapKey, NoMemory};
 use std::alloc::Global;
@@ -31,7 +32,7 @@ impl<K: MapKey, L: AllFit> Model for MapOf<K, L> {
     ghost invariant = { λ map. IsTrue (is_sorted K.cmp (plain_entries L.plain map.entries.items)) };
 }
 
-/// What each field of a hash had at its greatest.
+/// A map that merges each field to the greatest number put on it.
 pub type FieldMax = MapOf<Word, MaxNum>;
 
 impl<K: MapKey, L: AllFit> MapOf<K, L> {
@@ -53,7 +54,7 @@ impl<K: MapKey, L: AllFit> MapOf<K, L> {
         raise_entry(&mut self.entries, key, value)
     }
 
-    /// Adds an entry behind the others, and answers whether its key comes behind theirs; else the map
+    /// Adds an entry after the others, and answers whether its key comes after theirs; else the map
     /// is left as before, and after `NoMemory` too. Takes constant time on average.
     pub fn push(&mut self, key: K, value: L) -> Result<bool, NoMemory>
         ensures pushed { IfOk result (IsPushed (λ entries. IsTrue (is_sorted K.cmp entries)) (plain_entries L.plain self.old) (key, L.plain value) (plain_entries L.plain self.new)) }
@@ -97,8 +98,8 @@ impl<K: MapKey, L: AllFit> Lattice for MapOf<K, L> {
 
     ghost joined = { joined_maps K.cmp L.joined };
 
-    fn known(&self) {
-        known_entries(self.entries.as_slice());
+    fn attest(&self) {
+        attest_entries(self.entries.as_slice());
     }
 
     fn join(&mut self, other: &Self) -> Result<(), NoMemory> {
@@ -163,7 +164,7 @@ mod tests {
     }
 
     #[test]
-    fn pushes_keys_that_come_behind_the_others(rt: HostRuntime) -> Result<(), Fail> {
+    fn pushes_keys_that_come_after_the_others(rt: HostRuntime) -> Result<(), Fail> {
         let mut map = map_of(rt.alloc(), &[(2, 5)])?;
         for (key, value, is_pushed) in [(4, 4, true), (3, 6, false), (4, 9, false), (7, 1, true)] {
             assert_eq!(rt; map.push(key, MaxNum(value))?, is_pushed);

@@ -29,7 +29,7 @@ impl Lattice for MaxNum {
 
     ghost joined = { max };
 
-    fn known(&self) {
+    fn attest(&self) {
         let _value = self.0;
     }
 

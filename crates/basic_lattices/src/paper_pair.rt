@@ -69,8 +69,8 @@ pub fn paper_join(a: &PaperPair, b: &PaperPair) -> Result<PaperPair, NoMemory>
     ensures first { IfOk result (λ c. IsBelow (seen b.now).clock (seen a.now).clock → seen c ≡ seen a.now) }
     ensures both { IfOk result (λ c. (IsBelow (seen a.now).clock (seen b.now).clock → ⊥) → (IsBelow (seen b.now).clock (seen a.now).clock → ⊥) → seen c ≡ both_joined (seen a.now) (seen b.now)) }
 {
-    a.clock.known();
-    b.clock.known();
+    a.clock.attest();
+    b.clock.attest();
     join_by_clocks(a, b)
 }
 
@@ -78,8 +78,8 @@ pub fn paper_join(a: &PaperPair, b: &PaperPair) -> Result<PaperPair, NoMemory>
 fn join_by_clocks(a: &PaperPair, b: &PaperPair) -> Result<PaperPair, NoMemory>
     ensures { IfOk result (λ c. IsPaperJoin (seen a.now) (seen b.now) (seen c)) }
 {
-    a.clock.known();
-    b.clock.known();
+    a.clock.attest();
+    b.clock.attest();
     let a_is_at_most = a.clock.at_most(&b.clock);
     let b_is_at_most = b.clock.at_most(&a.clock);
     if a_is_at_most == b_is_at_most {

@@ -31,7 +31,7 @@ impl Lattice for Stamped {
 
     ghost joined = { ord_max stamp_cmp };
 
-    fn known(&self) {
+    fn attest(&self) {
         let (_number, _session, _place) = (self.number, self.session, self.place);
         let _bytes = self.word.as_bytes();
     }

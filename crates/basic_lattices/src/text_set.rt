@@ -48,7 +48,7 @@ impl TextSet {
         Ok(is_new)
     }
 
-    /// Adds a word behind the others, and answers whether it comes behind them in the order of words;
+    /// Adds a word after the others, and answers whether it comes after them in the order of words;
     /// else the set is left as before, and after `NoMemory` too. Takes constant time on average.
     pub fn push(&mut self, word: Word) -> Result<bool, NoMemory>
         ensures pushed { IfOk result (IsPushed IsTextSet self.old word self.new) }
@@ -97,8 +97,8 @@ impl Lattice for TextSet {
 
     ghost joined = { united };
 
-    fn known(&self) {
-        self.words.known();
+    fn attest(&self) {
+        self.words.attest();
     }
 
     fn join(&mut self, other: &TextSet) -> Result<(), NoMemory> {
@@ -158,7 +158,7 @@ mod tests {
     }
 
     #[test]
-    fn pushes_words_that_come_behind_the_others(rt: HostRuntime) -> Result<(), Fail> {
+    fn pushes_words_that_come_after_the_others(rt: HostRuntime) -> Result<(), Fail> {
         let mut set = TextSet::new(rt.alloc());
         let pushes = [
             (b"b".as_slice(), true),

@@ -104,7 +104,7 @@ impl Ord for Word {
 impl MapKey for Word {
     ghost is_key = { IsWord };
 
-    fn known(&self) {
+    fn attest(&self) {
         let _bytes = self.as_bytes();
     }
 

@@ -56,7 +56,7 @@ impl Clock {
         raise_entry(&mut self.counts, session, Count::of(n))
     }
 
-    /// Adds the count `n` of a session behind the others, and answers whether the session comes behind
+    /// Adds the count `n` of a session after the others, and answers whether the session comes after
     /// theirs and `n` is not 0; else the clock is left as before, and after `NoMemory` too. Takes constant
     /// time on average.
     pub fn push(&mut self, session: u16, n: u64) -> Result<bool, NoMemory>
@@ -126,7 +126,7 @@ impl Lattice for Clock {
 
     ghost joined = { joined_clocks };
 
-    fn known(&self) {
+    fn attest(&self) {
         let _counts = &self.counts;
     }
 
@@ -234,7 +234,7 @@ mod tests {
     }
 
     #[test]
-    fn pushes_sessions_that_come_behind_the_others(rt: HostRuntime) -> Result<(), Fail> {
+    fn pushes_sessions_that_come_after_the_others(rt: HostRuntime) -> Result<(), Fail> {
         let mut clock = Clock::new(rt.alloc());
         let pushes = [
             (2, 0, false),

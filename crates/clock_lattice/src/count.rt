@@ -50,7 +50,7 @@ impl Lattice for Count {
 
     ghost joined = { max };
 
-    fn known(&self) {
+    fn attest(&self) {
         let _number = self.number;
     }
 

@@ -59,7 +59,7 @@ impl Needs {
         raise_entry(&mut self.clocks, key, raised)
     }
 
-    /// Adds the clock of a key behind the others, and answers whether the key comes behind theirs and the
+    /// Adds the clock of a key after the others, and answers whether the key comes after theirs and the
     /// clock counts something; else the needs are left as before, and after `NoMemory` too. Takes constant
     /// time on average.
     pub fn push(&mut self, key: u16, clock: Clock) -> Result<bool, NoMemory>
@@ -127,7 +127,7 @@ impl Lattice for Needs {
 
     ghost joined = { joined_needs };
 
-    fn known(&self) {
+    fn attest(&self) {
         let _clocks = &self.clocks;
     }
 
@@ -198,7 +198,7 @@ mod tests {
     }
 
     #[test]
-    fn pushes_keys_that_come_behind_the_others(rt: HostRuntime) -> Result<(), Fail> {
+    fn pushes_keys_that_come_after_the_others(rt: HostRuntime) -> Result<(), Fail> {
         let mut needs = Needs::new(rt.alloc());
         let pushes = [
             (2, 1, 0, false),

@@ -31,7 +31,7 @@ impl SomeClock {
         ensures value { result ≡ clock }
         ensures some { IsSomeClock result }
     {
-        clock.known();
+        clock.attest();
         SomeClock { clock }
     }
 
@@ -53,7 +53,7 @@ impl Lattice for SomeClock {
 
     ghost joined = { joined_clocks };
 
-    fn known(&self) {
+    fn attest(&self) {
         let _clock = &self.clock;
     }
 

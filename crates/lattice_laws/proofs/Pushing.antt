@@ -1,4 +1,4 @@
--- Whether entries still rise with one more behind them.
+-- Whether entries still rise with one more after them.
 use Rattle.std.proofs.Common.{◌≡◌, ◌-◌, ◌<◌, IsTrue, List, [], ◌∷◌, ◌++◌, length, Some, ap, ◌∙◌, arith}
 use Rattle.std.specs.List.{slice_get}
 use Rattle.std.specs.Option.{option_map}

@@ -121,7 +121,7 @@ module _ {K P : Type 0} (cmp : K → K → Ordering) where
   below_pushed key (x ∷ es) e h g = below_cons key x (es ++ e ∷ []) (below_first key x es h) (below_pushed key es e (below_others key x es h) g)
 
   module _ (total : IsTotalOrder cmp) where
-    -- entries rise with one more behind them just where its key is above the last one's
+    -- entries rise with one more after them just where its key is above the last one's
     pub is_sorted-pushed : (es : List (K × P)) (i : ℕ) (last e : K × P) → i + 1 ≡ length es → slice_get es i ≡ Some last → IsTrue (is_sorted cmp es) → is_sorted cmp (es ++ e ∷ []) ≡ is_lt (cmp last.0 e.0)
     is_sorted-pushed [] i last e ends here rises = absurd (omega arith)
     is_sorted-pushed (x ∷ []) zero last e ends here rises =

@@ -17,7 +17,7 @@ pub record IsMap {K P : Type 0} (cmp : K → K → Ordering) (is_key : K → Typ
   pub ascending : IsTrue (is_sorted cmp entries)
   pub are_entries : All (IsEntry is_key is_value) entries
 
--- An item was added behind a list, or the list was left as it was, since with the item it would not have its form.
+-- An item was added after a list, or the list was left as it was, since with the item it would not have its form.
 abbrev pub IsPushed : {X : Type 0} → (List X → Type 0) → List X → X → List X → Bool → Type 0
 IsPushed HasForm old item new true = new ≡ old ++ item ∷ []
 IsPushed HasForm old item new false = (new ≡ old) × (HasForm (old ++ item ∷ []) → ⊥)

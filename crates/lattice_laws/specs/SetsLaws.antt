@@ -36,7 +36,7 @@ member_at {K} {M} entries i entry here =
     let key : K × Unit {0} → K = λ e. e.0 in
     slice_get-map key (map point entries) i ∙ ap (option_map key) (slice_get-map point entries i ∙ ap (option_map point) here)
 
--- the map of a set with one more member behind the others
+-- the map of a set with one more member after the others
 as_map-pushed : {K : Type 0} (members : List K) (member : K) → as_map (members ++ member ∷ []) ≡ as_map members ++ (member, tt) ∷ []
 as_map-pushed [] member = refl
 as_map-pushed (first ∷ members) member = ap (λ rest. (first, tt) ∷ rest) (as_map-pushed members member)
@@ -85,7 +85,7 @@ module _ {K : Type 0} (cmp : K → K → Ordering) where
       )
 
   module _ (is_member : K → Type 0) where
-    -- A key that was added behind a map where it comes behind the others was added to its set where that makes a set.
+    -- A key that was added after a map where it comes after the others was added to its set where that makes a set.
     pub pushed_to_set : {E : Type 0} (result : Result Bool E) (old : List (K × Unit {0})) (member : K) (new : List (K × Unit {0})) → IfOk result (IsPushed (λ entries. IsTrue (is_sorted cmp entries)) old (member, tt) new) → IfOk result (IsPushed (IsSet cmp is_member) (keys_of old) member (keys_of new))
     pushed_to_set (Ok true) old member new pushed = ap keys_of pushed ∙ keys_of-pushed old (member, tt)
     pushed_to_set (Ok false) old member new (same, refused) = (
@@ -108,7 +108,7 @@ module _ {K : Type 0} (cmp : K → K → Ordering) where
       are_members = All-map is_member (λ entry. entry.0) entries (All-weaker (IsEntry is_member (λ (_ : Unit {0}). ⊤)) (λ entry. is_member entry.0) (λ entry h. h.0) entries is.are_entries);
     }
 
-    -- what a call leaves of a set that adds a key to its map where it comes behind the others
+    -- what a call leaves of a set that adds a key to its map where it comes after the others
     pub set_after_push : {E : Type 0} (result : Result Bool E) (old : List (K × Unit {0})) (member : K) (new : List (K × Unit {0})) → IfOk result (IsPushed (λ entries. IsTrue (is_sorted cmp entries)) old (member, tt) new) → OnErr result (new ≡ old) → IsTrue (is_sorted cmp new) → is_member member → IsSet cmp is_member (keys_of old) → IsSet cmp is_member (keys_of new)
     set_after_push result old member new pushed err rises fits is =
         map_is_set new (map_after_push cmp is_member (λ (_ : Unit {0}). ⊤) result old (member, tt) new pushed err rises (fits, tt)

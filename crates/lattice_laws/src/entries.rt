@@ -42,7 +42,7 @@ pub fn raise_entry<K: MapKey, L: AllFit>(
     }
 }
 
-/// Adds an entry behind the others, and answers whether its key comes behind theirs; else the map is
+/// Adds an entry after the others, and answers whether its key comes after theirs; else the map is
 /// left as before, and after `NoMemory` too. Takes constant time on average.
 pub fn push_entry<K: MapKey, L: AllFit>(
     entries: &mut Vec<(K, L)>,
@@ -114,14 +114,14 @@ pub fn at_most_entries<K: MapKey, L: AllFit>(mine: &[(K, L)], theirs: &[(K, L)])
     found == mine.len()
 }
 
-/// The keys and values of a map are those of their types. Code calls this to learn the fact, which
-/// the laws have as their premise; the call does nothing.
-pub fn known_entries<K: MapKey, L: AllFit>(entries: &[(K, L)])
+/// Attests that the keys and values of a map are those of their types, which the laws have as their
+/// premise. Does nothing when it runs.
+pub fn attest_entries<K: MapKey, L: AllFit>(entries: &[(K, L)])
     ensures { All (IsEntry K.is_key L.is_value) (plain_entries L.plain entries.now) }
 {
     for entry in entries {
-        entry.0.known();
-        entry.1.known();
+        entry.0.attest();
+        entry.1.attest();
     }
 }
 
@@ -138,7 +138,7 @@ fn place_of<K: MapKey, L: AllFit>(entries: &[(K, L)], key: &K) -> Result<usize, 
     )
 }
 
-// Whether the key comes behind those of all entries.
+// Whether the key comes after those of all entries.
 fn comes_last<K: MapKey, L: AllFit>(entries: &[(K, L)], key: &K) -> bool
     requires { IsTrue (is_sorted K.cmp (plain_entries L.plain entries.now)) }
     ensures { (value : L.Plain) → result ≡ is_sorted K.cmp (plain_entries L.plain entries.now ++ (key.now, value) ∷ []) }
@@ -230,7 +230,7 @@ mod tests {
     use std::test::Fail;
 
     #[test]
-    fn pushes_keys_that_come_behind_the_others(rt: HostRuntime) -> Result<(), Fail> {
+    fn pushes_keys_that_come_after_the_others(rt: HostRuntime) -> Result<(), Fail> {
         let mut entries = Vec::new(rt.alloc());
         assert!(rt; push_entry(&mut entries, 3_u16, Member)?);
         assert!(rt; push_entry(&mut entries, 7, Member)?);

@@ -10,10 +10,10 @@ pub fn join_all<L: Lattice>(first: &L, rest: &[L]) -> Result<L, NoMemory>
     ensures joined { IfOk result (λ all. L.plain all ≡ joined_all L.joined (L.plain first.now) (map L.plain rest.now)) }
     ensures values { OnOk result (All L.is_value (L.plain first.now ∷ map L.plain rest.now)) }
 {
-    first.known();
+    first.attest();
     let mut all = first.copy()?;
     for each in rest {
-        each.known();
+        each.attest();
         all.join(each)?;
     }
     Ok(all)

@@ -48,9 +48,9 @@ pub trait Lattice: Sized + Drop {
 
     ghost joined: { Plain → Plain → Plain };
 
-    /// Each element's plain value is a value of the type. Code calls this to learn the fact, which
-    /// the laws have as their premise; the call does nothing.
-    fn known(&self)
+    /// Attests that the element's plain value is a value of the type, which the laws have as their
+    /// premise. Does nothing when it runs.
+    fn attest(&self)
         ensures { is_value (plain self.now) };
 
     /// Merges the other element into this one. After `NoMemory` this one is as before.

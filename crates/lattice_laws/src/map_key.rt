@@ -10,8 +10,8 @@ pub trait MapKey: Ord + Sized + Drop {
     /// Which values a key of the type can have (a `u16` is a number below 2^16).
     ghost is_key: { Self → Type 0 };
 
-    /// Each key is one that there can be. Code calls this to learn the fact; the call does nothing.
-    fn known(&self)
+    /// Attests that the key is one that there can be. Does nothing when it runs.
+    fn attest(&self)
         ensures { is_key self.now };
 
     /// An equal key.
@@ -25,7 +25,7 @@ pub trait MapKey: Ord + Sized + Drop {
 impl MapKey for u16 {
     ghost is_key = { λ n. n < 2 ^ 16 };
 
-    fn known(&self) {
+    fn attest(&self) {
         let _value = *self;
     }
 

@@ -25,10 +25,10 @@ impl<L: AllFit> Lattice for Maybe<L> {
 
     ghost joined = { joined_by L.joined };
 
-    fn known(&self) {
+    fn attest(&self) {
         match self {
             Maybe::Bottom => {}
-            Maybe::Is(value) => value.known(),
+            Maybe::Is(value) => value.attest(),
         }
     }
 

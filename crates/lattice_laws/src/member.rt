@@ -19,7 +19,7 @@ impl Lattice for Member {
 
     ghost joined = { λ _ _. tt };
 
-    fn known(&self) {}
+    fn attest(&self) {}
 
     fn join(&mut self, _other: &Member) -> Result<(), NoMemory> {
         Ok(())

@@ -21,7 +21,7 @@ pub enum Misspelled {
 /// The bytes are kept in place, so that to make, copy or move a value takes no memory.
 #[derive(Debug, Drop)]
 pub struct Spelled<const MOST: usize> {
-    // The bytes, and behind them zeros.
+    // The bytes, then zeros.
     room: [u8; MOST],
     len: usize,
 }

@@ -1,4 +1,4 @@
--- A member that is added behind an antichain leaves an antichain where it is neither below nor above one of the others.
+-- A member that is added after an antichain leaves an antichain where it is neither below nor above one of the others.
 use Rattle.std.specs.Prelude.{◌≡◌, Bool, true, false, ◌||◌, IsTrue, List, [], ◌∷◌, ◌++◌, slice_index_or, Result, IfOk, OnErr, All}
 use Rattle.std.specs.List.{list_any}
 use Rattle.std.proofs.Common.{refl, sym, ap, subst, ◌∙◌}
@@ -69,7 +69,7 @@ keys_of-points [] = refl
 keys_of-points (entry ∷ entries) = ap (λ rest. entry.0 ∷ rest) (keys_of-points entries)
 
 module _ {K M E : Type 0} (cmp : K → K → Ordering) (is_member : K → Type 0) (below : K → K → Bool) (result : Result Bool E) (old new : List (K × M)) (key : K) where
-  -- A key that was added behind entries where it comes behind theirs was added where that makes an antichain.
+  -- A key that was added after entries where it comes after theirs was added where that makes an antichain.
   pub pushed_to_antichain : (seen : List K) → keys old ≡ seen → IfOk result (IsPushed (λ entries. IsTrue (is_sorted cmp entries)) (points old) (key, tt) (points new)) → IfOk result (IsPushed (IsAntichain cmp is_member below) seen key (keys new))
   pushed_to_antichain seen seen_is pushed =
       let is_set = IsSet cmp is_member in

@@ -19,9 +19,9 @@ impl MapKey for Version {
 
     ghost is_key = { IsVersion };
 
-    fn known(&self) {
-        self.clock.known();
-        self.word.known();
+    fn attest(&self) {
+        self.clock.attest();
+        self.word.attest();
     }
 
     fn copy(&self) -> Result<Version, NoMemory>

@@ -56,13 +56,13 @@ impl Versions {
         ensures { IfOk result (λ one. one ≡ record { clock = clock; word = word } ∷ []) }
     {
         let version = Version { clock, word };
-        version.known();
+        version.attest();
         let mut versions = Vec::new(alloc);
         versions.push((version, Member))?;
         Ok(Versions { versions })
     }
 
-    /// Adds a version behind the others, and answers whether it comes behind them in the order of
+    /// Adds a version after the others, and answers whether it comes after them in the order of
     /// versions and no clock is then strictly below another; else the versions are left as before, and
     /// after `NoMemory` too. Compares the version with each of the others.
     pub fn push(&mut self, clock: Clock, word: Word) -> Result<bool, NoMemory>
@@ -73,7 +73,7 @@ impl Versions {
         if is_ordered_with(&version, self.versions.as_slice()) {
             return Ok(false);
         }
-        version.known();
+        version.attest();
         push_entry(&mut self.versions, version, Member)
     }
 
@@ -111,7 +111,7 @@ impl Lattice for Versions {
 
     ghost joined = { joined_versions };
 
-    fn known(&self) {
+    fn attest(&self) {
         let _versions = &self.versions;
     }
 
@@ -209,7 +209,7 @@ mod tests {
     }
 
     fn one(alloc: Global, counts: &[(u16, u64)], word: &[u8]) -> Result<Versions, Fail> {
-        Ok(Versions::one(alloc, clock_of(alloc, counts)?, Word::of(alloc, word)?)?)
+        Ok(Versions::one(alloc, clock_of(alloc, counts)?, Word::of(word)?)?)
     }
 
     // The join of the one-version registers, in the order given.
@@ -267,7 +267,7 @@ mod tests {
     }
 
     #[test]
-    fn pushes_what_comes_behind_the_others_and_is_not_ordered_with_them(
+    fn pushes_what_comes_after_the_others_and_is_not_ordered_with_them(
         rt: HostRuntime,
     ) -> Result<(), Fail> {
         let pushes: [(&[(u16, u64)], &[u8], bool); 7] = [
@@ -282,7 +282,7 @@ mod tests {
         let mut all = Versions::new(rt.alloc());
         for (counts, word, is_pushed) in pushes {
             let clock = clock_of(rt.alloc(), counts)?;
-            assert_eq!(rt; all.push(clock, Word::of(rt.alloc(), word)?)?, is_pushed);
+            assert_eq!(rt; all.push(clock, Word::of(word)?)?, is_pushed);
         }
         let kept: [(&[(u16, u64)], &[u8]); 3] = [
             (&[(1, 1), (2, 2)], b"blue"),

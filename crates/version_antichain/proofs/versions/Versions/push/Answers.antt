@@ -18,7 +18,7 @@ push_entry-requires c = sorted_slice version_cmp c.self.inside.versions.items c.
 pub invariant_of-self : goal.invariant_of-self
 invariant_of-self c =
     antichain_after_push version_cmp IsVersion is_below c.push_entry.result _ c.push_entry.new.entries.items _ below_order c.as_slice.result.now c.as_slice.ensures.value (sym c.is_ordered_with.ensures ∙ c.if-is_ordered_with.false)
-    c.push_entry.ensures.pushed c.push_entry.ensures.err c.push_entry.ensures.ascending c.known.ensures c.self.invariant
+    c.push_entry.ensures.pushed c.push_entry.ensures.err c.push_entry.ensures.ascending c.attest.ensures c.self.invariant
 
 pub returns-clause-pushed : goal.returns-clause-pushed
 returns-clause-pushed c = pushed_to_antichain version_cmp IsVersion is_below c.push_entry.result _ c.push_entry.new.entries.items _ c.args.self.now c.self.view_is c.push_entry.ensures.pushed

@@ -1,6 +1,6 @@
 use Rattle.std.proofs.Common.{All, take}
 use Rattle.lattice_laws.specs.Entries.{IsEntry}
-use Rattle.lattice_laws.proofs.entries.known_entries.Given as goal
+use Rattle.lattice_laws.proofs.entries.attest_entries.Given as goal
 
 -- the entries so far are entries
 abbrev pub invariant-loop-entry : goal.invariant-loop-entry
