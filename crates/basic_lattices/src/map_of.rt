@@ -1,8 +1,8 @@
 //! Maps whose values merge key by key.
-ghost use Rattle.std.specs.Prelude.{◌≡◌, [], length, slice_get, IfOk, IsTrue, OnOk, OnErr, List, ⊤};
+ghost use Rattle.std.specs.Prelude.{◌≡◌, ◌↔◌, [], length, slice_get, IfOk, IsTrue, OnOk, OnErr, List, ⊤};
 ghost use Rattle.std.specs.Option.{option_map};
 ghost use Rattle.std.specs.FinMap.{find, is_sorted};
-ghost use Rattle.lattice_laws.specs.Entries.{plain_entries, raised, joined_maps, IsMap, IsPushed};
+ghost use Rattle.lattice_laws.specs.Entries.{plain_entries, raised, joined_maps, IsMap, IsPushed, JoinsPerKey};
 ghost use Rattle.lattice_laws.specs.EntriesLaws.{map_laws, map_associative};
 
 use crate::{MaxNum, Word};
@@ -77,6 +77,13 @@ impl<K: MapKey, L: AllFit> MapOf<K, L> {
         self.entries.len()
     }
 
+    /// Whether there is no key. Takes no memory.
+    pub fn is_empty(&self) -> bool
+        ensures { IsTrue result ↔ (self.now ≡ []) }
+    {
+        self.entries.is_empty()
+    }
+
     /// The entry at place `i`, counted from 0 in the order of the keys, and nothing past the last.
     /// Takes no memory.
     pub fn at(&self, i: usize) -> Option<(&K, &L)>
@@ -86,6 +93,12 @@ impl<K: MapKey, L: AllFit> MapOf<K, L> {
         Some((&entry.0, &entry.1))
     }
 }
+
+/// A join of two maps has at each key the join of what stands there in both, where a key that is not
+/// there stands below every value; and maps with the same at each key are one.
+pub fn maps_join_per_key<K: MapKey, L: AllFit>()
+    ensures { JoinsPerKey K.cmp L.joined (IsMap K.cmp K.is_key L.is_value) }
+{}
 
 impl<K: MapKey, L: AllFit> Lattice for MapOf<K, L> {
     ghost Plain = { List (K × L.Plain) };

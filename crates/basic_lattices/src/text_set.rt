@@ -1,5 +1,5 @@
 //! Sets of words.
-ghost use Rattle.std.specs.Prelude.{◌≡◌, ◌||◌, List, [], ℕ, length, not, slice_get, OnOk, OnErr, IfOk, ⊤};
+ghost use Rattle.std.specs.Prelude.{◌≡◌, ◌↔◌, ◌||◌, List, [], ℕ, length, not, slice_get, IsTrue, OnOk, OnErr, IfOk, ⊤};
 ghost use Rattle.std.specs.Option.{option_map};
 ghost use Rattle.lattice_laws.specs.Entries.{IsPushed};
 ghost use Rattle.basic_lattices.specs.TextSet.{IsTextSet, has, with_word, united};
@@ -69,6 +69,13 @@ impl TextSet {
         ensures { result ≡ length self.now }
     {
         self.words.len()
+    }
+
+    /// Whether there is no word. Takes no memory.
+    pub fn is_empty(&self) -> bool
+        ensures { IsTrue result ↔ (self.now ≡ []) }
+    {
+        self.words.is_empty()
     }
 
     /// The word at place `i`, counted from 0 in the order of the words, and nothing past the last.

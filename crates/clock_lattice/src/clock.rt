@@ -1,5 +1,5 @@
 //! Vector clocks.
-ghost use Rattle.std.specs.Prelude.{◌≡◌, List, [], ℕ, length, slice_get, refl, IfOk, OnOk, OnErr, ⊤};
+ghost use Rattle.std.specs.Prelude.{◌≡◌, ◌↔◌, List, [], ℕ, length, slice_get, refl, IsTrue, IfOk, OnOk, OnErr, ⊤};
 ghost use Rattle.lattice_laws.specs.Entries.{IsPushed};
 ghost use Rattle.clock_lattice.specs.Clock.{IsClock, count_of, joined_clocks, one_count, covers};
 ghost use Rattle.clock_lattice.specs.ClockLaws.{clock_laws, clock_associative};
@@ -103,6 +103,13 @@ impl Clock {
         ensures { result ≡ length self.now }
     {
         self.counts.len()
+    }
+
+    /// Whether nothing is counted. Takes no memory.
+    pub fn is_empty(&self) -> bool
+        ensures { IsTrue result ↔ (self.now ≡ []) }
+    {
+        self.counts.is_empty()
     }
 
     /// The session and count at place `i`, counted from 0 in the order of the sessions, and nothing

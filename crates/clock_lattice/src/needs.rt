@@ -1,5 +1,5 @@
 //! Causal dependencies: a clock for each key.
-ghost use Rattle.std.specs.Prelude.{◌≡◌, List, [], ℕ, length, slice_get, IfOk, OnOk, OnErr, ⊤};
+ghost use Rattle.std.specs.Prelude.{◌≡◌, ◌↔◌, List, [], ℕ, length, slice_get, IsTrue, IfOk, OnOk, OnErr, ⊤};
 ghost use Rattle.std.specs.Option.{option_map};
 ghost use Rattle.std.specs.Ordering.{nat_cmp};
 ghost use Rattle.std.specs.FinMap.{find};
@@ -52,7 +52,7 @@ impl Needs {
         ensures ok { OnOk result (self.new ≡ joined_needs self.old (one_need key clock.now)) }
         ensures err { OnErr result (self.new ≡ self.old) }
     {
-        if clock.len() == 0 {
+        if clock.is_empty() {
             return Ok(());
         }
         let raised = SomeClock::of(clock.copy()?);
@@ -66,11 +66,10 @@ impl Needs {
         ensures pushed { IfOk result (IsPushed IsNeeds self.old (key, clock) self.new) }
         ensures err { OnErr result (self.new ≡ self.old) }
     {
-        if clock.len() > 0 {
-            push_entry(&mut self.clocks, key, SomeClock::of(clock))
-        } else {
-            Ok(false)
+        if clock.is_empty() {
+            return Ok(false);
         }
+        push_entry(&mut self.clocks, key, SomeClock::of(clock))
     }
 
     /// The join of two needs: at each key the join of the two clocks.
@@ -104,6 +103,13 @@ impl Needs {
         ensures { result ≡ length self.now }
     {
         self.clocks.len()
+    }
+
+    /// Whether no key has a clock. Takes no memory.
+    pub fn is_empty(&self) -> bool
+        ensures { IsTrue result ↔ (self.now ≡ []) }
+    {
+        self.clocks.is_empty()
     }
 
     /// The key and clock at place `i`, counted from 0 in the order of the keys, and nothing past the

@@ -36,7 +36,12 @@ with_old joined (Some old) value = joined old value
 abbrev pub raised : {K P : Type 0} → (K → K → Ordering) → (P → P → P) → K → P → List (K × P) → List (K × P)
 raised cmp joined key value entries = put cmp key (with_old joined (find cmp key entries) value) entries
 
--- the join of two maps, computed by raising the first by each entry of the second; `IsJoin` says what it is
+-- the join of two maps, computed by raising the first by each entry of the second; `JoinsPerKey` says what it is
 abbrev pub joined_maps : {K P : Type 0} → (K → K → Ordering) → (P → P → P) → List (K × P) → List (K × P) → List (K × P)
 joined_maps cmp joined a [] = a
 joined_maps cmp joined a (entry ∷ b) = joined_maps cmp joined (raised cmp joined entry.0 entry.1 a) b
+
+-- Maps are told by what stands at each key: a join of two has at each key the join of what stands there in both, and two with the same at each key are one.
+pub record JoinsPerKey {K P : Type 0} (cmp : K → K → Ordering) (joined : P → P → P) (is_map : List (K × P) → Type 0) : Type 0 where
+  pub is_join : (a b : List (K × P)) → is_map a → is_map b → IsJoin cmp joined a b (joined_maps cmp joined a b)
+  pub same : (a b : List (K × P)) → is_map a → is_map b → ((q : K) → find cmp q a ≡ find cmp q b) → a ≡ b

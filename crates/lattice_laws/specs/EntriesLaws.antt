@@ -12,7 +12,7 @@ use Rattle.std.specs.FinMap.Entries.{find-put, find_tied, same_entries, by_order
 use Rattle.lattice_laws.specs.Lattice.{LatticeLaws, Associative}
 use Rattle.lattice_laws.specs.Maybe.{IsValue, joined_by}
 use Rattle.lattice_laws.specs.MaybeLaws.{maybe_laws, maybe_associative}
-use Rattle.lattice_laws.specs.Entries.{plain_entries, IsEntry, IsMap, IsPushed, IsJoin, with_old, raised, joined_maps}
+use Rattle.lattice_laws.specs.Entries.{plain_entries, IsEntry, IsMap, IsPushed, IsJoin, JoinsPerKey, with_old, raised, joined_maps}
 use Rattle.lattice_laws.specs.Ascending.{pass_from_true, first_below, ascending_tail, find_below, below_tied, joined_ascending}
 
 -- the one order that passes the test
@@ -139,6 +139,13 @@ module _ {K P : Type 0} {cmp : K → K → Ordering} {is_value : P → Type 0} {
   -- maps that agree at each key are equal
   pub same_from_keys : (a b : List (K × P)) → IsMap cmp is_key is_value a → IsMap cmp is_key is_value b → ((q : K) → find cmp q a ≡ find cmp q b) → a ≡ b
   same_from_keys a b ma mb agree = same_entries cmp total exact a b (pass_from_true _ ma.ascending) (pass_from_true _ mb.ascending) agree
+
+  -- so maps are told by what stands at each key
+  pub maps_join_per_key : JoinsPerKey cmp joined (IsMap cmp is_key is_value)
+  maps_join_per_key = record {
+    is_join = λ a b ma mb. joined_maps_is_join joined total a b ma.ascending mb.ascending;
+    same = same_from_keys;
+  }
 
   -- maps keep the laws of their values
   pub map_laws : LatticeLaws (IsMap cmp is_key is_value) (λ _ _. ⊤) (joined_maps cmp joined)

@@ -13,6 +13,11 @@ pub record IsStrictOrder {E : Type 0} (below : E → E → Bool) : Type 0 where
 abbrev pub maximal : {E : Type 0} → (E → E → Bool) → List E → List E
 maximal below members = filter (λ x. not (list_any (below x) members)) members
 
+-- The maximal members of the maximal members of one set and of another set are those of both sets.
+abbrev pub MaximalOfMaximal : {E : Type 0} → (E → E → Ordering) → (E → Type 0) → (E → E → Bool) → Type 0
+MaximalOfMaximal {E} cmp is_member below =
+    (a b : List E) → IsSet cmp is_member a → IsSet cmp is_member b → maximal below (united cmp (maximal below a) b) ≡ maximal below (united cmp a b)
+
 -- a set of which no member is below another
 pub record IsAntichain {E : Type 0} (cmp : E → E → Ordering) (is_member : E → Type 0) (below : E → E → Bool) (members : List E) : Type 0 where
   pub is_set : IsSet cmp is_member members

@@ -9,12 +9,15 @@
 //!
 //! The laws hold for antichains in any strict partial order (`specs/AntichainLaws.antt`): the maximal
 //! members of the maximal members of one set and of another set are those of both sets, which
-//! [`maximal_of_maximal`] carries for versions. Contracts see versions as a list in order; the crate
-//! offers the words of `specs/Version.antt` and `specs/Versions.antt` to the layers above.
+//! [`maximal_of_maximal_in_any_order`] carries, and [`maximal_of_maximal`] for versions. Contracts see
+//! versions as a list in order; the crate offers the words of `specs/Version.antt` and
+//! `specs/Versions.antt` to the layers above.
 #![tactic(auto)]
 
+mod antichain;
 mod version;
 mod versions;
 
+pub use antichain::maximal_of_maximal_in_any_order;
 pub use version::Version;
 pub use versions::{Versions, maximal_of_maximal};

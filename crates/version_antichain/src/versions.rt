@@ -4,10 +4,9 @@ ghost use Rattle.std.specs.List.{list_any, list_all};
 ghost use Rattle.std.specs.Option.{option_map};
 ghost use Rattle.std.specs.Ordering.{eq_by_cmp};
 ghost use Rattle.lattice_laws.specs.Entries.{IsPushed};
-ghost use Rattle.lattice_laws.specs.Sets.{IsSet, united};
 ghost use Rattle.clock_lattice.specs.Clock as clocks;
 ghost use Rattle.version_antichain.specs.declared.version.Version.{Version};
-ghost use Rattle.version_antichain.specs.Antichain.{maximal};
+ghost use Rattle.version_antichain.specs.Antichain.{maximal, MaximalOfMaximal};
 ghost use Rattle.version_antichain.specs.Version.{IsVersion, version_cmp, is_below};
 ghost use Rattle.version_antichain.specs.Versions.{IsVersions, joined_versions};
 ghost use Rattle.version_antichain.specs.VersionsLaws.{versions_laws, versions_associative};
@@ -84,6 +83,13 @@ impl Versions {
         self.versions.len()
     }
 
+    /// Whether there is no version. Takes no memory.
+    pub fn is_empty(&self) -> bool
+        ensures { IsTrue result ↔ (self.now ≡ []) }
+    {
+        self.versions.is_empty()
+    }
+
     /// The clock and word of the version at place `i`, counted from 0 in the order of the versions,
     /// and nothing past the last. Takes no memory.
     pub fn at(&self, i: usize) -> Option<(&Clock, &Word)>
@@ -97,7 +103,7 @@ impl Versions {
 /// The maximal versions of the maximal versions of one set and of another set are those of both sets:
 /// what was overtaken once stays so, whatever is merged first.
 pub fn maximal_of_maximal()
-    ensures { (a b : List Version) → IsSet version_cmp IsVersion a → IsSet version_cmp IsVersion b → maximal is_below (united version_cmp (maximal is_below a) b) ≡ maximal is_below (united version_cmp a b) }
+    ensures { MaximalOfMaximal version_cmp IsVersion is_below }
 {}
 
 impl Lattice for Versions {
