@@ -9,7 +9,3 @@ pub mod Numbered
 pub mod Requests
 pub mod Script
 pub mod Session
-pub mod Spoilt
-pub mod Worked
-pub mod WorkedLaws
-pub mod WorkedPlaces

@@ -7,10 +7,10 @@
 //! report accepts, `specs/Form.antt` when a report has a script's form, `specs/Lawful.antt` which answers
 //! are lawful, `specs/Legal.antt` which reports are legal, and `specs/Requests.antt` what a session sends.
 //!
-//! That they mean something is carried by functions that do nothing: [`worked_reports_are_legal`] and
-//! [`changed_reports_are_refused`] have examples, and [`accepted_puts_are_numbered`],
-//! [`final_cells_agree`], [`replies_count_accepted_puts`] and [`causal_replies_cover_earlier_ones`] what
-//! holds of every legal report.
+//! What holds of every legal report is carried by functions that do nothing:
+//! [`accepted_puts_are_numbered`], [`final_cells_agree`], [`replies_count_accepted_puts`] and
+//! [`causal_replies_cover_earlier_ones`]. Examples, legal and not, are those of the crate
+//! `worked_reports`.
 //!
 //! [`Known`] is what a running session keeps between its lines: it follows `specs/Session.antt` step by
 //! step, so that whoever runs a session with it can say what was known at each line.
@@ -22,7 +22,6 @@ mod known;
 mod laws;
 mod report;
 mod script;
-mod worked;
 
 pub use known::Known;
 pub use laws::{
@@ -31,4 +30,3 @@ pub use laws::{
 };
 pub use report::{Answer, FinalCell, Report, Shown};
 pub use script::{Level, Line, Script, SessionPlan};
-pub use worked::{changed_reports_are_refused, worked_reports_are_legal};

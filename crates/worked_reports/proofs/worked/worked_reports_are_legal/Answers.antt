@@ -1,7 +1,7 @@
-use Rattle.session_known.specs.Worked.{first_script, first_table, first_report, home_script, home_table, home_report, commit_script, commit_table, commit_report, causal_script, causal_table, causal_report}
-use Rattle.session_known.specs.WorkedLaws.{first_is_legal, home_is_legal, commit_is_legal, causal_is_legal}
-use Rattle.session_known.specs.WorkedPlaces.{first_placed, home_placed, commit_placed, causal_placed, first_is_valid, home_is_valid, commit_is_valid, causal_is_valid, valid_and_legal}
-use Rattle.session_known.proofs.worked.worked_reports_are_legal.Goals as goal
+use Rattle.worked_reports.specs.Worked.{first_script, first_table, first_report, home_script, home_table, home_report, commit_script, commit_table, commit_report, causal_script, causal_table, causal_report}
+use Rattle.worked_reports.proofs.LegalLemmas.{first_is_legal, home_is_legal, commit_is_legal, causal_is_legal}
+use Rattle.worked_reports.proofs.PlacesLemmas.{first_placed, home_placed, commit_placed, causal_placed, first_is_valid, home_is_valid, commit_is_valid, causal_is_valid, valid_and_legal}
+use Rattle.worked_reports.proofs.worked.worked_reports_are_legal.Goals as goal
 
 pub returns-clause-first : goal.returns-clause-first
 returns-clause-first c table placed each = valid_and_legal first_script first_report first_table table (first_placed table each) first_is_valid first_is_legal placed

@@ -12,7 +12,7 @@ use Rattle.placement.specs.Config.{IsWorker, ArePins, IsPlacement, EachHasReplic
 use Rattle.placement.specs.declared.config.KeyPlace.{KeyPlace}
 use Rattle.session_known.specs.Legal.{IsLegalAt, IsLegal}
 use Rattle.session_known.specs.Script.{MayStand, AreEnded, IsValidSession, IsValidScript}
-use Rattle.session_known.specs.Worked.{first_script, first_table, home_script, home_table, commit_script, commit_table, causal_script, causal_table}
+use Rattle.worked_reports.specs.Worked.{first_script, first_table, home_script, home_table, commit_script, commit_table, causal_script, causal_table}
 use Rattle.session_known.specs.declared.report.Report.{Report}
 use Rattle.session_known.specs.declared.script.Script.{Script}
 use Rattle.session_known.specs.declared.script.SessionPlan.{SessionPlan}

@@ -34,7 +34,7 @@ use Rattle.session_known.specs.Form.{NamesSessions, IsClockIn, AreNeedsIn, IsFin
 use Rattle.session_known.specs.Lawful.{last_lamport}
 use Rattle.session_known.specs.Legal.{IsLawfulFinal, IsLegalAt}
 use Rattle.session_known.specs.Script.{IsOneOf}
-use Rattle.session_known.specs.Worked.{first_script, first_table, first_report, home_script, home_table, home_report, red, commit_script, commit_table, commit_report, causal_script, causal_table, causal_report}
+use Rattle.worked_reports.specs.Worked.{first_script, first_table, first_report, home_script, home_table, home_report, red, commit_script, commit_table, commit_report, causal_script, causal_table, causal_report}
 use Rattle.session_known.specs.declared.script.Script.{Script}
 
 -- what is less is not equal

@@ -1,20 +1,9 @@
--- Changed reports of the worked scripts, each with the condition that refuses it.
-use Rattle.std.specs.Prelude.{◌≡◌, ℕ, ◌<◌, ◌≤◌, true, false, List, [], ◌∷◌, Some, None, slice_index_or, codes}
-use Rattle.std.proofs.Common.{refl, ap, inl, inr, arith, lit<}
-use Rattle.std.proofs.lemmas.List.Elements.{recursion_from_All}
-use Rattle.lattice_laws.specs.Members.{contains_none, contains_cases}
+-- Reports that differ from the worked ones in one thing each.
+use Rattle.std.specs.Prelude.{true, [], ◌∷◌, Some, None, codes}
 use Rattle.lattice_laws.specs.declared.maybe.Maybe.TheVariants.{Is, Bottom}
-use Rattle.clock_lattice.specs.Clock.{count_of}
-use Rattle.composed_value.specs.Sound.{puts_on}
-use Rattle.composed_value.specs.declared.kind.Kind.TheVariants as kinds
 use Rattle.composed_value.specs.declared.payload.Payload.TheVariants as payloads
-use Rattle.composed_value.specs.declared.put.Put.{Put}
 use Rattle.composed_value.specs.declared.value.Value.TheVariants as values
-use Rattle.session_known.specs.Accepted.{accepted}
-use Rattle.session_known.specs.Lawful.{last_lamport}
-use Rattle.session_known.specs.Legal.{IsLegalAt}
-use Rattle.session_known.specs.Worked.{first_script, first_table, first_report, first_cell, first_final, home_script, home_table, home_report, home_cell_one, home_cell_both, home_final, commit_script, commit_table, commit_report, red, commit_cell, commit_final_a, commit_final_l, causal_script, causal_table, causal_report, causal_cell_a, causal_cell_b, causal_final_a, causal_final_b}
-use Rattle.session_known.specs.WorkedLaws.{below_differs}
+use Rattle.worked_reports.specs.Worked.{first_report, first_cell, first_final, home_script, home_report, home_cell_one, home_cell_both, home_final, commit_script, commit_report, red, commit_cell, commit_final_a, commit_final_l, causal_report, causal_cell_a, causal_cell_b, causal_final_a, causal_final_b}
 use Rattle.session_known.specs.declared.report.Answer.TheVariants as answers
 use Rattle.session_known.specs.declared.report.Report.{Report}
 use Rattle.session_known.specs.declared.script.Level.TheVariants.{Eventual, Committed}
@@ -28,32 +17,20 @@ put_numbered_zero = record {
   finals = record first_final { clock = (1, 1) ∷ [] } ∷ [];
 }
 
-pub put_numbered_zero_is_refused : IsLegalAt first_table first_script put_numbered_zero → ⊥
-put_numbered_zero_is_refused legal = let wrong : 0 ≡ 1 = legal.answers.0.0.number_is in omega (arith, wrong)
-
--- The second put stands at 3, behind one at 1.
+-- The second put stands at 3, after one at 1.
 abbrev pub put_at_a_later_lamport : Report
 put_at_a_later_lamport = record {
   answers = (answers.Put 1 1 ∷ answers.Put 2 3 ∷ answers.Got 1 (record first_cell { top = 3 }) ∷ []) ∷ [];
   finals = record first_final { top = 3 } ∷ [];
 }
 
-pub put_at_a_later_lamport_is_refused : IsLegalAt first_table first_script put_at_a_later_lamport → ⊥
-put_at_a_later_lamport_is_refused legal = let wrong : 3 ≡ 2 = legal.answers.0.1.0.lamport_is in omega (arith, wrong)
-
 -- The first get is answered by worker 1, where the session's home is worker 2.
 abbrev pub get_by_another_worker : Report
 get_by_another_worker = record home_report { answers = (answers.Put 1 1 ∷ answers.Got 1 home_cell_one ∷ answers.Put 2 2 ∷ answers.Got 2 home_cell_both ∷ []) ∷ [] }
 
-pub get_by_another_worker_is_refused : IsLegalAt home_table home_script get_by_another_worker → ⊥
-get_by_another_worker_is_refused legal = let wrong : 1 ≡ 2 = legal.answers.0.1.0.worker_is in omega (arith, wrong)
-
 -- The first get counts the put that its session makes after it.
 abbrev pub get_of_a_later_put : Report
 get_of_a_later_put = record home_report { answers = (answers.Put 1 1 ∷ answers.Got 2 home_cell_both ∷ answers.Put 2 2 ∷ answers.Got 2 home_cell_both ∷ []) ∷ [] }
-
-pub get_of_a_later_put_is_refused : IsLegalAt home_table home_script get_of_a_later_put → ⊥
-get_of_a_later_put_is_refused legal = let wrong : 2 ≤ 1 = legal.answers.0.1.0.no_later_put in omega (arith, wrong)
 
 -- The home script with its gets of worker 1, which is not the session's home.
 --     put a x
@@ -73,9 +50,6 @@ away_script = record home_script {
 abbrev pub get_of_a_later_put_away : Report
 get_of_a_later_put_away = record home_report { answers = (answers.Put 1 1 ∷ answers.Got 1 home_cell_both ∷ answers.Put 2 2 ∷ answers.Got 1 home_cell_both ∷ []) ∷ [] }
 
-pub get_of_a_later_put_away_is_refused : IsLegalAt home_table away_script get_of_a_later_put_away → ⊥
-get_of_a_later_put_away_is_refused legal = let wrong : 2 ≤ 1 = legal.answers.0.1.0.no_later_put in omega (arith, wrong)
-
 -- There the second get is answered with the empty cell, by a worker that has shown a put before.
 abbrev pub get_below_an_earlier_one : Report
 get_below_an_earlier_one = record home_report {
@@ -84,17 +58,11 @@ get_below_an_earlier_one = record home_report {
       ∷ answers.Got 1 (record { clock = []; top = 0; value = values.Set []; needs = None }) ∷ []) ∷ [];
 }
 
-pub get_below_an_earlier_one_is_refused : IsLegalAt home_table away_script get_below_an_earlier_one → ⊥
-get_below_an_earlier_one_is_refused legal = let wrong : false ≡ true = legal.answers.0.1.1.1.0.clock_is.covers_earlier 0 [] (lit< tt) in (cc)
-
 -- The second get is answered at home, and counts one of the two puts made before it.
 abbrev pub get_of_too_few_at_home : Report
 get_of_too_few_at_home = record home_report { answers = (answers.Put 1 1 ∷ answers.Got 2 home_cell_one ∷ answers.Put 2 2 ∷ answers.Got 2 home_cell_one ∷ []) ∷ [] }
 
-pub get_of_too_few_at_home_is_refused : IsLegalAt home_table home_script get_of_too_few_at_home → ⊥
-get_of_too_few_at_home_is_refused legal = let wrong : 1 ≡ 2 = legal.answers.0.1.1.1.0.clock_is.own_at_home refl in omega (arith, wrong)
-
--- The await of one put of s on a is answered with the empty cell, and what follows is as it would be behind that.
+-- The await of one put of s on a is answered with the empty cell, and what follows is as it would be after that.
 abbrev pub await_of_too_few : Report
 await_of_too_few = record {
   answers =
@@ -103,29 +71,17 @@ await_of_too_few = record {
   finals = record causal_final_a { top = 2 } ∷ record causal_final_b { top = 1 } ∷ [];
 }
 
-pub await_of_too_few_is_refused : IsLegalAt causal_table causal_script await_of_too_few → ⊥
-await_of_too_few_is_refused legal = let wrong : false ≡ true = legal.answers.1.0.0.covers_required in (cc)
-
 -- The get shows 3, where the greatest of the counted puts is 5.
 abbrev pub value_of_fewer_puts : Report
 value_of_fewer_puts = record first_report { answers = (answers.Put 1 1 ∷ answers.Put 2 2 ∷ answers.Got 1 (record first_cell { value = values.Max (Is 3) }) ∷ []) ∷ [] }
-
-pub value_of_fewer_puts_is_refused : IsLegalAt first_table first_script value_of_fewer_puts → ⊥
-value_of_fewer_puts_is_refused legal = let wrong : 5 ≤ 3 = legal.true_of_puts.0.1.1.0.sound.value_is.1 5 (0, lit< tt, refl) in omega (arith, wrong)
 
 -- The get shows top 1, where the second of the counted puts stands at 2.
 abbrev pub top_of_fewer_puts : Report
 top_of_fewer_puts = record first_report { answers = (answers.Put 1 1 ∷ answers.Put 2 2 ∷ answers.Got 1 (record first_cell { top = 1 }) ∷ []) ∷ [] }
 
-pub top_of_fewer_puts_is_refused : IsLegalAt first_table first_script top_of_fewer_puts → ⊥
-top_of_fewer_puts_is_refused legal = let wrong : 2 ≤ 1 = legal.true_of_puts.0.1.1.0.sound.top_is.0 2 (1, lit< tt, refl) in omega (arith, wrong)
-
 -- The final cell counts three puts, where two were accepted.
 abbrev pub clock_of_more_than_accepted : Report
 clock_of_more_than_accepted = record first_report { finals = record first_final { clock = (1, 3) ∷ [] } ∷ [] }
-
-pub clock_of_more_than_accepted_is_refused : IsLegalAt first_table first_script clock_of_more_than_accepted → ⊥
-clock_of_more_than_accepted_is_refused legal = let wrong : 3 ≤ 2 = (legal.finals 0 first_final (lit< tt)).sound.counts 1 in omega (arith, wrong)
 
 -- The await of t's put shows no needs, where that put needs the first put of s.
 abbrev pub needs_of_fewer : Report
@@ -135,60 +91,33 @@ needs_of_fewer = record causal_report {
       ∷ (answers.Got 1 causal_cell_a ∷ answers.Put 1 2 ∷ []) ∷ [];
 }
 
-pub needs_of_fewer_are_refused : IsLegalAt causal_table causal_script needs_of_fewer → ⊥
-needs_of_fewer_are_refused legal = let wrong : 1 ≤ 0 = (legal.true_of_puts.0.1.0.needs 1 1).0 1 (0, lit< tt, refl) in omega (arith, wrong)
-
 -- The final cell counts the first put alone.
 abbrev pub final_of_fewer_puts : Report
 final_of_fewer_puts = record first_report { finals = record first_final { clock = (1, 1) ∷ []; top = 1 } ∷ [] }
-
-pub final_of_fewer_puts_is_refused : IsLegalAt first_table first_script final_of_fewer_puts → ⊥
-final_of_fewer_puts_is_refused legal =
-    let each = recursion_from_All (λ (put : Put). put.number ≤ count_of put.session ((1, 1) ∷ [])) (puts_on 1 (accepted first_script first_report)) (legal.finals 0 first_final (lit< tt)).counts_all in
-    let wrong : 2 ≤ 1 = each.1.0 in
-    omega (arith, wrong)
 
 -- The first put of an eventual session is held.
 abbrev pub held_in_an_eventual_session : Report
 held_in_an_eventual_session = record first_report { answers = (answers.Held ∷ answers.Put 1 1 ∷ answers.Got 1 first_cell ∷ []) ∷ [] }
 
-pub held_in_an_eventual_session_is_refused : IsLegalAt first_table first_script held_in_an_eventual_session → ⊥
-held_in_an_eventual_session_is_refused legal = let wrong : Eventual ≡ Committed = legal.form.answers.0.0 in (cc)
-
 -- The first put has the answer of a begin.
 abbrev pub answer_of_another_line : Report
 answer_of_another_line = record first_report { answers = (answers.Begun ∷ answers.Put 2 2 ∷ answers.Got 1 first_cell ∷ []) ∷ [] }
-
-pub answer_of_another_line_is_refused : IsLegalAt first_table first_script answer_of_another_line → ⊥
-answer_of_another_line_is_refused legal = legal.form.answers.0.0
 
 -- The get of an eventual session shows needs.
 abbrev pub needs_in_an_eventual_session : Report
 needs_in_an_eventual_session = record first_report { answers = (answers.Put 1 1 ∷ answers.Put 2 2 ∷ answers.Got 1 (record first_cell { needs = Some [] }) ∷ []) ∷ [] }
 
-pub needs_in_an_eventual_session_are_refused : IsLegalAt first_table first_script needs_in_an_eventual_session → ⊥
-needs_in_an_eventual_session_are_refused legal = legal.form.answers.0.1.1.0.needs_are
-
 -- The final cell of a key of kind max shows a flag.
 abbrev pub value_of_another_kind : Report
 value_of_another_kind = record first_report { finals = record first_final { value = values.Or true } ∷ [] }
-
-pub value_of_another_kind_is_refused : IsLegalAt first_table first_script value_of_another_kind → ⊥
-value_of_another_kind_is_refused legal = let wrong : kinds.Or ≡ kinds.Max = (legal.form.finals 0 first_final (lit< tt)).value_is.of_kind in (cc)
 
 -- The final cell of worker 2 stands before that of worker 1.
 abbrev pub finals_in_another_order : Report
 finals_in_another_order = record home_report { finals = home_final 2 ∷ home_final 1 ∷ [] }
 
-pub finals_in_another_order_are_refused : IsLegalAt home_table home_script finals_in_another_order → ⊥
-finals_in_another_order_are_refused legal = let wrong : 2 ≡ 1 = ap (λ (places : List (ℕ × ℕ)). (slice_index_or places 0 (0, 0)).1) legal.form.places in omega (arith, wrong)
-
 -- The get has no answer.
 abbrev pub answers_too_few : Report
 answers_too_few = record first_report { answers = (answers.Put 1 1 ∷ answers.Put 2 2 ∷ []) ∷ [] }
-
-pub answers_too_few_are_refused : IsLegalAt first_table first_script answers_too_few → ⊥
-answers_too_few_are_refused legal = legal.form.answers.0.1.1
 
 -- The commit says one put, where two are held.
 abbrev pub commit_of_too_few : Report
@@ -198,9 +127,6 @@ commit_of_too_few = record commit_report {
       ∷ answers.Begun ∷ answers.Held ∷ answers.Held ∷ answers.Committed 1 1 ∷ answers.Got 1 commit_cell ∷ []) ∷ [];
 }
 
-pub commit_of_too_few_is_refused : IsLegalAt commit_table commit_script commit_of_too_few → ⊥
-commit_of_too_few_is_refused legal = let wrong : 1 ≡ 2 = legal.answers.0.1.1.1.1.1.1.1.0.puts_are in omega (arith, wrong)
-
 -- The abort says one put, where two are held.
 abbrev pub abort_of_too_few : Report
 abort_of_too_few = record commit_report {
@@ -209,18 +135,12 @@ abort_of_too_few = record commit_report {
       ∷ answers.Begun ∷ answers.Held ∷ answers.Held ∷ answers.Committed 2 1 ∷ answers.Got 1 commit_cell ∷ []) ∷ [];
 }
 
-pub abort_of_too_few_is_refused : IsLegalAt commit_table commit_script abort_of_too_few → ⊥
-abort_of_too_few_is_refused legal = let wrong : 1 ≡ 2 = legal.answers.0.1.1.1.0.1 in omega (arith, wrong)
-
 -- The first put is answered as worn, while its session's Lamport number is 0.
 abbrev pub worn_while_numbers_are_left : Report
 worn_while_numbers_are_left = record {
   answers = (answers.Worn ∷ answers.Put 1 1 ∷ answers.Got 1 (record first_cell { clock = (1, 1) ∷ []; top = 1; value = values.Max (Is 3) }) ∷ []) ∷ [];
   finals = record first_final { clock = (1, 1) ∷ []; top = 1; value = values.Max (Is 3) } ∷ [];
 }
-
-pub worn_while_numbers_are_left_is_refused : IsLegalAt first_table first_script worn_while_numbers_are_left → ⊥
-worn_while_numbers_are_left_is_refused legal = below_differs 0 last_lamport (lit< tt) legal.answers.0.0.1
 
 -- The first put of a transaction is accepted at once.
 abbrev pub put_in_a_transaction : Report
@@ -231,10 +151,7 @@ put_in_a_transaction = record {
   finals = record commit_final_a { clock = (1, 2) ∷ []; top = 2 } ∷ record commit_final_l { top = 2; value = values.Last (Is (record red { number = 2 })) } ∷ [];
 }
 
-pub put_in_a_transaction_is_refused : IsLegalAt commit_table commit_script put_in_a_transaction → ⊥
-put_in_a_transaction_is_refused legal = let wrong : Some [] ≡ None = legal.answers.0.1.0.not_begun in (cc)
-
--- The commit stands at 2, behind no put.
+-- The commit stands at 2, after no put.
 abbrev pub commit_at_a_later_lamport : Report
 commit_at_a_later_lamport = record {
   answers = (
@@ -242,9 +159,6 @@ commit_at_a_later_lamport = record {
       ∷ answers.Begun ∷ answers.Held ∷ answers.Held ∷ answers.Committed 2 2 ∷ answers.Got 1 (record commit_cell { top = 2; value = values.Last (Is (record red { number = 2 })) }) ∷ []) ∷ [];
   finals = record commit_final_a { top = 2 } ∷ record commit_final_l { top = 2; value = values.Last (Is (record red { number = 2 })) } ∷ [];
 }
-
-pub commit_at_a_later_lamport_is_refused : IsLegalAt commit_table commit_script commit_at_a_later_lamport → ⊥
-commit_at_a_later_lamport_is_refused legal = let wrong : 2 ≡ 1 = legal.answers.0.1.1.1.1.1.1.1.0.lamport_is in omega (arith, wrong)
 
 -- The await of t's put ends after 7 asks of the one replica, which are one too few.
 abbrev pub end_after_too_few_asks : Report
@@ -255,9 +169,6 @@ end_after_too_few_asks = record {
   finals = record causal_final_a { top = 2 } ∷ causal_final_b ∷ [];
 }
 
-pub end_after_too_few_asks_is_refused : IsLegalAt causal_table causal_script end_after_too_few_asks → ⊥
-end_after_too_few_asks_is_refused legal = let wrong : 7 ≡ 8 = legal.answers.0.1.0.asks_are in omega (arith, wrong)
-
 -- The await of t's put ends with a clock that counts that put.
 abbrev pub end_with_the_awaited : Report
 end_with_the_awaited = record {
@@ -267,22 +178,13 @@ end_with_the_awaited = record {
   finals = record causal_final_a { top = 2 } ∷ causal_final_b ∷ [];
 }
 
-pub end_with_the_awaited_is_refused : IsLegalAt causal_table causal_script end_with_the_awaited → ⊥
-end_with_the_awaited_is_refused legal = let wrong : true ≡ false = legal.answers.0.1.0.lacks_required in (cc)
-
 -- A clock has an entry for a session of which it counts no puts.
 abbrev pub entry_of_no_puts : Report
 entry_of_no_puts = record causal_report { finals = causal_final_a ∷ record causal_final_b { clock = (1, 0) ∷ (2, 1) ∷ [] } ∷ [] }
 
-pub entry_of_no_puts_is_refused : IsLegalAt causal_table causal_script entry_of_no_puts → ⊥
-entry_of_no_puts_is_refused legal = let wrong : 0 < 0 = ((legal.form.finals 1 causal_final_b (lit< tt)).clock_is.is_clock.are_entries 0 (1, 0) (lit< tt)).1.0 in omega (arith, wrong)
-
 -- The first get is answered by worker 2, where the script names worker 1.
 abbrev pub get_by_another_than_the_named : Report
 get_by_another_than_the_named = record home_report { answers = (answers.Put 1 1 ∷ answers.Got 2 home_cell_one ∷ answers.Put 2 2 ∷ answers.Got 1 home_cell_both ∷ []) ∷ [] }
-
-pub get_by_another_than_the_named_is_refused : IsLegalAt home_table away_script get_by_another_than_the_named → ⊥
-get_by_another_than_the_named_is_refused legal = let wrong : 2 ≡ 1 = legal.answers.0.1.0.worker_is in omega (arith, wrong)
 
 -- The await of s's put is answered by worker 2, which is no replica of the key.
 abbrev pub await_by_no_replica : Report
@@ -292,9 +194,6 @@ await_by_no_replica = record causal_report {
       ∷ (answers.Got 2 causal_cell_a ∷ answers.Put 1 2 ∷ []) ∷ [];
 }
 
-pub await_by_no_replica_is_refused : IsLegalAt causal_table causal_script await_by_no_replica → ⊥
-await_by_no_replica_is_refused legal = elim (contains_cases 1 2 [] legal.answers.1.0.0.worker_is) [ inl wrong ↦ omega (arith, wrong) | inr has_it ↦ contains_none 2 has_it ]
-
 -- The await of t's put ends with the clock of worker 1, where worker 2 is asked last.
 abbrev pub end_by_another_than_the_last : Report
 end_by_another_than_the_last = record {
@@ -303,9 +202,6 @@ end_by_another_than_the_last = record {
       ∷ (answers.Got 1 causal_cell_a ∷ answers.Put 1 2 ∷ []) ∷ [];
   finals = record causal_final_a { top = 2 } ∷ causal_final_b ∷ [];
 }
-
-pub end_by_another_than_the_last_is_refused : IsLegalAt causal_table causal_script end_by_another_than_the_last → ⊥
-end_by_another_than_the_last_is_refused legal = let wrong : 1 ≡ 2 = legal.answers.0.1.0.worker_is in omega (arith, wrong)
 
 -- A committed session that begins no transaction.
 --     put a 5
@@ -318,6 +214,3 @@ held_outside_a_transaction = record {
   answers = (answers.Held ∷ []) ∷ [];
   finals = record commit_final_a { clock = []; top = 0; value = values.Max Bottom } ∷ record commit_final_l { clock = []; top = 0; value = values.Last Bottom } ∷ [];
 }
-
-pub held_outside_a_transaction_is_refused : IsLegalAt commit_table plain_script held_outside_a_transaction → ⊥
-held_outside_a_transaction_is_refused legal = let wrong : false ≡ true = legal.answers.0.0 in (cc)

@@ -1,10 +1,13 @@
--- Four scripts, each with a report that `WorkedLaws` proves legal. Beside each script stands the report, abridged.
+-- Four scripts, each with a legal report. Beside each script stands the report, abridged.
 use Rattle.std.specs.Prelude.{ℕ, List, [], ◌∷◌, Some, None, codes}
 use Rattle.lattice_laws.specs.declared.maybe.Maybe.TheVariants.{Is}
 use Rattle.basic_lattices.specs.declared.stamped.Stamped.{Stamped}
 use Rattle.composed_value.specs.declared.kind.Kind.TheVariants as kinds
 use Rattle.composed_value.specs.declared.payload.Payload.TheVariants as payloads
 use Rattle.composed_value.specs.declared.value.Value.TheVariants as values
+use Rattle.placement.specs.Config.{IsPlacement, EachHasReplicas}
+use Rattle.session_known.specs.Legal.{IsLegal}
+use Rattle.session_known.specs.Script.{IsValidScript}
 use Rattle.session_known.specs.declared.report.Answer.TheVariants as answers
 use Rattle.session_known.specs.declared.report.FinalCell.{FinalCell}
 use Rattle.session_known.specs.declared.report.Report.{Report}
@@ -12,6 +15,12 @@ use Rattle.session_known.specs.declared.report.Shown.{Shown}
 use Rattle.session_known.specs.declared.script.Level.TheVariants.{Eventual, Committed, Causal}
 use Rattle.session_known.specs.declared.script.Line.TheVariants as lines
 use Rattle.session_known.specs.declared.script.Script.{Script}
+
+-- Where the keys live as any built placement says, the script is valid and the report legal.
+abbrev pub IsLegalWhereverPlaced : Script → Report → Type 0
+IsLegalWhereverPlaced script report =
+    (table : List (List ℕ)) → IsPlacement script.config table → EachHasReplicas script.config script.config.keys table
+    → IsValidScript script table × IsLegal script report
 
 -- The first run: one worker, one key, one session.
 --     workers 1                        session s eventual

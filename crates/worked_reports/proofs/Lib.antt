@@ -1,0 +1,3 @@
+mod ChangedLemmas
+pub mod LegalLemmas
+pub mod PlacesLemmas
