@@ -10,10 +10,10 @@ use Rattle.lattice_laws.specs.Members.{contains_filter, contains_filtered, conta
 use Rattle.clock_lattice.specs.Clock.{count_of, covers}
 use Rattle.clock_lattice.specs.ClockLaws.{counts_from_covers}
 use Rattle.composed_value.specs.Cell.{PlainCell, joined_cells, empty_cell, cell_of}
-use Rattle.composed_value.specs.CellOfLaws.{cell_of_is_cell, cell_of_by_members, cell_of-append}
+use Rattle.composed_value.proofs.CellOfLemmas.{cell_of_is_cell, cell_of_by_members, cell_of-append}
 use Rattle.composed_value.specs.Kind.{kind_of_value}
 use Rattle.composed_value.specs.PlainValue.{IsPutOf, IsCellOf, puts_of_session}
-use Rattle.composed_value.specs.PlainValueLaws.{value_has_kind}
+use Rattle.composed_value.proofs.PlainValueLemmas.{value_has_kind}
 use Rattle.composed_value.specs.declared.kind.Kind.{Kind}
 use Rattle.composed_value.specs.declared.put.Put.{Put}
 use Rattle.anna_check.specs.Counted.{is_counted, is_newly_counted, IsOfItsPuts}

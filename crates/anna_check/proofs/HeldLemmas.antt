@@ -6,7 +6,7 @@ use Rattle.std.proofs.lemmas.List.{at_drop_more, at_drop_all}
 use Rattle.composed_value.specs.declared.kind.Kind.{Kind}
 use Rattle.composed_value.specs.declared.payload.Payload.{Payload}
 use Rattle.composed_value.specs.declared.put.Put.{Put}
-use Rattle.session_known.specs.Numbered.{count_put, count_put_elsewhere}
+use Rattle.session_known.proofs.NumberedLemmas.{count_put, count_put_elsewhere}
 use Rattle.session_known.specs.Session.{Client, Knowledge, Knows, own_count, put_made, knows_put, puts_committed, knows_committed}
 use Rattle.anna_check.specs.ByKey.{OfKey, kinds_of, AreByKey}
 

@@ -5,6 +5,7 @@ pub mod HadLemmas
 pub mod HeldLemmas
 pub mod LawfulLemmas
 pub mod LinesLemmas
+pub mod OneVerdictLemmas
 pub mod SessionsLemmas
 pub mod SoundLemmas
 pub mod ToldLemmas

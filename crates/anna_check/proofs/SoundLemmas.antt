@@ -13,15 +13,16 @@ use Rattle.lattice_laws.specs.GreatestOfLists.{greatest_or_zero_is_single}
 use Rattle.lattice_laws.specs.Members.{contains_filter, contains_filtered, contains_map, contains_mapped}
 use Rattle.composed_value.specs.Cell.{PlainCell, IsCell, cell_of}
 use Rattle.composed_value.specs.PlainValue.{IsPutOf, IsValueOf, IsCellOf, puts_of_session}
-use Rattle.composed_value.specs.CellOfLaws.{cell_of_is_single, cell_of_is_cell}
-use Rattle.composed_value.specs.PlainValueLaws.{value_is_single}
+use Rattle.composed_value.proofs.CellOfLemmas.{cell_of_is_single, cell_of_is_cell}
+use Rattle.composed_value.proofs.PlainValueLemmas.{value_is_single}
 use Rattle.composed_value.specs.Sound.{IsSound, AreSoundNeeds, counted, puts_on}
 use Rattle.composed_value.specs.declared.kind.Kind.{Kind}
 use Rattle.composed_value.specs.declared.put.Put.{Put}
 use Rattle.composed_value.specs.declared.value.Value.{Value}
 use Rattle.session_known.specs.Lawful.{IsSoundReply, AreSoundWhereShown}
 use Rattle.session_known.specs.Legal.{IsLawfulFinal}
-use Rattle.session_known.specs.Numbered.{made_on, AreNext, number_at, numbered_from_next}
+use Rattle.session_known.specs.Accepted.{made_on, AreNext}
+use Rattle.session_known.proofs.NumberedLemmas.{number_at, numbered_from_next}
 use Rattle.session_known.specs.Script.{kind_at}
 use Rattle.session_known.specs.declared.report.FinalCell.{FinalCell}
 use Rattle.session_known.specs.declared.report.Shown.{Shown}

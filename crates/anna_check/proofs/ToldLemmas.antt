@@ -11,7 +11,7 @@ use Rattle.composed_value.specs.Sound.{puts_on}
 use Rattle.composed_value.specs.declared.kind.Kind.{Kind}
 use Rattle.composed_value.specs.declared.kind.Kind.TheVariants.{Max}
 use Rattle.composed_value.specs.declared.put.Put.{Put}
-use Rattle.session_known.specs.Numbered.{made_on, AreNext}
+use Rattle.session_known.specs.Accepted.{made_on, AreNext}
 use Rattle.session_known.specs.Script.{IsOneOf, kind_at}
 use Rattle.anna_check.specs.Counted.{is_counted, IsOfItsPuts, AreOfTheirPuts, cell_at, with_cell}
 use Rattle.anna_check.proofs.CountedLemmas.{empty_of_its_puts, of_its_puts}

@@ -4,4 +4,3 @@ pub mod Had
 pub mod Inside
 pub mod Stand
 pub mod Unlawful
-pub mod VerdictLaws

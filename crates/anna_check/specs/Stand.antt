@@ -7,7 +7,7 @@ use Rattle.composed_value.specs.Cell.{PlainCell}
 use Rattle.composed_value.specs.Kind.{kind_of_value}
 use Rattle.composed_value.specs.declared.kind.Kind.{Kind}
 use Rattle.composed_value.specs.declared.put.Put.{Put}
-use Rattle.session_known.specs.Numbered.{made_on, AreNext}
+use Rattle.session_known.specs.Accepted.{made_on, AreNext}
 use Rattle.session_known.specs.Script.{IsOneOf, kind_at}
 use Rattle.session_known.specs.declared.report.Answer.{Answer}
 use Rattle.session_known.specs.declared.report.Answer.TheVariants as answers

@@ -3,7 +3,7 @@ ghost use Rattle.std.specs.Prelude.{◌≤◌, List, ℕ, All, IfOk, length};
 ghost use Rattle.std.specs.List.{AllZip};
 ghost use Rattle.session_known.specs.Accepted as made;
 ghost use Rattle.session_known.specs.Form.{HasForm};
-ghost use Rattle.session_known.specs.Numbered.{made_on, AreNext};
+ghost use Rattle.session_known.specs.Accepted.{made_on, AreNext};
 ghost use Rattle.session_known.specs.Script.{IsValidScript};
 ghost use Rattle.anna_check.specs.ByKey.{AreByKey};
 ghost use Rattle.anna_check.specs.Stand.{CanAllBeHeldAgainst, CanBeFinal};

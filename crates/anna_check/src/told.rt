@@ -9,7 +9,7 @@ ghost use Rattle.composed_value.specs.Sound.{puts_on};
 ghost use Rattle.composed_value.specs.declared.put.Put as made;
 ghost use Rattle.session_known.specs.Lawful.{IsSoundReply};
 ghost use Rattle.session_known.specs.Legal.{IsLawfulFinal};
-ghost use Rattle.session_known.specs.Numbered.{made_on, AreNext};
+ghost use Rattle.session_known.specs.Accepted.{made_on, AreNext};
 ghost use Rattle.session_known.specs.Script.{kind_at, IsOneOf};
 ghost use Rattle.composed_value.specs.declared.kind.Kind as of_kind;
 ghost use Rattle.composed_value.specs.declared.kind.Kind.TheVariants as variants;

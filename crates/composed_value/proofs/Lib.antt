@@ -1,1 +1,8 @@
+pub mod CellOfLemmas
+pub mod GatheredLemmas
+pub mod PlainValueLemmas
+pub mod SetsOfListsLemmas
+pub mod SoundLemmas
+pub mod ValidValueLemmas
 mod Values
+pub mod VersionValueLemmas

@@ -1,15 +1,8 @@
 pub mod Cell
 pub mod CellLaws
-pub mod CellOfLaws
-pub mod Gathered
 pub mod Kind
 pub mod PlainValue
-pub mod PlainValueLaws
 pub mod Put
-pub mod SetsOfLists
 pub mod Sound
-pub mod SoundLaws
-pub mod ValidValues
 pub mod Value
 pub mod ValueLaws
-pub mod VersionValues

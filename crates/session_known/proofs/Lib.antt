@@ -1,0 +1,4 @@
+pub mod FormLemmas
+pub mod KnownLemmas
+pub mod LegalLemmas
+pub mod NumberedLemmas

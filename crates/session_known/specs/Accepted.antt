@@ -1,5 +1,7 @@
 -- The puts that a report accepts.
-use Rattle.std.specs.Prelude.{ℕ, ◌+◌, List, [], ◌∷◌, ◌++◌}
+use Rattle.std.specs.Prelude.{◌≡◌, ℕ, ◌+◌, List, [], ◌∷◌, ◌++◌, ⊤}
+use Rattle.composed_value.specs.PlainValue.{puts_of_session}
+use Rattle.composed_value.specs.Sound.{puts_on}
 use Rattle.composed_value.specs.declared.put.Put.{Put}
 use Rattle.session_known.specs.Session.{Client, start, puts_from}
 use Rattle.session_known.specs.declared.report.Answer.{Answer}
@@ -19,3 +21,12 @@ accepted_from number plans answers = []
 -- The accepted puts of a report, each with its key: those of the put lines that were accepted and of the commits, in script order.
 abbrev pub accepted : Script → Report → List (ℕ × Put)
 accepted script report = accepted_from 1 script.sessions report.answers
+
+-- the puts of a session on a key, of puts each with its key
+abbrev pub made_on : ℕ → ℕ → List (ℕ × Put) → List Put
+made_on session key made = puts_of_session session (puts_on key made)
+
+-- puts whose numbers follow a number one by one
+abbrev pub AreNext : ℕ → List Put → Type 0
+AreNext n [] = ⊤
+AreNext n (put ∷ others) = (put.number ≡ n + 1) × AreNext (n + 1) others

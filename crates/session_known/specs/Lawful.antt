@@ -57,6 +57,11 @@ had_from key worker answered = None
 abbrev pub earlier_from : ℕ → ℕ → List (Line × Answer) → List (List (ℕ × ℕ))
 earlier_from key worker earlier = filter_map (had_from key worker) earlier
 
+-- the key of a line that was answered with a cell, and the clock of the cell
+pub data ShowsAt : Line → Answer → ℕ → List (ℕ × ℕ) → Type 0 where
+  by_get : (key : ℕ) (named : Option ℕ) (worker : ℕ) (shown : Shown) → ShowsAt (lines.Get key named) (answers.Got worker shown) key shown.clock
+  by_await : (key session count worker : ℕ) (shown : Shown) → ShowsAt (lines.Await key session count) (answers.Got worker shown) key shown.clock
+
 -- A clock of the key from a worker: it covers those that the session had from the worker before, and at the session's home it counts
 -- all puts that the session has made on the key.
 pub record IsClockFrom (table : List (List ℕ)) (client : Client) (knows : Knowledge) (earlier : List (Line × Answer)) (key worker : ℕ) (clock : List (ℕ × ℕ)) : Type 0 where

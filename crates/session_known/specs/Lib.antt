@@ -1,11 +1,7 @@
 pub mod Accepted
 pub mod Form
-pub mod FormLaws
-pub mod Known
 pub mod Lawful
-pub mod Laws
 pub mod Legal
-pub mod Numbered
 pub mod Requests
 pub mod Script
 pub mod Session

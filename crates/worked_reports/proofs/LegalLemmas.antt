@@ -17,7 +17,7 @@ use Rattle.clock_lattice.specs.ClockLaws.{one_count_is_clock, one_count_entry}
 use Rattle.clock_lattice.specs.Needs.{IsNeeds}
 use Rattle.clock_lattice.specs.NeedsLaws.{empty_are_needs, needs_laws, one_need_is_needs}
 use Rattle.composed_value.specs.Cell.{cell_of}
-use Rattle.composed_value.specs.CellOfLaws.{cell_of_is_cell}
+use Rattle.composed_value.proofs.CellOfLemmas.{cell_of_is_cell}
 use Rattle.composed_value.specs.Kind.{kind_of}
 use Rattle.composed_value.specs.PlainValue.{IsPutOf, IsValueOf, puts_of_session}
 use Rattle.composed_value.specs.Put.{IsPayload}

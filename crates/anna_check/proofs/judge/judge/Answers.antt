@@ -2,7 +2,7 @@ use Rattle.std.proofs.Common.{ℕ, List, [], Option, MatchOption, IfNone, subst}
 use Rattle.std.proofs.lemmas.Result.{IfOk-weaker}
 use Rattle.session_known.specs.Accepted.{accepted_from}
 use Rattle.session_known.specs.Legal.{AreLawfulFrom}
-use Rattle.session_known.specs.Numbered.{accepted_are_next}
+use Rattle.session_known.proofs.NumberedLemmas.{accepted_are_next}
 use Rattle.session_known.specs.declared.report.Answer.{Answer}
 use Rattle.anna_check.specs.ByKey.{AreByKey}
 use Rattle.anna_check.specs.Unlawful.{IsFirstUnlawfulFrom}

@@ -1,4 +1,4 @@
-use Rattle.anna_check.specs.VerdictLaws.{verdict_is_single}
+use Rattle.anna_check.proofs.OneVerdictLemmas.{verdict_is_single}
 use Rattle.anna_check.proofs.laws.reports_have_one_verdict.Goals as goal
 
 pub returns : goal.returns

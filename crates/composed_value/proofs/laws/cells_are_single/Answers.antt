@@ -1,5 +1,5 @@
-use Rattle.composed_value.specs.CellOfLaws.{cell_of_is_single}
-use Rattle.composed_value.specs.PlainValueLaws.{value_is_single}
+use Rattle.composed_value.proofs.CellOfLemmas.{cell_of_is_single}
+use Rattle.composed_value.proofs.PlainValueLemmas.{value_is_single}
 use Rattle.composed_value.proofs.laws.cells_are_single.Goals as goal
 
 pub returns-clause-value : goal.returns-clause-value

@@ -1,4 +1,4 @@
-use Rattle.composed_value.specs.CellOfLaws.{cell_of_is_cell, cell_of_by_members, cell_of-append}
+use Rattle.composed_value.proofs.CellOfLemmas.{cell_of_is_cell, cell_of_by_members, cell_of-append}
 use Rattle.composed_value.proofs.laws.cells_hold_their_puts.Goals as goal
 
 pub returns-clause-holds : goal.returns-clause-holds

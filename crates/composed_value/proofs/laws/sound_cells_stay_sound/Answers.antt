@@ -1,4 +1,4 @@
-use Rattle.composed_value.specs.SoundLaws.{sound_join, sound_next}
+use Rattle.composed_value.proofs.SoundLemmas.{sound_join, sound_next}
 use Rattle.composed_value.proofs.laws.sound_cells_stay_sound.Goals as goal
 
 pub returns-clause-join : goal.returns-clause-join

@@ -15,9 +15,9 @@ use Rattle.clock_lattice.specs.NeedsLaws.{clock-joined, same_clocks, clock_at_is
 use Rattle.composed_value.specs.Cell.{PlainCell, IsCell, joined_cells, empty_cell, one_put_cell, cell_of}
 use Rattle.composed_value.specs.CellLaws.{cell_laws, same_parts}
 use Rattle.composed_value.specs.PlainValue.{IsPutOf, IsCellOf, puts_of_session}
-use Rattle.composed_value.specs.PlainValueLaws.{value_has_kind, value_of_none, value_of_one, value_of_both, value_by_members, value_is_single}
+use Rattle.composed_value.proofs.PlainValueLemmas.{value_has_kind, value_of_none, value_of_one, value_of_both, value_by_members, value_is_single}
 use Rattle.composed_value.specs.Put.{value_of_put}
-use Rattle.composed_value.specs.ValidValues.{empty_is_value, value_of_put_is_value}
+use Rattle.composed_value.proofs.ValidValueLemmas.{empty_is_value, value_of_put_is_value}
 use Rattle.composed_value.specs.declared.kind.Kind.{Kind}
 use Rattle.composed_value.specs.declared.put.Put.{Put}
 

@@ -1,5 +1,5 @@
 -- The accepted puts of a session on a key are its first, its second and so on, in script order.
-use Rattle.std.specs.Prelude.{◌≡◌, ◌≢◌, ℕ, zero, suc, ◌+◌, ◌<◌, ◌==◌, max, true, false, cond, List, [], ◌∷◌, ◌++◌, length, map, filter, slice_index_or, Option, Some, None, unwrap_or, ⊤}
+use Rattle.std.specs.Prelude.{◌≡◌, ◌≢◌, ℕ, zero, suc, ◌+◌, ◌<◌, ◌==◌, max, true, false, cond, List, [], ◌∷◌, ◌++◌, length, map, filter, slice_index_or, Option, Some, None, unwrap_or}
 use Rattle.std.specs.Cmp.{nat_cmp_total, unsigned_tied}
 use Rattle.std.specs.FinMap.{find}
 use Rattle.std.specs.FinMap.Entries.{find-put}
@@ -16,7 +16,7 @@ use Rattle.composed_value.specs.PlainValue.{puts_of_session}
 use Rattle.composed_value.specs.Sound.{puts_on, AreNumbered}
 use Rattle.composed_value.specs.declared.payload.Payload.{Payload}
 use Rattle.composed_value.specs.declared.put.Put as puts
-use Rattle.session_known.specs.Accepted.{client_of, accepted_from}
+use Rattle.session_known.specs.Accepted.{client_of, made_on, AreNext, accepted_from}
 use Rattle.session_known.specs.Lawful.{IsLawful, AreLawful}
 use Rattle.session_known.specs.Legal.{AreLawfulFrom}
 use Rattle.session_known.specs.Session.{Client, Knowledge, State, start, own_count, put_made, knows_put, puts_committed, knows_committed, held_puts, after, puts_by, puts_from}
@@ -25,15 +25,6 @@ use Rattle.session_known.specs.declared.report.Answer.TheVariants as answers
 use Rattle.session_known.specs.declared.script.Line.{Line}
 use Rattle.session_known.specs.declared.script.Line.TheVariants as lines
 use Rattle.session_known.specs.declared.script.SessionPlan.{SessionPlan}
-
--- the puts of a session on a key, of puts each with its key
-abbrev pub made_on : ℕ → ℕ → List (ℕ × puts.Put) → List puts.Put
-made_on session key made = puts_of_session session (puts_on key made)
-
--- puts whose numbers follow a number one by one
-abbrev pub AreNext : ℕ → List puts.Put → Type 0
-AreNext n [] = ⊤
-AreNext n (put ∷ others) = (put.number ≡ n + 1) × AreNext (n + 1) others
 
 -- puts that follow the first number, up to the last
 record AreNextUpTo (first : ℕ) (made : List puts.Put) (last : ℕ) : Type 0 where

@@ -17,7 +17,7 @@ use Rattle.version_antichain.specs.Versions.{IsVersions, joined_versions}
 use Rattle.version_antichain.specs.VersionsLaws.{versions_laws}
 use Rattle.version_antichain.specs.declared.version.Version.{Version}
 use Rattle.composed_value.specs.PlainValue.{IsMaximal}
-use Rattle.composed_value.specs.SetsOfLists.{IsSetOf, set_of_none, set_of_one, set_of_both, some_set_of}
+use Rattle.composed_value.proofs.SetsOfListsLemmas.{IsSetOf, set_of_none, set_of_one, set_of_both, some_set_of}
 
 -- exactly the maximal versions of a list
 abbrev pub AreKept : List Version → List Version → Type 0

@@ -1,5 +1,5 @@
 -- What legal reports have in common, whoever wrote them.
-use Rattle.std.specs.Prelude.{◌≡◌, ℕ, zero, suc, ◌<◌, ◌≤◌, ◌==◌, IsTrue, List, [], ◌∷◌, ◌++◌, length, map, slice_index_or, Option, Contains}
+use Rattle.std.specs.Prelude.{◌≡◌, ℕ, zero, suc, ◌<◌, ◌≤◌, ◌==◌, IsTrue, List, [], ◌∷◌, ◌++◌, length, map, slice_index_or, Contains}
 use Rattle.std.specs.List.{AllZip}
 use Rattle.std.proofs.Common.{sym, ap, subst, subst₂, ◌∙◌, arith}
 use Rattle.std.proofs.lemmas.Bool.{eqb-true}
@@ -10,26 +10,23 @@ use Rattle.clock_lattice.specs.Clock.{IsClock, count_of, joined_clocks, one_coun
 use Rattle.clock_lattice.specs.ClockLaws.{same_counts, counts_from_covers, covers_from_counts}
 use Rattle.clock_lattice.specs.Needs.{clock_at}
 use Rattle.composed_value.specs.PlainValue.{puts_of_session}
-use Rattle.composed_value.specs.PlainValueLaws.{value_is_single}
+use Rattle.composed_value.proofs.PlainValueLemmas.{value_is_single}
 use Rattle.composed_value.specs.Sound.{puts_on, counted, IsSound, AreNumbered}
 use Rattle.composed_value.specs.declared.kind.Kind.{Kind}
 use Rattle.composed_value.specs.declared.put.Put as puts
-use Rattle.session_known.specs.Accepted.{accepted, accepted_from}
+use Rattle.session_known.specs.Accepted.{made_on, AreNext, accepted, accepted_from}
 use Rattle.session_known.specs.Form.{Fits, IsFinalIn}
-use Rattle.session_known.specs.Known.{CountsAtMost, first_at_most, shown_is_known, known_at_line}
-use Rattle.session_known.specs.Lawful.{required_by_get, IsLawful, AreLawful, IsTrueOf, CountsAccepted}
+use Rattle.session_known.proofs.KnownLemmas.{CountsAtMost, first_at_most, shown_is_known, known_at_line}
+use Rattle.session_known.specs.Lawful.{ShowsAt, by_get, by_await, required_by_get, IsLawful, AreLawful, IsTrueOf, CountsAccepted}
 use Rattle.session_known.specs.Legal.{AreLawfulFrom, IsLawfulFinal, IsLegalAt}
-use Rattle.session_known.specs.Numbered.{made_on, AreNext, number_at, numbered_from_next, accepted_are_next}
+use Rattle.session_known.proofs.NumberedLemmas.{number_at, numbered_from_next, accepted_are_next}
 use Rattle.session_known.specs.Script.{kind_at}
 use Rattle.session_known.specs.Session.{Client, State, start, after}
 use Rattle.session_known.specs.declared.report.Answer.{Answer}
-use Rattle.session_known.specs.declared.report.Answer.TheVariants.{Got}
 use Rattle.session_known.specs.declared.report.FinalCell.{FinalCell}
 use Rattle.session_known.specs.declared.report.Report.{Report}
-use Rattle.session_known.specs.declared.report.Shown.{Shown}
 use Rattle.session_known.specs.declared.script.Level.TheVariants.{Causal}
 use Rattle.session_known.specs.declared.script.Line.{Line}
-use Rattle.session_known.specs.declared.script.Line.TheVariants.{Get, Await}
 use Rattle.session_known.specs.declared.script.Script.{Script}
 use Rattle.session_known.specs.declared.script.SessionPlan.{SessionPlan}
 
@@ -74,11 +71,6 @@ finals_agree table script report legal a b has_a has_b same =
       greatest_or_zero_is_single (map (λ put. put.lamport) (counted all a.key a.clock)) a.top b.top lawful_a.sound.top_is sound_b.top_is,
       value_is_single kind (counted all a.key a.clock) a.value b.value lawful_a.sound.value_is sound_b.value_is,
     )
-
--- the key of a line that was answered with a cell, and the clock of the cell
-pub data ShowsAt : Line → Answer → ℕ → List (ℕ × ℕ) → Type 0 where
-  by_get : (key : ℕ) (named : Option ℕ) (worker : ℕ) (shown : Shown) → ShowsAt (Get key named) (Got worker shown) key shown.clock
-  by_await : (key session count worker : ℕ) (shown : Shown) → ShowsAt (Await key session count) (Got worker shown) key shown.clock
 
 -- a lawful reply's clock counts only accepted puts
 pub reply_counts_accepted : (kinds : List Kind) (accepted : List (ℕ × puts.Put)) (line : Line) (answer : Answer) (key : ℕ) (clock : List (ℕ × ℕ)) → ShowsAt line answer key clock → IsTrueOf kinds accepted line answer → CountsAccepted accepted key clock

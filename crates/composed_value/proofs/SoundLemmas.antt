@@ -15,9 +15,9 @@ use Rattle.clock_lattice.specs.ClockLaws.{count-joined, one_count_entry}
 use Rattle.clock_lattice.specs.Needs.{clock_at}
 use Rattle.clock_lattice.specs.NeedsLaws.{clock-joined, clock_at_is_clock}
 use Rattle.composed_value.specs.Cell.{PlainCell, IsCell, joined_cells, one_put_cell}
-use Rattle.composed_value.specs.CellOfLaws.{cell_of_one, one_put_is_cell}
+use Rattle.composed_value.proofs.CellOfLemmas.{cell_of_one, one_put_is_cell}
 use Rattle.composed_value.specs.PlainValue.{IsPutOf, IsValueOf, puts_of_session}
-use Rattle.composed_value.specs.PlainValueLaws.{value_of_both, value_by_members}
+use Rattle.composed_value.proofs.PlainValueLemmas.{value_of_both, value_by_members}
 use Rattle.composed_value.specs.Sound.{puts_on, counted, IsSoundCell, AreNumbered, AreAccepted}
 use Rattle.composed_value.specs.declared.kind.Kind.{Kind}
 use Rattle.composed_value.specs.declared.put.Put.{Put}

@@ -27,14 +27,14 @@ use Rattle.basic_lattices.specs.declared.stamped.Stamped.{Stamped}
 use Rattle.clock_lattice.specs.Clock.{IsClock}
 use Rattle.version_antichain.specs.Versions.{joined_versions}
 use Rattle.version_antichain.specs.declared.version.Version.{Version}
-use Rattle.composed_value.specs.Gathered.{same_gathered}
+use Rattle.composed_value.proofs.GatheredLemmas.{same_gathered}
 use Rattle.composed_value.specs.Kind.{kind_of, kind_of_value}
 use Rattle.composed_value.specs.PlainValue.{IsPutOf, IsValueOf, number_of, word_of, number_at, stamped_of, version_of, numbers, words, numbers_at, stamped, versions}
 use Rattle.composed_value.specs.Put.{IsPayload, stamp_of, brought_by, value_of_put}
-use Rattle.composed_value.specs.SetsOfLists.{IsSetOf, set_of_none, set_of_one, set_of_both, set_of_is_single, set_of_by_members}
+use Rattle.composed_value.proofs.SetsOfListsLemmas.{IsSetOf, set_of_none, set_of_one, set_of_both, set_of_is_single, set_of_by_members}
 use Rattle.composed_value.specs.Value.{joined_found, empty_value, joined_values}
 use Rattle.composed_value.specs.ValueLaws.{plain_of_joined, plain_of_injective, fields_laws}
-use Rattle.composed_value.specs.VersionValues.{AreKept, kept_of_none, kept_of_one, kept_of_both, kept_by_members, kept_is_single}
+use Rattle.composed_value.proofs.VersionValueLemmas.{AreKept, kept_of_none, kept_of_one, kept_of_both, kept_by_members, kept_is_single}
 use Rattle.composed_value.specs.declared.kind.Kind.{Kind}
 use Rattle.composed_value.specs.declared.kind.Kind.TheVariants as kinds
 use Rattle.composed_value.specs.declared.payload.Payload.{Payload}
