@@ -6,10 +6,10 @@ use Rattle.std.proofs.Math.Seq.{map-set_same}
 use Rattle.std.proofs.lemmas.Bool.{cases_eq, ne_eqb, eq-eqb}
 use Rattle.std.proofs.lemmas.List.{map-append, append-nil, get_or-set_same, get_or-set_other}
 use Rattle.std.proofs.lemmas.List.Elements.{filter-append}
-use Rattle.composed_value.specs.Sound.{puts_on}
 use Rattle.composed_value.specs.declared.kind.Kind.{Kind}
 use Rattle.composed_value.specs.declared.kind.Kind.TheVariants.{Max}
 use Rattle.composed_value.specs.declared.put.Put.{Put}
+use Rattle.session_known.specs.Accepted.{puts_on}
 use Rattle.session_known.specs.Script.{IsOneOf, kind_at}
 use Rattle.anna_check.specs.ByKey.{OfKey, of_key, kinds_of, AreByKey}
 

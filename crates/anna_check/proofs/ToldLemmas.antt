@@ -1,5 +1,5 @@
 -- Cells by key and worker, each that of the puts that its clock counts: before any is counted, and once one is written over.
-use Rattle.std.specs.Prelude.{◌≡◌, ◌≢◌, ℕ, ◌-◌, ◌<◌, ◌==◌, List, [], length, map, filter, replicate, slice_index_or, All, Contains}
+use Rattle.std.specs.Prelude.{◌≡◌, ◌≢◌, ℕ, ◌-◌, ◌<◌, ◌==◌, List, [], length, map, replicate, slice_index_or, All, Contains}
 use Rattle.std.proofs.Common.{refl, sym, ap, subst, ◌∙◌, inl, inr, arith, get_or, set}
 use Rattle.std.proofs.lemmas.Bool.{eq-eqb, cases_eq}
 use Rattle.std.proofs.lemmas.List.{length-map, length-replicate, length-set, get_or-map, get_or-replicate, get_or-set_same, get_or-set_other}
@@ -7,13 +7,13 @@ use Rattle.std.proofs.lemmas.List.Elements.{All-contains_itself, All-map, All-se
 use Rattle.lattice_laws.specs.Members.{contains_filter}
 use Rattle.composed_value.specs.Cell.{PlainCell, empty_cell, cell_of}
 use Rattle.composed_value.specs.PlainValue.{IsPutOf}
-use Rattle.composed_value.specs.Sound.{puts_on}
+use Rattle.composed_value.specs.Sound.{counted}
 use Rattle.composed_value.specs.declared.kind.Kind.{Kind}
 use Rattle.composed_value.specs.declared.kind.Kind.TheVariants.{Max}
 use Rattle.composed_value.specs.declared.put.Put.{Put}
-use Rattle.session_known.specs.Accepted.{made_on, AreNext}
+use Rattle.session_known.specs.Accepted.{puts_on, made_on, AreNext}
 use Rattle.session_known.specs.Script.{IsOneOf, kind_at}
-use Rattle.anna_check.specs.Counted.{is_counted, IsOfItsPuts, AreOfTheirPuts, cell_at, with_cell}
+use Rattle.anna_check.specs.Counted.{IsOfItsPuts, AreOfTheirPuts, cell_at, with_cell}
 use Rattle.anna_check.proofs.CountedLemmas.{empty_of_its_puts, of_its_puts}
 use Rattle.anna_check.proofs.SoundLemmas.{number_within}
 
@@ -84,8 +84,8 @@ still_of_their_puts kinds workers accepted cells key worker cell key_is worker_i
 
 -- So they stay where it is written over by the cell of the puts on the key that a clock counts.
 pub counted_of_their_puts : (kinds : List Kind) (workers : ℕ) (accepted : List (ℕ × Put)) (cells new : List (List PlainCell)) (key worker : ℕ) (kind : Kind) (puts : List Put) (clock : List (ℕ × ℕ)) → IsOneOf (length cells) key → IsOneOf (length (slice_index_or cells (key - 1) [])) worker → All (IsPutOf kind) puts
-    → new ≡ with_cell cells key worker (cell_of kind (filter (is_counted clock) puts)) → kind ≡ kind_at kinds key → puts ≡ puts_on key accepted → AreOfTheirPuts kinds workers accepted cells → AreOfTheirPuts kinds workers accepted new
+    → new ≡ with_cell cells key worker (cell_of kind (counted puts clock)) → kind ≡ kind_at kinds key → puts ≡ puts_on key accepted → AreOfTheirPuts kinds workers accepted cells → AreOfTheirPuts kinds workers accepted new
 counted_of_their_puts kinds workers accepted cells new key worker kind puts clock key_is worker_is all new_is kind_is puts_are are =
-    let cell : PlainCell = cell_of kind (filter (is_counted clock) puts) in
+    let cell : PlainCell = cell_of kind (counted puts clock) in
     let its = subst (λ (of : Kind × List Put). IsOfItsPuts of.0 of.1 cell) (λ i. (kind_is i, puts_are i)) (of_its_puts kind puts clock all) in
     subst (AreOfTheirPuts kinds workers accepted) (sym new_is) (still_of_their_puts kinds workers accepted cells key worker cell key_is worker_is its are)

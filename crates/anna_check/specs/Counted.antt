@@ -1,18 +1,14 @@
 -- Which puts a clock counts.
-use Rattle.std.specs.Prelude.{◌≡◌, ℕ, ◌-◌, Bool, not, ◌&&◌, List, [], length, filter, slice_index_or, slice_set, Option, Some, None, leb, All, ⊤}
-use Rattle.clock_lattice.specs.Clock.{count_of}
+use Rattle.std.specs.Prelude.{◌≡◌, ℕ, ◌-◌, Bool, not, ◌&&◌, List, [], length, slice_index_or, slice_set, Option, Some, None, All, ⊤}
 use Rattle.composed_value.specs.Cell.{PlainCell, empty_cell, cell_of}
-use Rattle.composed_value.specs.Sound.{puts_on}
+use Rattle.composed_value.specs.Sound.{is_counted, counted}
 use Rattle.composed_value.specs.declared.kind.Kind.{Kind}
 use Rattle.composed_value.specs.declared.kind.Kind.TheVariants.{Max}
 use Rattle.composed_value.specs.declared.put.Put.{Put}
+use Rattle.session_known.specs.Accepted.{puts_on}
 use Rattle.session_known.specs.Script.{IsOneOf, kind_at}
 use Rattle.session_known.specs.declared.report.FinalCell.{FinalCell}
 use Rattle.session_known.specs.declared.report.Shown.{Shown}
-
--- the put's number is at most the count of its session
-abbrev pub is_counted : List (ℕ × ℕ) → Put → Bool
-is_counted clock put = leb put.number (count_of put.session clock)
 
 -- the put is counted by the clock, and not by the one before
 abbrev pub is_newly_counted : List (ℕ × ℕ) → List (ℕ × ℕ) → Put → Bool
@@ -38,7 +34,7 @@ pub record IsCellFinal (cell : PlainCell) (last : FinalCell) : Type 0 where
 
 -- the cell is that of those of the puts that its clock counts
 abbrev pub IsOfItsPuts : Kind → List Put → PlainCell → Type 0
-IsOfItsPuts kind puts cell = cell ≡ cell_of kind (filter (is_counted cell.clock) puts)
+IsOfItsPuts kind puts cell = cell ≡ cell_of kind (counted puts cell.clock)
 
 -- of cells by key and worker that of this key at this worker
 abbrev pub cell_at : List (List PlainCell) → ℕ → ℕ → PlainCell

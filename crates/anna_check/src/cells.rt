@@ -5,7 +5,8 @@ ghost use Rattle.clock_lattice.specs.Clock.{count_of};
 ghost use Rattle.composed_value.specs.Cell.{cell_of};
 ghost use Rattle.composed_value.specs.PlainValue.{IsPutOf, puts_of_session};
 ghost use Rattle.composed_value.specs.Kind.{kind_of_value};
-ghost use Rattle.anna_check.specs.Counted.{is_counted, is_newly_counted, IsOfItsPuts, AreNeedsShown, IsCellShown, IsCellFinal};
+ghost use Rattle.composed_value.specs.Sound.{is_counted, counted};
+ghost use Rattle.anna_check.specs.Counted.{is_newly_counted, IsOfItsPuts, AreNeedsShown, IsCellShown, IsCellFinal};
 
 use crate::same::are_same;
 use clock_lattice::{Clock, Needs};
@@ -26,7 +27,7 @@ pub(crate) fn count(
 ) -> Result<(), NoMemory>
     requires puts { All (IsPutOf kind) puts.now }
     requires cell { IsOfItsPuts kind puts.now cell.old }
-    ensures ok { OnOk result (cell.new ≡ cell_of kind (filter (is_counted clock.now) puts.now)) }
+    ensures ok { OnOk result (cell.new ≡ cell_of kind (counted puts.now clock.now)) }
     ensures err { OnErr result (cell.new ≡ cell.old) }
 {
     if are_same(cell.clock(), clock) {

@@ -5,15 +5,15 @@ ghost use Rattle.clock_lattice.specs.Needs.{IsNeeds};
 ghost use Rattle.composed_value.specs.Cell.{cell_of, empty_cell};
 ghost use Rattle.composed_value.specs.PlainValue.{IsPutOf};
 ghost use Rattle.composed_value.specs.Kind.{kind_of_value};
-ghost use Rattle.composed_value.specs.Sound.{puts_on};
+ghost use Rattle.composed_value.specs.Sound.{is_counted, counted};
 ghost use Rattle.composed_value.specs.declared.put.Put as made;
 ghost use Rattle.session_known.specs.Lawful.{IsSoundReply};
 ghost use Rattle.session_known.specs.Legal.{IsLawfulFinal};
-ghost use Rattle.session_known.specs.Accepted.{made_on, AreNext};
+ghost use Rattle.session_known.specs.Accepted.{puts_on, made_on, AreNext};
 ghost use Rattle.session_known.specs.Script.{kind_at, IsOneOf};
 ghost use Rattle.composed_value.specs.declared.kind.Kind as of_kind;
 ghost use Rattle.composed_value.specs.declared.kind.Kind.TheVariants as variants;
-ghost use Rattle.anna_check.specs.Counted.{is_counted, IsOfItsPuts, AreOfTheirPuts, cell_at, with_cell};
+ghost use Rattle.anna_check.specs.Counted.{IsOfItsPuts, AreOfTheirPuts, cell_at, with_cell};
 
 use crate::cells::{count, counts_all, is_cell_final, is_cell_shown};
 use clock_lattice::Clock;
@@ -78,7 +78,7 @@ impl Told {
         requires worker { IsOneOf (length (slice_index_or self.old (key - 1) [])) worker }
         requires puts { All (IsPutOf kind) puts.now }
         requires cell { IsOfItsPuts kind puts.now (cell_at self.old key worker) }
-        ensures ok { OnOk result (self.new ≡ with_cell self.old key worker (cell_of kind (filter (is_counted clock.now) puts.now))) }
+        ensures ok { OnOk result (self.new ≡ with_cell self.old key worker (cell_of kind (counted puts.now clock.now))) }
         ensures err { OnErr result (self.new ≡ self.old) }
     {
         let cell = &mut self.by_key[usize::from(key) - 1][usize::from(worker) - 1];

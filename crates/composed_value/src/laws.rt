@@ -4,7 +4,7 @@ ghost use Rattle.lattice_laws.specs.Joins.{SameMembers};
 ghost use Rattle.clock_lattice.specs.Clock.{count_of};
 ghost use Rattle.composed_value.specs.Cell.{PlainCell, IsCell, joined_cells, one_put_cell, cell_of};
 ghost use Rattle.composed_value.specs.PlainValue.{IsPutOf, IsValueOf, IsCellOf};
-ghost use Rattle.composed_value.specs.Sound.{puts_on, IsSoundCell, AreAccepted};
+ghost use Rattle.composed_value.specs.Sound.{IsSoundCell, AreAccepted};
 ghost use Rattle.composed_value.specs.declared.kind.Kind.{Kind};
 ghost use Rattle.composed_value.specs.declared.put.Put.{Put};
 ghost use Rattle.composed_value.specs.declared.value.Value.{Value};
@@ -29,6 +29,6 @@ pub fn cells_are_single()
 /// joined with the one-put cell of the session's put n + 1, is sound: here the accepted puts on the
 /// key are of its kind, and those of each session are numbered 1, 2 and so on, each once.
 pub fn sound_cells_stay_sound()
-    ensures join { (kind : Kind) (accepted : List (ℕ × Put)) (key : ℕ) (a b : PlainCell) → IsCell a → IsCell b → IsSoundCell kind accepted key a → IsSoundCell kind accepted key b → IsSoundCell kind accepted key (joined_cells a b) }
-    ensures next { (kind : Kind) (accepted : List (ℕ × Put)) (key : ℕ) (cell : PlainCell) (put : Put) → AreAccepted kind accepted key → IsCell cell → IsSoundCell kind accepted key cell → Contains (puts_on key accepted) put → put.number ≡ count_of put.session cell.clock + 1 → IsSoundCell kind accepted key (joined_cells cell (one_put_cell put)) }
+    ensures join { (kind : Kind) (puts : List Put) (a b : PlainCell) → IsCell a → IsCell b → IsSoundCell kind puts a → IsSoundCell kind puts b → IsSoundCell kind puts (joined_cells a b) }
+    ensures next { (kind : Kind) (puts : List Put) (cell : PlainCell) (put : Put) → AreAccepted kind puts → IsCell cell → IsSoundCell kind puts cell → Contains puts put → put.number ≡ count_of put.session cell.clock + 1 → IsSoundCell kind puts (joined_cells cell (one_put_cell put)) }
 {}

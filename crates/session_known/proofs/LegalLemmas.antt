@@ -11,10 +11,10 @@ use Rattle.clock_lattice.specs.ClockLaws.{same_counts, counts_from_covers, cover
 use Rattle.clock_lattice.specs.Needs.{clock_at}
 use Rattle.composed_value.specs.PlainValue.{puts_of_session}
 use Rattle.composed_value.proofs.PlainValueLemmas.{value_is_single}
-use Rattle.composed_value.specs.Sound.{puts_on, counted, IsSound, AreNumbered}
+use Rattle.composed_value.specs.Sound.{counted, IsSound, AreNumbered}
 use Rattle.composed_value.specs.declared.kind.Kind.{Kind}
 use Rattle.composed_value.specs.declared.put.Put as puts
-use Rattle.session_known.specs.Accepted.{made_on, AreNext, accepted, accepted_from}
+use Rattle.session_known.specs.Accepted.{puts_on, made_on, AreNext, accepted, accepted_from}
 use Rattle.session_known.specs.Form.{Fits, IsFinalIn}
 use Rattle.session_known.proofs.KnownLemmas.{CountsAtMost, first_at_most, shown_is_known, known_at_line}
 use Rattle.session_known.specs.Lawful.{ShowsAt, by_get, by_await, required_by_get, IsLawful, AreLawful, IsTrueOf, CountsAccepted}
@@ -65,11 +65,12 @@ finals_agree table script report legal a b has_a has_b same =
     let form_b : IsFinalIn script b = All-contains (IsFinalIn script) report.finals b legal.form.finals has_b in
     let clocks : a.clock ≡ b.clock = same_counts a.clock b.clock form_a.clock_is.is_clock form_b.clock_is.is_clock (λ session.
     final_counts table script report legal a lawful_a session ∙ ap (λ key. length (made_on session key all)) same ∙ sym (final_counts table script report legal b lawful_b session)) in
-    let sound_b : IsSound kind all a.key a.clock b.top b.value =
-    subst (λ clock. IsSound kind all a.key clock b.top b.value) (sym clocks) (subst (λ key. IsSound (kind_at script.kinds key) all key b.clock b.top b.value) (sym same) lawful_b.sound) in (
+    let on_key : List puts.Put = puts_on a.key all in
+    let sound_b : IsSound kind on_key a.clock b.top b.value =
+    subst (λ clock. IsSound kind on_key clock b.top b.value) (sym clocks) (subst (λ key. IsSound (kind_at script.kinds key) (puts_on key all) b.clock b.top b.value) (sym same) lawful_b.sound) in (
       clocks,
-      greatest_or_zero_is_single (map (λ put. put.lamport) (counted all a.key a.clock)) a.top b.top lawful_a.sound.top_is sound_b.top_is,
-      value_is_single kind (counted all a.key a.clock) a.value b.value lawful_a.sound.value_is sound_b.value_is,
+      greatest_or_zero_is_single (map (λ put. put.lamport) (counted on_key a.clock)) a.top b.top lawful_a.sound.top_is sound_b.top_is,
+      value_is_single kind (counted on_key a.clock) a.value b.value lawful_a.sound.value_is sound_b.value_is,
     )
 
 -- a lawful reply's clock counts only accepted puts

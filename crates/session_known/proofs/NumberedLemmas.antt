@@ -13,10 +13,10 @@ use Rattle.std.proofs.lemmas.List.Elements.{filter-append}
 use Rattle.lattice_laws.specs.Entries.{with_old}
 use Rattle.clock_lattice.specs.Clock.{count_of, joined_clocks, one_count}
 use Rattle.composed_value.specs.PlainValue.{puts_of_session}
-use Rattle.composed_value.specs.Sound.{puts_on, AreNumbered}
+use Rattle.composed_value.specs.Sound.{AreNumbered}
 use Rattle.composed_value.specs.declared.payload.Payload.{Payload}
 use Rattle.composed_value.specs.declared.put.Put as puts
-use Rattle.session_known.specs.Accepted.{client_of, made_on, AreNext, accepted_from}
+use Rattle.session_known.specs.Accepted.{client_of, puts_on, made_on, AreNext, accepted_from}
 use Rattle.session_known.specs.Lawful.{IsLawful, AreLawful}
 use Rattle.session_known.specs.Legal.{AreLawfulFrom}
 use Rattle.session_known.specs.Session.{Client, Knowledge, State, start, own_count, put_made, knows_put, puts_committed, knows_committed, held_puts, after, puts_by, puts_from}

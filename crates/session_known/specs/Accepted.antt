@@ -1,7 +1,6 @@
 -- The puts that a report accepts.
-use Rattle.std.specs.Prelude.{◌≡◌, ℕ, ◌+◌, List, [], ◌∷◌, ◌++◌, ⊤}
+use Rattle.std.specs.Prelude.{◌≡◌, ℕ, ◌+◌, List, [], ◌∷◌, ◌++◌, ◌==◌, map, filter, ⊤}
 use Rattle.composed_value.specs.PlainValue.{puts_of_session}
-use Rattle.composed_value.specs.Sound.{puts_on}
 use Rattle.composed_value.specs.declared.put.Put.{Put}
 use Rattle.session_known.specs.Session.{Client, start, puts_from}
 use Rattle.session_known.specs.declared.report.Answer.{Answer}
@@ -22,7 +21,11 @@ accepted_from number plans answers = []
 abbrev pub accepted : Script → Report → List (ℕ × Put)
 accepted script report = accepted_from 1 script.sessions report.answers
 
--- the puts of a session on a key, of puts each with its key
+-- the puts on a key, of puts each with its key
+abbrev pub puts_on : ℕ → List (ℕ × Put) → List Put
+puts_on key accepted = map (λ entry. entry.1) (filter (λ entry. entry.0 == key) accepted)
+
+-- those of them that a session made
 abbrev pub made_on : ℕ → ℕ → List (ℕ × Put) → List Put
 made_on session key made = puts_of_session session (puts_on key made)
 

@@ -3,9 +3,10 @@ use Rattle.std.specs.Prelude.{◌≡◌, ◌≢◌, ℕ, ◌+◌, ◌-◌, ◌*�
 use Rattle.clock_lattice.specs.Clock.{count_of, joined_clocks, one_count, covers}
 use Rattle.clock_lattice.specs.Needs.{clock_at}
 use Rattle.composed_value.specs.PlainValue.{puts_of_session}
-use Rattle.composed_value.specs.Sound.{puts_on, IsSound, AreSoundNeeds}
+use Rattle.composed_value.specs.Sound.{IsSound, AreSoundNeeds}
 use Rattle.composed_value.specs.declared.kind.Kind.{Kind}
 use Rattle.composed_value.specs.declared.put.Put as puts
+use Rattle.session_known.specs.Accepted.{puts_on}
 use Rattle.session_known.specs.Script.{replicas_of, home_at, kind_at}
 use Rattle.session_known.specs.Session.{Client, Knowledge, State, own_count, held_puts, after}
 use Rattle.session_known.specs.declared.report.Answer.{Answer}
@@ -125,14 +126,14 @@ AreLawful table client state earlier (line ∷ lines) (answer ∷ answers) =
 AreLawful table client state earlier lines answers = ⊥
 
 -- the needs of a reply are sound where they are shown
-abbrev pub AreSoundWhereShown : List (ℕ × puts.Put) → ℕ → List (ℕ × ℕ) → Option (List (ℕ × List (ℕ × ℕ))) → Type 0
-AreSoundWhereShown accepted key clock None = ⊤
-AreSoundWhereShown accepted key clock (Some needs) = AreSoundNeeds accepted key clock needs
+abbrev pub AreSoundWhereShown : List puts.Put → List (ℕ × ℕ) → Option (List (ℕ × List (ℕ × ℕ))) → Type 0
+AreSoundWhereShown on_key clock None = ⊤
+AreSoundWhereShown on_key clock (Some needs) = AreSoundNeeds on_key clock needs
 
 -- a reply holds exactly the accepted puts that its clock counts
 pub record IsSoundReply (kinds : List Kind) (accepted : List (ℕ × puts.Put)) (key : ℕ) (shown : Shown) : Type 0 where
-  pub sound : IsSound (kind_at kinds key) accepted key shown.clock shown.top shown.value
-  pub needs : AreSoundWhereShown accepted key shown.clock shown.needs
+  pub sound : IsSound (kind_at kinds key) (puts_on key accepted) shown.clock shown.top shown.value
+  pub needs : AreSoundWhereShown (puts_on key accepted) shown.clock shown.needs
 
 -- a clock counts no more puts of a session on the key than were accepted
 abbrev pub CountsAccepted : List (ℕ × puts.Put) → ℕ → List (ℕ × ℕ) → Type 0

@@ -3,10 +3,10 @@ use Rattle.std.specs.Prelude.{ℕ, ◌+◌, ◌≤◌, List, [], ◌∷◌, All,
 use Rattle.std.specs.List.{AllZip}
 use Rattle.placement.specs.Config.{IsPlacement}
 use Rattle.clock_lattice.specs.Clock.{count_of}
-use Rattle.composed_value.specs.Sound.{puts_on, IsSound}
+use Rattle.composed_value.specs.Sound.{IsSound}
 use Rattle.composed_value.specs.declared.kind.Kind.{Kind}
 use Rattle.composed_value.specs.declared.put.Put as puts
-use Rattle.session_known.specs.Accepted.{client_of, accepted}
+use Rattle.session_known.specs.Accepted.{client_of, puts_on, accepted}
 use Rattle.session_known.specs.Form.{HasForm}
 use Rattle.session_known.specs.Lawful.{AreLawful, IsTrueOf}
 use Rattle.session_known.specs.Script.{kind_at}
@@ -25,7 +25,7 @@ AreLawfulFrom table number plans answers = ⊥
 
 -- the final cell of a replica is sound, and counts every accepted put of its key
 pub record IsLawfulFinal (kinds : List Kind) (accepted : List (ℕ × puts.Put)) (cell : FinalCell) : Type 0 where
-  pub sound : IsSound (kind_at kinds cell.key) accepted cell.key cell.clock cell.top cell.value
+  pub sound : IsSound (kind_at kinds cell.key) (puts_on cell.key accepted) cell.clock cell.top cell.value
   pub counts_all : All (λ put. put.number ≤ count_of put.session cell.clock) (puts_on cell.key accepted)
 
 -- A legal report of a script, where the keys live as the table says: it has the script's form; the answers of each session are lawful;

@@ -3,10 +3,10 @@ ghost use Rattle.std.specs.Prelude.{◌≡◌, ◌<◌, ℕ, IsTrue, List, [], l
 ghost use Rattle.std.specs.List.{AllZip};
 ghost use Rattle.clock_lattice.specs.Clock.{covers};
 ghost use Rattle.composed_value.specs.PlainValue.{puts_of_session};
-ghost use Rattle.composed_value.specs.Sound.{puts_on, AreNumbered};
+ghost use Rattle.composed_value.specs.Sound.{AreNumbered};
 ghost use Rattle.composed_value.specs.declared.kind.Kind.{Kind};
 ghost use Rattle.composed_value.specs.declared.put.Put as puts;
-ghost use Rattle.session_known.specs.Accepted.{accepted_from};
+ghost use Rattle.session_known.specs.Accepted.{puts_on, accepted_from};
 ghost use Rattle.session_known.specs.Form.{Fits};
 ghost use Rattle.session_known.specs.Lawful.{ShowsAt, AreLawful, IsTrueOf, CountsAccepted};
 ghost use Rattle.session_known.specs.Legal.{AreLawfulFrom, IsLegalAt};

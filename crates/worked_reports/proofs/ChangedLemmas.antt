@@ -4,10 +4,9 @@ use Rattle.std.proofs.Common.{refl, ap, inl, inr, arith, lit<}
 use Rattle.std.proofs.lemmas.List.Elements.{recursion_from_All}
 use Rattle.lattice_laws.specs.Members.{contains_none, contains_cases}
 use Rattle.clock_lattice.specs.Clock.{count_of}
-use Rattle.composed_value.specs.Sound.{puts_on}
 use Rattle.composed_value.specs.declared.kind.Kind.TheVariants as kinds
 use Rattle.composed_value.specs.declared.put.Put.{Put}
-use Rattle.session_known.specs.Accepted.{accepted}
+use Rattle.session_known.specs.Accepted.{puts_on, accepted}
 use Rattle.session_known.specs.Lawful.{last_lamport}
 use Rattle.session_known.specs.Legal.{IsLegalAt}
 use Rattle.worked_reports.specs.Worked.{first_script, first_table, first_report, first_final, home_script, home_table, commit_script, commit_table, causal_script, causal_table, causal_final_b}

@@ -21,7 +21,7 @@ use Rattle.composed_value.proofs.CellOfLemmas.{cell_of_is_cell}
 use Rattle.composed_value.specs.Kind.{kind_of}
 use Rattle.composed_value.specs.PlainValue.{IsPutOf, IsValueOf, puts_of_session}
 use Rattle.composed_value.specs.Put.{IsPayload}
-use Rattle.composed_value.specs.Sound.{puts_on, counted, IsSound, AreSoundNeeds}
+use Rattle.composed_value.specs.Sound.{counted, IsSound, AreSoundNeeds}
 use Rattle.composed_value.specs.declared.kind.Kind.{Kind}
 use Rattle.composed_value.specs.declared.kind.Kind.TheVariants as kinds
 use Rattle.composed_value.specs.declared.payload.Payload.{Payload}
@@ -29,7 +29,7 @@ use Rattle.composed_value.specs.declared.payload.Payload.TheVariants as payloads
 use Rattle.composed_value.specs.declared.put.Put.{Put}
 use Rattle.composed_value.specs.declared.value.Value.{Value}
 use Rattle.composed_value.specs.declared.value.Value.TheVariants as values
-use Rattle.session_known.specs.Accepted.{accepted}
+use Rattle.session_known.specs.Accepted.{puts_on, accepted}
 use Rattle.session_known.specs.Form.{NamesSessions, IsClockIn, AreNeedsIn, IsFinalIn}
 use Rattle.session_known.specs.Lawful.{last_lamport}
 use Rattle.session_known.specs.Legal.{IsLawfulFinal, IsLegalAt}
@@ -79,27 +79,27 @@ one_session_counts puts session n within q =
     ]
 
 -- a clock of one session, a top and a value are sound where the cell of the counted puts has this top and value
-pub sound_by_cell : (kind : Kind) (all : List (ℕ × Put)) (key session n top : ℕ) (value : Value) → AllByRecursion (IsPutOf kind) (counted all key ((session, n) ∷ [])) → n ≤ length (puts_of_session session (puts_on key all))
-    → (cell_of kind (counted all key ((session, n) ∷ []))).top ≡ top → (cell_of kind (counted all key ((session, n) ∷ []))).value ≡ value → IsSound kind all key ((session, n) ∷ []) top value
-sound_by_cell kind all key session n top value each within top_is value_is =
-    let puts : List Put = counted all key ((session, n) ∷ []) in
+pub sound_by_cell : (kind : Kind) (all : List Put) (session n top : ℕ) (value : Value) → AllByRecursion (IsPutOf kind) (counted all ((session, n) ∷ [])) → n ≤ length (puts_of_session session all)
+    → (cell_of kind (counted all ((session, n) ∷ []))).top ≡ top → (cell_of kind (counted all ((session, n) ∷ []))).value ≡ value → IsSound kind all ((session, n) ∷ []) top value
+sound_by_cell kind all session n top value each within top_is value_is =
+    let puts : List Put = counted all ((session, n) ∷ []) in
     let of_puts = (cell_of_is_cell kind puts (All-from_recursion (IsPutOf kind) puts each)).1 in
     record {
-      counts = one_session_counts (puts_on key all) session n within;
+      counts = one_session_counts all session n within;
       value_is = subst (IsValueOf kind puts) value_is of_puts.value;
       top_is = subst (IsGreatestOrZero (map (λ put. put.lamport) puts)) top_is of_puts.top;
     }
 
 -- so are its needs, where the cell has these
-pub needs_by_cell : (kind : Kind) (all : List (ℕ × Put)) (key session n : ℕ) (needs : List (ℕ × List (ℕ × ℕ))) → AllByRecursion (IsPutOf kind) (counted all key ((session, n) ∷ []))
-    → (cell_of kind (counted all key ((session, n) ∷ []))).needs ≡ needs → AreSoundNeeds all key ((session, n) ∷ []) needs
-needs_by_cell kind all key session n needs each needs_are =
-    let puts : List Put = counted all key ((session, n) ∷ []) in
+pub needs_by_cell : (kind : Kind) (all : List Put) (session n : ℕ) (needs : List (ℕ × List (ℕ × ℕ))) → AllByRecursion (IsPutOf kind) (counted all ((session, n) ∷ []))
+    → (cell_of kind (counted all ((session, n) ∷ []))).needs ≡ needs → AreSoundNeeds all ((session, n) ∷ []) needs
+needs_by_cell kind all session n needs each needs_are =
+    let puts : List Put = counted all ((session, n) ∷ []) in
     let of_puts = (cell_of_is_cell kind puts (All-from_recursion (IsPutOf kind) puts each)).1 in
-    subst (AreSoundNeeds all key ((session, n) ∷ [])) needs_are of_puts.needs
+    subst (AreSoundNeeds all ((session, n) ∷ [])) needs_are of_puts.needs
 
 -- The first report: its puts.
-first_puts : AllByRecursion (IsPutOf kinds.Max) (counted (accepted first_script first_report) 1 ((1, 2) ∷ []))
+first_puts : AllByRecursion (IsPutOf kinds.Max) (counted (puts_on 1 (accepted first_script first_report)) ((1, 2) ∷ []))
 first_puts = (
   put_of kinds.Max 1 1 1 0 [] (payloads.Max 5) (lit< tt) (lit< tt) (lit< tt) (lit< tt) (lit< tt) empty_are_needs (lit< tt) refl,
   (
@@ -113,8 +113,8 @@ first_clock : IsClockIn first_script ((1, 2) ∷ [])
 first_clock = one_session_in first_script 1 2 (lit≤ tt, lit≤ tt) (lit< tt) (lit< tt) (lit< tt)
 
 -- and what stands beside it
-first_sound : IsSound kinds.Max (accepted first_script first_report) 1 ((1, 2) ∷ []) 2 (values.Max (Is 5))
-first_sound = sound_by_cell kinds.Max (accepted first_script first_report) 1 1 2 2 (values.Max (Is 5)) first_puts (lit≤ tt) refl refl
+first_sound : IsSound kinds.Max (puts_on 1 (accepted first_script first_report)) ((1, 2) ∷ []) 2 (values.Max (Is 5))
+first_sound = sound_by_cell kinds.Max (puts_on 1 (accepted first_script first_report)) 1 2 2 (values.Max (Is 5)) first_puts (lit≤ tt) refl refl
 
 -- the report of the first run is legal
 pub first_is_legal : IsLegalAt first_table first_script first_report
@@ -160,10 +160,10 @@ red_is_word : IsWord (codes "red")
 red_is_word = record { some = lit≤ tt; short = lit≤ tt; allowed = AllPass-from_list_all is_spelling_byte (codes "red") refl }
 
 -- The second report: the puts that its two cells count.
-home_put_one : AllByRecursion (IsPutOf kinds.Set) (counted (accepted home_script home_report) 1 ((1, 1) ∷ []))
+home_put_one : AllByRecursion (IsPutOf kinds.Set) (counted (puts_on 1 (accepted home_script home_report)) ((1, 1) ∷ []))
 home_put_one = (put_of kinds.Set 1 1 1 0 [] (payloads.Add (codes "x")) (lit< tt) (lit< tt) (lit< tt) (lit< tt) (lit< tt) empty_are_needs x_is_word refl, tt)
 
-home_puts_both : AllByRecursion (IsPutOf kinds.Set) (counted (accepted home_script home_report) 1 ((1, 2) ∷ []))
+home_puts_both : AllByRecursion (IsPutOf kinds.Set) (counted (puts_on 1 (accepted home_script home_report)) ((1, 2) ∷ []))
 home_puts_both = (
   put_of kinds.Set 1 1 1 0 [] (payloads.Add (codes "x")) (lit< tt) (lit< tt) (lit< tt) (lit< tt) (lit< tt) empty_are_needs x_is_word refl,
   (
@@ -187,11 +187,11 @@ home_set_both : IsTextSet (codes "x" ∷ codes "y" ∷ [])
 home_set_both = record { ascending = refl; are_members = All-from_recursion IsWord (codes "x" ∷ codes "y" ∷ []) (x_is_word, (y_is_word, tt)) }
 
 -- they hold what their clocks count
-home_sound_one : IsSound kinds.Set (accepted home_script home_report) 1 ((1, 1) ∷ []) 1 (values.Set (codes "x" ∷ []))
-home_sound_one = sound_by_cell kinds.Set (accepted home_script home_report) 1 1 1 1 (values.Set (codes "x" ∷ [])) home_put_one (lit≤ tt) refl refl
+home_sound_one : IsSound kinds.Set (puts_on 1 (accepted home_script home_report)) ((1, 1) ∷ []) 1 (values.Set (codes "x" ∷ []))
+home_sound_one = sound_by_cell kinds.Set (puts_on 1 (accepted home_script home_report)) 1 1 1 (values.Set (codes "x" ∷ [])) home_put_one (lit≤ tt) refl refl
 
-home_sound_both : IsSound kinds.Set (accepted home_script home_report) 1 ((1, 2) ∷ []) 2 (values.Set (codes "x" ∷ codes "y" ∷ []))
-home_sound_both = sound_by_cell kinds.Set (accepted home_script home_report) 1 1 2 2 (values.Set (codes "x" ∷ codes "y" ∷ [])) home_puts_both (lit≤ tt) refl refl
+home_sound_both : IsSound kinds.Set (puts_on 1 (accepted home_script home_report)) ((1, 2) ∷ []) 2 (values.Set (codes "x" ∷ codes "y" ∷ []))
+home_sound_both = sound_by_cell kinds.Set (puts_on 1 (accepted home_script home_report)) 1 2 2 (values.Set (codes "x" ∷ codes "y" ∷ [])) home_puts_both (lit≤ tt) refl refl
 
 -- the second counts all puts
 home_counts_all : All (λ (put : Put). put.number ≤ count_of put.session ((1, 2) ∷ [])) (puts_on 1 (accepted home_script home_report))
@@ -263,10 +263,10 @@ home_is_legal = record {
 }
 
 -- The third report: the put on each key.
-commit_put_a : AllByRecursion (IsPutOf kinds.Max) (counted (accepted commit_script commit_report) 1 ((1, 1) ∷ []))
+commit_put_a : AllByRecursion (IsPutOf kinds.Max) (counted (puts_on 1 (accepted commit_script commit_report)) ((1, 1) ∷ []))
 commit_put_a = (put_of kinds.Max 1 1 1 0 [] (payloads.Max 5) (lit< tt) (lit< tt) (lit< tt) (lit< tt) (lit< tt) empty_are_needs (lit< tt) refl, tt)
 
-commit_put_l : AllByRecursion (IsPutOf kinds.Last) (counted (accepted commit_script commit_report) 2 ((1, 1) ∷ []))
+commit_put_l : AllByRecursion (IsPutOf kinds.Last) (counted (puts_on 2 (accepted commit_script commit_report)) ((1, 1) ∷ []))
 commit_put_l = (put_of kinds.Last 1 1 1 1 [] (payloads.Last (codes "red")) (lit< tt) (lit< tt) (lit< tt) (lit< tt) (lit< tt) empty_are_needs red_is_word refl, tt)
 
 -- the clock of both its cells
@@ -278,11 +278,11 @@ red_is_stamped : IsStamped red
 red_is_stamped = record { number_fits = lit< tt; session_fits = lit< tt; place_fits = lit< tt; is_word = red_is_word }
 
 -- the cells hold what their clocks count
-commit_sound_a : IsSound kinds.Max (accepted commit_script commit_report) 1 ((1, 1) ∷ []) 1 (values.Max (Is 5))
-commit_sound_a = sound_by_cell kinds.Max (accepted commit_script commit_report) 1 1 1 1 (values.Max (Is 5)) commit_put_a (lit≤ tt) refl refl
+commit_sound_a : IsSound kinds.Max (puts_on 1 (accepted commit_script commit_report)) ((1, 1) ∷ []) 1 (values.Max (Is 5))
+commit_sound_a = sound_by_cell kinds.Max (puts_on 1 (accepted commit_script commit_report)) 1 1 1 (values.Max (Is 5)) commit_put_a (lit≤ tt) refl refl
 
-commit_sound_l : IsSound kinds.Last (accepted commit_script commit_report) 2 ((1, 1) ∷ []) 1 (values.Last (Is red))
-commit_sound_l = sound_by_cell kinds.Last (accepted commit_script commit_report) 2 1 1 1 (values.Last (Is red)) commit_put_l (lit≤ tt) refl refl
+commit_sound_l : IsSound kinds.Last (puts_on 2 (accepted commit_script commit_report)) ((1, 1) ∷ []) 1 (values.Last (Is red))
+commit_sound_l = sound_by_cell kinds.Last (puts_on 2 (accepted commit_script commit_report)) 1 1 1 (values.Last (Is red)) commit_put_l (lit≤ tt) refl refl
 
 -- the report of the transactions is legal
 pub commit_is_legal : IsLegalAt commit_table commit_script commit_report
@@ -382,10 +382,10 @@ needs_a_and_b : IsNeeds ((1, (1, 1) ∷ []) ∷ (2, (2, 1) ∷ []) ∷ [])
 needs_a_and_b = (needs_laws.closed ((1, (1, 1) ∷ []) ∷ []) ((2, (2, 1) ∷ []) ∷ []) needs_a (one_need_is_needs 2 ((2, 1) ∷ []) (lit< tt) (one_count_is_clock 2 1 (lit< tt) (lit< tt))) tt).0
 
 -- the puts that its cells count
-causal_put_a : AllByRecursion (IsPutOf kinds.Max) (counted (accepted causal_script causal_report) 1 ((1, 1) ∷ []))
+causal_put_a : AllByRecursion (IsPutOf kinds.Max) (counted (puts_on 1 (accepted causal_script causal_report)) ((1, 1) ∷ []))
 causal_put_a = (put_of kinds.Max 1 1 1 0 [] (payloads.Max 1) (lit< tt) (lit< tt) (lit< tt) (lit< tt) (lit< tt) empty_are_needs (lit< tt) refl, tt)
 
-causal_puts_a : AllByRecursion (IsPutOf kinds.Max) (counted (accepted causal_script causal_report) 1 ((1, 2) ∷ []))
+causal_puts_a : AllByRecursion (IsPutOf kinds.Max) (counted (puts_on 1 (accepted causal_script causal_report)) ((1, 2) ∷ []))
 causal_puts_a = (
   put_of kinds.Max 1 1 1 0 [] (payloads.Max 1) (lit< tt) (lit< tt) (lit< tt) (lit< tt) (lit< tt) empty_are_needs (lit< tt) refl,
   (
@@ -394,7 +394,7 @@ causal_puts_a = (
   ),
 )
 
-causal_put_b : AllByRecursion (IsPutOf kinds.Max) (counted (accepted causal_script causal_report) 2 ((2, 1) ∷ []))
+causal_put_b : AllByRecursion (IsPutOf kinds.Max) (counted (puts_on 2 (accepted causal_script causal_report)) ((2, 1) ∷ []))
 causal_put_b = (put_of kinds.Max 2 1 2 0 ((1, (1, 1) ∷ []) ∷ []) (payloads.Max 7) (lit< tt) (lit< tt) (lit< tt) (lit< tt) (lit< tt) needs_a (lit< tt) refl, tt)
 
 -- the clocks of its cells
@@ -423,14 +423,14 @@ causal_needs_b = record {
 }
 
 -- they hold what their clocks count
-causal_sound_a : IsSound kinds.Max (accepted causal_script causal_report) 1 ((1, 1) ∷ []) 1 (values.Max (Is 1))
-causal_sound_a = sound_by_cell kinds.Max (accepted causal_script causal_report) 1 1 1 1 (values.Max (Is 1)) causal_put_a (lit≤ tt) refl refl
+causal_sound_a : IsSound kinds.Max (puts_on 1 (accepted causal_script causal_report)) ((1, 1) ∷ []) 1 (values.Max (Is 1))
+causal_sound_a = sound_by_cell kinds.Max (puts_on 1 (accepted causal_script causal_report)) 1 1 1 (values.Max (Is 1)) causal_put_a (lit≤ tt) refl refl
 
-causal_sound_a_both : IsSound kinds.Max (accepted causal_script causal_report) 1 ((1, 2) ∷ []) 3 (values.Max (Is 2))
-causal_sound_a_both = sound_by_cell kinds.Max (accepted causal_script causal_report) 1 1 2 3 (values.Max (Is 2)) causal_puts_a (lit≤ tt) refl refl
+causal_sound_a_both : IsSound kinds.Max (puts_on 1 (accepted causal_script causal_report)) ((1, 2) ∷ []) 3 (values.Max (Is 2))
+causal_sound_a_both = sound_by_cell kinds.Max (puts_on 1 (accepted causal_script causal_report)) 1 2 3 (values.Max (Is 2)) causal_puts_a (lit≤ tt) refl refl
 
-causal_sound_b : IsSound kinds.Max (accepted causal_script causal_report) 2 ((2, 1) ∷ []) 2 (values.Max (Is 7))
-causal_sound_b = sound_by_cell kinds.Max (accepted causal_script causal_report) 2 2 1 2 (values.Max (Is 7)) causal_put_b (lit≤ tt) refl refl
+causal_sound_b : IsSound kinds.Max (puts_on 2 (accepted causal_script causal_report)) ((2, 1) ∷ []) 2 (values.Max (Is 7))
+causal_sound_b = sound_by_cell kinds.Max (puts_on 2 (accepted causal_script causal_report)) 2 1 2 (values.Max (Is 7)) causal_put_b (lit≤ tt) refl refl
 
 -- the report of the causal sessions is legal
 pub causal_is_legal : IsLegalAt causal_table causal_script causal_report
@@ -494,9 +494,9 @@ causal_is_legal = record {
     ),
   );
   true_of_puts = (
-    (tt, (record { sound = causal_sound_b; needs = needs_by_cell kinds.Max (accepted causal_script causal_report) 2 2 1 ((1, (1, 1) ∷ []) ∷ []) causal_put_b refl }, (tt, tt))),
+    (tt, (record { sound = causal_sound_b; needs = needs_by_cell kinds.Max (puts_on 2 (accepted causal_script causal_report)) 2 1 ((1, (1, 1) ∷ []) ∷ []) causal_put_b refl }, (tt, tt))),
     (
-      (record { sound = causal_sound_a; needs = needs_by_cell kinds.Max (accepted causal_script causal_report) 1 1 1 [] causal_put_a refl }, (tt, tt)),
+      (record { sound = causal_sound_a; needs = needs_by_cell kinds.Max (puts_on 1 (accepted causal_script causal_report)) 1 1 [] causal_put_a refl }, (tt, tt)),
       tt,
     ),
   );

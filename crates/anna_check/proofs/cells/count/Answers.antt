@@ -1,7 +1,8 @@
 use Rattle.std.proofs.Common.{sym, ap, ◌∙◌}
 use Rattle.std.proofs.lemmas.Result.{on_ok_weaker}
 use Rattle.clock_lattice.specs.Clock.{covers}
-use Rattle.anna_check.specs.Counted.{is_counted, is_newly_counted}
+use Rattle.composed_value.specs.Sound.{is_counted}
+use Rattle.anna_check.specs.Counted.{is_newly_counted}
 use Rattle.anna_check.proofs.CountedLemmas.{counted_on, counted_from_none, kind_of_passing}
 use Rattle.anna_check.proofs.cells.count.Goals as goal
 

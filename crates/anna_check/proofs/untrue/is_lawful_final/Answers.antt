@@ -1,5 +1,5 @@
 use Rattle.std.proofs.Common.{◌≡◌, length, ap, subst, ◌∙◌}
-use Rattle.composed_value.specs.Sound.{puts_on}
+use Rattle.session_known.specs.Accepted.{puts_on}
 use Rattle.session_known.specs.Script.{IsOneOf, kind_at}
 use Rattle.anna_check.specs.ByKey.{OfKey}
 use Rattle.anna_check.proofs.ByKeyLemmas.{kind_is}

@@ -1,6 +1,6 @@
 use Rattle.std.proofs.Common.{sym, ◌∙◌}
 use Rattle.std.proofs.lemmas.Bool.{false≢true}
-use Rattle.anna_check.specs.Counted.{is_counted}
+use Rattle.composed_value.specs.Sound.{is_counted}
 use Rattle.anna_check.proofs.CountedLemmas.{kind_of_passing}
 use Rattle.anna_check.proofs.SoundLemmas.{final_counted, final_short}
 use Rattle.anna_check.proofs.ToldLemmas.{read_back, counted_of_their_puts}

@@ -1,5 +1,5 @@
 use Rattle.std.proofs.Common.{sym, ◌∙◌}
-use Rattle.anna_check.specs.Counted.{is_counted}
+use Rattle.composed_value.specs.Sound.{is_counted}
 use Rattle.anna_check.proofs.CountedLemmas.{kind_of_passing}
 use Rattle.anna_check.proofs.SoundLemmas.{reply_counted}
 use Rattle.anna_check.proofs.ToldLemmas.{read_back, counted_of_their_puts}
