@@ -145,9 +145,9 @@ pub(crate) fn put_of(
     };
     let session = known.session();
     seen.raise(session, number)?;
-    seen.known();
+    seen.attest();
     let needs = needs_of_put(alloc, known)?;
-    needs.known();
+    needs.attest();
     Ok(Put {
         session,
         number,

@@ -97,7 +97,7 @@ pub(crate) fn is_cell_shown(cell: &Cell, shown: &Shown) -> bool
 pub(crate) fn counts_only(clock: &Clock, puts: &[Put]) -> bool
     ensures { IsTrue result ↔ ((session : ℕ) → count_of session clock.now ≤ length (puts_of_session session puts.now)) }
 {
-    clock.known();
+    clock.attest();
     for i in 0..clock.len() {
         let Some((session, count)) = clock.at(i) else {
             unreachable!();

@@ -57,9 +57,9 @@ impl Had {
         requires { IsOneOf (length self.old) worker }
         ensures { (workers : ℕ) (earlier : List (of_line.Line × of_answer.Answer)) (line : of_line.Line) (answer : of_answer.Answer) → ((its_key by : ℕ) → had_from its_key by (line, answer) ≡ cond ((key == its_key) && (worker == by)) (Some clock.now) None) → AreJoined workers earlier self.old → OnOk result (AreJoined workers (earlier ++ (line, answer) ∷ []) self.new) }
     {
-        clock.known();
+        clock.attest();
         let had = &mut self.by_worker[usize::from(worker) - 1];
-        had.known();
+        had.attest();
         had.raise(key, clock)?;
         Ok(())
     }

@@ -58,7 +58,7 @@ fn is_clock_from(
     requires worker { IsOneOf (length had.now) worker }
     ensures { (workers : ℕ) (earlier : List (of_line.Line × of_answer.Answer)) → AreJoined workers earlier had.now → IsTrue result ↔ IsClockFrom placement.now known.now.client known.now.knows earlier key worker clock.now }
 {
-    clock.known();
+    clock.attest();
     let home = placement.home(known.session(), key);
     had.are_covered(key, worker, clock)
         && (worker != home || clock.count(known.session()) == known.own(key))
@@ -78,8 +78,8 @@ fn covers_known(known: &Known, key: u16, clock: &Clock) -> bool
 fn covers_raised(known: &Known, key: u16, session: u16, count: u64, clock: &Clock) -> bool
     ensures { result ≡ covers clock.now (known_raised known.now.knows key session count) }
 {
-    clock.known();
-    known.needs().known();
+    clock.attest();
+    known.needs().attest();
     covers_known(known, key, clock) & (clock.count(session) >= count)
 }
 

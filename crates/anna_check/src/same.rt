@@ -8,7 +8,7 @@ pub(crate) fn are_same<L: Lattice>(one: &L, other: &L) -> bool
     requires { L.fits (L.plain one.now) (L.plain other.now) }
     ensures { IsTrue result ↔ (L.plain one.now ≡ L.plain other.now) }
 {
-    one.known();
-    other.known();
+    one.attest();
+    other.attest();
     one.at_most(other) && other.at_most(one)
 }

@@ -163,7 +163,7 @@ mod tests {
         for (session, count) in counts {
             clock.raise(*session, *count)?;
         }
-        clock.known();
+        clock.attest();
         Ok(clock)
     }
 
@@ -173,7 +173,7 @@ mod tests {
     {
         let mut needs = Needs::new(alloc);
         needs.raise(7, &clock_of(alloc, &[(9, count)])?)?;
-        needs.known();
+        needs.attest();
         Ok(needs)
     }
 

@@ -109,11 +109,11 @@ impl Lattice for Cell {
 
     ghost joined = { joined_cells };
 
-    fn known(&self) {
-        self.clock.known();
-        self.needs.known();
+    fn attest(&self) {
+        self.clock.attest();
+        self.needs.attest();
         let _top = self.top;
-        self.value.known();
+        self.value.attest();
     }
 
     fn join(&mut self, other: &Cell) -> Result<(), NoMemory> {
@@ -154,10 +154,6 @@ mod tests {
     use basic_lattices::Word;
     use lattice_laws::{MapKey, Maybe};
     use std::test::Fail;
-
-    fn word(alloc: Global, bytes: &[u8]) -> Result<Word, Fail> {
-        Ok(Word::of(alloc, bytes)?)
-    }
 
     fn clock_of(alloc: Global, session: u16, count: u64) -> Result<Clock, Fail> {
         let mut clock = Clock::new(alloc);
@@ -223,7 +219,7 @@ mod tests {
 
     #[test]
     fn a_cell_is_at_most_what_it_is_joined_into(rt: HostRuntime) -> Result<(), Fail> {
-        let put = put_of(rt.alloc(), 1, 1, Payload::Add(word(rt.alloc(), b"x")?))?;
+        let put = put_of(rt.alloc(), 1, 1, Payload::Add(Word::of(b"x")?))?;
         let one = Cell::of_put(rt.alloc(), &put)?;
         let empty = Cell::empty(rt.alloc(), Kind::Set);
         assert!(rt; empty.at_most(&one));
@@ -235,8 +231,8 @@ mod tests {
 
     #[test]
     fn a_set_keeps_each_word_once(rt: HostRuntime) -> Result<(), Fail> {
-        let first = put_of(rt.alloc(), 1, 1, Payload::Add(word(rt.alloc(), b"x")?))?;
-        let second = put_of(rt.alloc(), 2, 1, Payload::Add(word(rt.alloc(), b"x")?))?;
+        let first = put_of(rt.alloc(), 1, 1, Payload::Add(Word::of(b"x")?))?;
+        let second = put_of(rt.alloc(), 2, 1, Payload::Add(Word::of(b"x")?))?;
         let cell = joined(rt.alloc(), &first, &second)?;
         assert!(rt; matches!(cell.value(), Value::Set(words) if words.len() == 1));
         Ok(())
@@ -244,7 +240,7 @@ mod tests {
 
     #[test]
     fn a_map_keeps_the_greatest_of_each_field(rt: HostRuntime) -> Result<(), Fail> {
-        let field = word(rt.alloc(), b"home")?;
+        let field = Word::of(b"home")?;
         let first = put_of(rt.alloc(), 1, 1, Payload::Field(field.copy()?, 3))?;
         let second = put_of(rt.alloc(), 2, 1, Payload::Field(field.copy()?, 5))?;
         let cell = joined(rt.alloc(), &first, &second)?;
@@ -257,8 +253,8 @@ mod tests {
 
     #[test]
     fn the_last_word_is_that_of_the_greater_lamport_number(rt: HostRuntime) -> Result<(), Fail> {
-        let first = put_of(rt.alloc(), 1, 2, Payload::Last(word(rt.alloc(), b"late")?))?;
-        let second = put_of(rt.alloc(), 2, 1, Payload::Last(word(rt.alloc(), b"soon")?))?;
+        let first = put_of(rt.alloc(), 1, 2, Payload::Last(Word::of(b"late")?))?;
+        let second = put_of(rt.alloc(), 2, 1, Payload::Last(Word::of(b"soon")?))?;
         let cell = joined(rt.alloc(), &first, &second)?;
         let Value::Last(Maybe::Is(last)) = cell.value() else {
             return Err(Fail::new("no word"));
@@ -270,8 +266,8 @@ mod tests {
 
     #[test]
     fn versions_stay_side_by_side(rt: HostRuntime) -> Result<(), Fail> {
-        let first = put_of(rt.alloc(), 1, 1, Payload::Version(word(rt.alloc(), b"x")?))?;
-        let second = put_of(rt.alloc(), 2, 1, Payload::Version(word(rt.alloc(), b"y")?))?;
+        let first = put_of(rt.alloc(), 1, 1, Payload::Version(Word::of(b"x")?))?;
+        let second = put_of(rt.alloc(), 2, 1, Payload::Version(Word::of(b"y")?))?;
         let cell = joined(rt.alloc(), &first, &second)?;
         assert!(rt; matches!(cell.value(), Value::Versions(versions) if versions.len() == 2));
         Ok(())

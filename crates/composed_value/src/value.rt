@@ -99,14 +99,14 @@ impl Lattice for Value {
 
     ghost joined = { joined_values };
 
-    fn known(&self) {
+    fn attest(&self) {
         match self {
-            Value::Max(greatest) => greatest.known(),
-            Value::Or(on) => on.known(),
-            Value::Set(words) => words.known(),
-            Value::Map(fields) => fields.known(),
-            Value::Last(last) => last.known(),
-            Value::Versions(versions) => versions.known(),
+            Value::Max(greatest) => greatest.attest(),
+            Value::Or(on) => on.attest(),
+            Value::Set(words) => words.attest(),
+            Value::Map(fields) => fields.attest(),
+            Value::Last(last) => last.attest(),
+            Value::Versions(versions) => versions.attest(),
         }
     }
 

@@ -113,7 +113,7 @@ mod tests {
     fn pinned(alloc: Global) -> Result<Config, Fail>
         ensures { IfOk result IsValidConfig }
     {
-        let name = Name::of(alloc, b"a")?;
+        let name = Name::of(b"a")?;
         let pins = Items::new(vec![in alloc; 2, 1]?);
         let keys = Items::new(vec![in alloc; KeyPlace { name, pins }]?);
         Ok(Config {
@@ -127,7 +127,7 @@ mod tests {
     fn unpinned(alloc: Global, spelling: &[u8]) -> Result<KeyPlace, Fail>
         ensures { IfOk result (λ key. key.pins ≡ []) }
     {
-        let name = Name::of(alloc, spelling)?;
+        let name = Name::of(spelling)?;
         let pins = Items::new(Vec::new(alloc));
         Ok(KeyPlace { name, pins })
     }

@@ -213,8 +213,8 @@ pub both_spelled : (key session : Bool) → true ≡ key → true ≡ session �
 both_spelled key session spells says = λ i. not (sym spells i && sym says i)
 
 -- the payload that a put says for its key
-pub put_payload : (context : Context) (key : List ℕ) (words : List (List ℕ)) (place : ℕ) (kind : Kind) (said is : Option Payload) → IsFound context key place kind → said ≡ payload_said kind words → said ≡ is → payload_for (keys_of context) context.script.kinds key words ≡ is
-put_payload context key words place kind said is found says same = found_payload context key words place kind found ∙ sym says ∙ same
+pub put_payload : (context : Context) (key : List ℕ) (words : List (List ℕ)) (place : ℕ) (kind : Kind) (said : Option Payload) → IsFound context key place kind → said ≡ payload_said kind words → payload_for (keys_of context) context.script.kinds key words ≡ said
+put_payload context key words place kind said found says = found_payload context key words place kind found ∙ sym says
 
 -- ---- transactions
 

@@ -250,7 +250,7 @@ round_read reader word n kept stands is once inside =
 pub name_fault : (word : List ℕ) (code : Option Code) (fault : LineFault) → IsNameFault word fault → (is_name word ≡ false → code ≡ Some codes_of.Name) → IsFaultOf code fault
 name_fault word code (faults.Code codes_of.Name) is gives = gives is
 name_fault word code (faults.Code why) is gives = absurd is
-name_fault word code faults.NoMemory is gives = tt
+name_fault word code faults.NoMemory is gives = absurd is
 
 -- ---- sessions
 

@@ -17,8 +17,11 @@ use Rattle.basic_lattices.specs.declared.word.WordFault.TheVariants as faults
 use Rattle.lattice_laws.specs.Spelling.{is_spelling_byte, IsSpelled, IsWhyMisspelled}
 use Rattle.lattice_laws.specs.declared.spelling.Misspelled.{Misspelled}
 use Rattle.lattice_laws.specs.declared.spelling.Misspelled.TheVariants.{Length, Byte}
+use Rattle.placement.specs.Name.{IsWhyNoName}
+use Rattle.placement.specs.declared.name.NameFault.{NameFault}
+use Rattle.placement.specs.declared.name.NameFault.TheVariants as names
 use Rattle.script_reader.proofs.ValidListsLaws.{is_spelling}
-use Rattle.script_reader.specs.Words.{is_spelled, is_numeral, number_said, word_said}
+use Rattle.script_reader.specs.Words.{is_name, is_spelled, is_numeral, number_said, word_said}
 
 -- a test that holds of just what meets the property
 from_test : (P : Type 0) (test : Bool) → (test ≡ true → P) → (P → ⊥) → test ≡ false
@@ -38,6 +41,12 @@ pub spelling_tested : (most : ℕ) (word : List ℕ) (result : Result (Unit {0})
 spelling_tested most word (Ok _) is = sym (spelled_is most word is)
 spelling_tested most word (Err fault) why = sym (from_test (IsSpelled most word) (is_spelled most word) (is_spelling most word) (not_spelled most word fault why))
 
+-- bytes that are no name spell none
+pub no_name : (word : List ℕ) (fault : NameFault) → IsWhyNoName word fault → is_name word ≡ false
+no_name word names.Length why = sym (spelling_tested 32 word (Err Length) why)
+no_name word names.Byte why = sym (spelling_tested 32 word (Err Byte) why)
+no_name word names.NoMemory why = absurd why
+
 -- digits are ASCII
 digits_ascii : (digits : List ℕ) → AllDigits 10 digits → IsAscii digits
 digits_ascii digits all i = elim (cases_lt i (length digits)) [ inl below ↦ let digit = digit_at digits i all below in omega arith | inr past ↦ let none = get_or_past digits i 0 past in omega arith ]
@@ -47,15 +56,12 @@ pub no_text : {T E : Type 0} (P : T → Type 0) (U : Type 0) (Q : E → Type 0) 
 no_text P U Q (Ok text) none cases = absurd (cc)
 no_text P U Q (Err e) none cases = cases.0
 
--- a word of a value says itself
-pub word_is : (word : List ℕ) → IsSpelled 64 word → word_said word ≡ Some word
-word_is word is = ap (λ t. cond t (Some word) None) (spelled_is 64 word is)
-
--- and other bytes say none
-pub no_word : (word : List ℕ) (fault : WordFault) → IsWhyNoWord word fault → fault ≢ faults.NoMemory → word_said word ≡ None
-no_word word faults.Length why other = ap (λ t. cond t (Some word) None) (from_test (IsSpelled 64 word) (is_spelled 64 word) (is_spelling 64 word) (not_spelled 64 word Length why))
-no_word word faults.Byte why other = ap (λ t. cond t (Some word) None) (from_test (IsSpelled 64 word) (is_spelled 64 word) (is_spelling 64 word) (not_spelled 64 word Byte why))
-no_word word faults.NoMemory why other = absurd (other refl)
+-- a word of a value says itself, and other bytes say none
+pub word_told : (word : List ℕ) (result : Result (List ℕ) WordFault) → MatchResult result (λ told. (told ≡ word) × IsSpelled 64 word) (IsWhyNoWord word) → result_ok result ≡ word_said word
+word_told word (Ok told) is = ap Some is.0 ∙ sym (ap (λ t. cond t (Some word) None) (spelled_is 64 word is.1))
+word_told word (Err faults.Length) why = sym (ap (λ t. cond t (Some word) None) (from_test (IsSpelled 64 word) (is_spelled 64 word) (is_spelling 64 word) (not_spelled 64 word Length why)))
+word_told word (Err faults.Byte) why = sym (ap (λ t. cond t (Some word) None) (from_test (IsSpelled 64 word) (is_spelled 64 word) (is_spelling 64 word) (not_spelled 64 word Byte why)))
+word_told word (Err faults.NoMemory) why = absurd why
 
 -- the digits that parse reads
 digits_read : IsNumeralModel (λ word. all_ascii_digits word ≡ true) (digits_value 10)

@@ -79,8 +79,7 @@ Reads old result new keyword words = MatchResult result (λ _. HasRead old new k
 -- the fault is one of a name
 abbrev pub IsNameFault : List ℕ → LineFault → Type 0
 IsNameFault word (faults.Code codes_of.Name) = is_name word ≡ false
-IsNameFault word (faults.Code why) = ⊥
-IsNameFault word faults.NoMemory = ⊤
+IsNameFault word fault = ⊥
 
 -- a key's place, counted from 0, and its kind
 pub record IsFound (context : Context) (key : List ℕ) (place : ℕ) (kind : Kind) : Type 0 where

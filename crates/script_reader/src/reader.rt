@@ -168,7 +168,7 @@ impl<'a> Reader<'a> {
             Entry::Round { number } => self.take_round(number),
             Entry::Key { name, kind, pins } => self.take_key(alloc, name, kind, pins),
             Entry::Session { name, level } => self.take_session(alloc, name, level),
-            Entry::Put { key, payload } => self.take_put(alloc, key, payload),
+            Entry::Put { key, payload } => self.take_put(key, payload),
             Entry::Get { key } => self.take_get(key),
             Entry::GetFrom { key, worker } => self.take_get_from(key, worker),
             Entry::Await {

@@ -171,9 +171,9 @@ fn learn_needs(
     let Some(learned) = learned else {
         return known.raise(key, clock);
     };
-    known.known();
-    learned.known();
-    clock.known();
+    known.attest();
+    learned.attest();
+    clock.attest();
     let mut joined = known.joined(learned)?;
     joined.raise(key, clock)?;
     *known = joined;

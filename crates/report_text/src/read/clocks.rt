@@ -47,7 +47,7 @@ fn read_counts(alloc: Global, script: &Script, text: &[u8]) -> Result<Option<Clo
             return Ok(None);
         }
     }
-    clock.known();
+    clock.attest();
     Ok(Some(clock))
 }
 
@@ -101,7 +101,7 @@ fn read_each_need(alloc: Global, script: &Script, text: &[u8]) -> Result<Option<
         }
         match behind {
             [] => {
-                needs.known();
+                needs.attest();
                 return Ok(Some(needs));
             }
             [b',', more @ ..] => rest = more,

@@ -53,7 +53,7 @@ fn is_none(text: &[u8]) -> bool
 fn read_word(alloc: Global, text: &[u8]) -> Result<Option<Word>, NoMemory>
     ensures { IfOk result (Reads IsWord (λ word. word) text.now) }
 {
-    match Word::of(alloc, text) {
+    match Word::of(text) {
         Ok(word) => Ok(Some(word)),
         Err(WordFault::Length) => Ok(None),
         Err(WordFault::Byte) => Ok(None),
@@ -133,7 +133,7 @@ fn read_words(alloc: Global, text: &[u8]) -> Result<Option<TextSet>, NoMemory>
             return Ok(None);
         }
     }
-    words.known();
+    words.attest();
     Ok(Some(words))
 }
 
@@ -166,7 +166,7 @@ fn read_fields(alloc: Global, text: &[u8]) -> Result<Option<FieldMax>, NoMemory>
             return Ok(None);
         }
     }
-    fields.known();
+    fields.attest();
     Ok(Some(fields))
 }
 
@@ -270,7 +270,7 @@ fn read_each_version(
             return Ok(None);
         }
     }
-    versions.known();
+    versions.attest();
     Ok(Some(versions))
 }
 

@@ -113,10 +113,10 @@ fn versions_cell(alloc: Global) -> Result<FinalCell, Fail>
     let mut one_put = Clock::new(alloc);
     one_put.raise(2, 1)?;
     let clock = two_puts(alloc)?.joined(&one_put)?;
-    clock.known();
-    let mut versions = Versions::one(alloc, two_puts(alloc)?, Word::of(alloc, b"z")?)?;
-    versions.join(&Versions::one(alloc, one_put, Word::of(alloc, b"y")?)?)?;
-    versions.known();
+    clock.attest();
+    let mut versions = Versions::one(alloc, two_puts(alloc)?, Word::of(b"z")?)?;
+    versions.join(&Versions::one(alloc, one_put, Word::of(b"y")?)?)?;
+    versions.attest();
     Ok(FinalCell {
         key: 1,
         worker: 1,

@@ -16,7 +16,6 @@ use crate::words::{is_spelling, number};
 use composed_value::Kind;
 use lattice_laws::NoMemory;
 use session_known::{Level, Line};
-use std::alloc::Global;
 
 /// The most command lines that the sessions of a script may have.
 const MOST_COMMANDS: usize = 4096;
@@ -88,12 +87,7 @@ impl<'a> Reader<'a> {
     }
 
     /// Reads a put.
-    pub(crate) fn take_put(
-        &mut self,
-        alloc: Global,
-        key: &[u8],
-        words: &[&[u8]],
-    ) -> Result<(), LineFault>
+    pub(crate) fn take_put(&mut self, key: &[u8], words: &[&[u8]]) -> Result<(), LineFault>
         requires kept { IsKept self.old }
         requires stands { MayStand (seen self.old) keywords.Put (key.now ∷ map (λ word. word.now) words.now) }
         ensures { Reads self.old result self.new keywords.Put (key.now ∷ map (λ word. word.now) words.now) }
@@ -108,7 +102,7 @@ impl<'a> Reader<'a> {
         let Some((place, kind)) = found else {
             return Err(LineFault::Code(Code::Unknown));
         };
-        let Some(payload) = payload(alloc, kind, words)? else {
+        let Some(payload) = payload(kind, words) else {
             return Err(LineFault::Code(Code::Kind));
         };
         if !self.has_room() {

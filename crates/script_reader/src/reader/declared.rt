@@ -14,20 +14,20 @@ use crate::reader::{LineFault, Reader, Sessions};
 use crate::words::number;
 use composed_value::Kind;
 use lattice_laws::Items;
-use placement::{KeyPlace, Name, NameFault, Placement};
+use placement::{KeyPlace, Name, Placement};
 use session_known::{Level, SessionPlan};
 use std::alloc::Global;
 use std::mem;
 
 /// The name that a word spells.
-fn read_name(alloc: Global, word: &[u8]) -> Result<Name, LineFault>
-    ensures { MatchResult result (λ name. (name ≡ word.now) × (is_name word.now ≡ true)) (IsNameFault word.now) }
+fn read_name(word: &[u8]) -> Result<Name, LineFault>
+    ensures { MatchResult result
+        (λ name. (name ≡ word.now) × (is_name word.now ≡ true))
+        (IsNameFault word.now) }
 {
-    match Name::of(alloc, word) {
+    match Name::of(word) {
         Ok(name) => Ok(name),
-        Err(NameFault::Length) => Err(LineFault::Code(Code::Name)),
-        Err(NameFault::Byte) => Err(LineFault::Code(Code::Name)),
-        Err(NameFault::NoMemory) => Err(LineFault::NoMemory),
+        Err(_) => Err(LineFault::Code(Code::Name)),
     }
 }
 
@@ -103,7 +103,7 @@ impl<'a> Reader<'a> {
         let Some(numbers) = numbers(alloc, pin_words)? else {
             return Err(LineFault::Code(Code::Number));
         };
-        let key_name = read_name(alloc, name)?;
+        let key_name = read_name(name)?;
         if self.keys.place_of(name).is_some() || has_repeat(alloc, &numbers)? {
             return Err(LineFault::Code(Code::Twice));
         }
@@ -169,7 +169,7 @@ impl<'a> Reader<'a> {
         requires workers { self.old.has_workers ≡ true }
         ensures { (words : List (List ℕ)) → AreSessionWords words name.now level → MayStand (seen self.old) keywords.Session words → Reads self.old result self.new keywords.Session words }
     {
-        let session_name = read_name(alloc, name)?;
+        let session_name = read_name(name)?;
         if self.has_session(name) {
             return Err(LineFault::Code(Code::Twice));
         }
