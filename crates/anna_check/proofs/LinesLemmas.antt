@@ -7,14 +7,14 @@ use Rattle.composed_value.specs.declared.kind.Kind.{Kind}
 use Rattle.composed_value.specs.declared.payload.Payload.{Payload}
 use Rattle.composed_value.specs.declared.put.Put.{Put}
 use Rattle.session_known.specs.Lawful.{IsLawful, AreLawful}
-use Rattle.session_known.specs.Session.{Client, Knowledge, State, start, own_count, held_puts, knows_put, knows_committed, after, puts_by, puts_from}
+use Rattle.session_known.specs.Session.{Client, Knowledge, State, InState, start, own_count, held_puts, knows_put, knows_committed, after, puts_by, puts_from}
 use Rattle.session_known.specs.declared.report.Answer.{Answer}
 use Rattle.session_known.specs.declared.report.Answer.TheVariants as answers
 use Rattle.session_known.specs.declared.script.Line.{Line}
 use Rattle.session_known.specs.declared.script.Line.TheVariants as lines
 use Rattle.anna_check.specs.ByKey.{OfKey, kinds_of, AreByKey, MayBePut}
 use Rattle.anna_check.specs.Had.{AreJoined}
-use Rattle.anna_check.specs.Inside.{Judged, MayTake}
+use Rattle.anna_check.specs.Inside.{MayTake}
 use Rattle.anna_check.specs.Unlawful.{IsFirstUnlawful}
 use Rattle.anna_check.proofs.HeldLemmas.{count_one_more}
 
@@ -62,7 +62,7 @@ count_after table client state earlier line answer key n lawful within = omega (
 
 -- So many lines were judged, and were lawful: where those that are left are lawful all are, the first of them that is not is the first
 -- of all, and what was accepted with what they accept is what all accept.
-pub record AreJudging (table : List (List ℕ)) (client : Client) (workers : ℕ) (all_lines : List Line) (all_answers : List Answer) (accepted : List OfKey) (i : ℕ) (inside : Judged) (had : List (List (ℕ × List (ℕ × ℕ)))) (more : List OfKey) : Type 0 where
+pub record AreJudging (table : List (List ℕ)) (client : Client) (workers : ℕ) (all_lines : List Line) (all_answers : List Answer) (accepted : List OfKey) (i : ℕ) (inside : InState) (had : List (List (ℕ × List (ℕ × ℕ)))) (more : List OfKey) : Type 0 where
   pub earlier : List (Line × Answer)
   pub client_is : inside.client ≡ client
   pub joined : AreJoined workers earlier had
@@ -74,7 +74,7 @@ pub record AreJudging (table : List (List ℕ)) (client : Client) (workers : ℕ
   pub held : MayAllBePut (kinds_of accepted) (held_puts inside.state)
   pub counts : (key : ℕ) → own_count inside.state.knows key + length (held_puts inside.state) ≤ i
 
-module _ (table : List (List ℕ)) (client : Client) (workers : ℕ) (all_lines : List Line) (all_answers : List Answer) (accepted : List OfKey) (i : ℕ) (inside : Judged) (had : List (List (ℕ × List (ℕ × ℕ)))) (more : List OfKey) (are : AreJudging table client workers all_lines all_answers accepted i inside had more)
+module _ (table : List (List ℕ)) (client : Client) (workers : ℕ) (all_lines : List Line) (all_answers : List Answer) (accepted : List OfKey) (i : ℕ) (inside : InState) (had : List (List (ℕ × List (ℕ × ℕ)))) (more : List OfKey) (are : AreJudging table client workers all_lines all_answers accepted i inside had more)
     (line : Line) (answer : Answer) (within : i < length all_lines) (each : length all_answers ≡ length all_lines) (line_is : line ≡ get_or all_lines i line) (answer_is : answer ≡ get_or all_answers i answer) where
   -- the line is the first of those that are left
   lines_left : drop i all_lines ≡ line ∷ drop (i + 1) all_lines
@@ -94,7 +94,7 @@ module _ (table : List (List ℕ)) (client : Client) (workers : ℕ) (all_lines 
       are.unlawful 1 (omega arith) (of_left (λ left behind. IsFirstUnlawful table client inside.state are.earlier left behind 1) (subst (λ client. IsLawful table client inside.state are.earlier line answer → ⊥) are.client_is unlawful))
 
   -- The line's answer is lawful too.
-  pub judged_lawful : (new : Judged) (new_had : List (List (ℕ × List (ℕ × ℕ)))) (last : List OfKey) → IsLawful table inside.client inside.state are.earlier line answer → MayTake (kinds_of accepted) line → new.client ≡ inside.client → new.state ≡ after inside.client inside.state line answer
+  pub judged_lawful : (new : InState) (new_had : List (List (ℕ × List (ℕ × ℕ)))) (last : List OfKey) → IsLawful table inside.client inside.state are.earlier line answer → MayTake (kinds_of accepted) line → new.client ≡ inside.client → new.state ≡ after inside.client inside.state line answer
       → AreJoined workers (are.earlier ++ (line, answer) ∷ []) new_had → kinds_of last ≡ kinds_of more → ((kinds : List Kind) (puts : List (ℕ × Put)) → AreByKey kinds puts more → AreByKey kinds (puts ++ puts_by inside.client inside.state line answer) last)
       → AreJudging table client workers all_lines all_answers accepted (i + 1) new new_had last
   judged_lawful new new_had last lawful may client_is state_is joined kinds_are puts_are =
@@ -130,7 +130,7 @@ module _ (table : List (List ℕ)) (client : Client) (workers : ℕ) (all_lines 
           subst (IsFirstUnlawful table client start [] all_lines all_answers) same (are.unlawful (suc (suc n)) (omega arith) (of_left (λ left behind. IsFirstUnlawful table client inside.state are.earlier left behind (suc (suc n))) (here, rest)))
 
 -- All lines were judged.
-pub judged_all : (table : List (List ℕ)) (client : Client) (workers : ℕ) (all_lines : List Line) (all_answers : List Answer) (accepted : List OfKey) (i : ℕ) (inside : Judged) (had : List (List (ℕ × List (ℕ × ℕ)))) (more : List OfKey) → AreJudging table client workers all_lines all_answers accepted i inside had more → length all_lines ≤ i → length all_answers ≡ length all_lines
+pub judged_all : (table : List (List ℕ)) (client : Client) (workers : ℕ) (all_lines : List Line) (all_answers : List Answer) (accepted : List OfKey) (i : ℕ) (inside : InState) (had : List (List (ℕ × List (ℕ × ℕ)))) (more : List OfKey) → AreJudging table client workers all_lines all_answers accepted i inside had more → length all_lines ≤ i → length all_answers ≡ length all_lines
     → AreLawful table client start [] all_lines all_answers × ((kinds : List Kind) (made : List (ℕ × Put)) → AreByKey kinds made accepted → AreByKey kinds (made ++ puts_from client start all_lines all_answers) more)
 judged_all table client workers all_lines all_answers accepted i inside had more are all each =
     let no_lines : drop i all_lines ≡ [] = at_drop_all (λ xs. xs) all_lines i all in

@@ -2,17 +2,11 @@
 use Rattle.std.specs.Prelude.{◌≡◌, ℕ, ◌≤◌, List, length, All, ⊤}
 use Rattle.composed_value.specs.declared.kind.Kind.{Kind}
 use Rattle.session_known.specs.Script.{IsOneOf}
-use Rattle.session_known.specs.Session.{Client, State}
 use Rattle.session_known.specs.declared.report.Answer.{Answer}
 use Rattle.session_known.specs.declared.report.Answer.TheVariants as answers
 use Rattle.session_known.specs.declared.script.Line.{Line}
 use Rattle.session_known.specs.declared.script.Line.TheVariants as lines
 use Rattle.anna_check.specs.ByKey.{MayBePut}
-
--- the session, and its state behind the answers that were judged
-pub record Judged : Type 0 where
-  pub client : Client
-  pub state : State
 
 -- the key of the line, if it has one, is one of so many
 abbrev pub NamesKey : ℕ → Line → Type 0

@@ -14,12 +14,12 @@ ghost use Rattle.anna_check.specs.Inside.{CanBeJudged};
 ghost use Rattle.anna_check.specs.Unlawful.{IsFirstUnlawful, IsFirstUnlawfulFrom};
 
 use crate::accepted::Accepted;
+use crate::answered::take_in;
 use crate::had::Had;
-use crate::inside::Inside;
 use crate::lawful::is_lawful;
 use lattice_laws::{Items, NoMemory};
 use placement::Placement;
-use session_known::{Answer, Level, Line, Script};
+use session_known::{Answer, Level, Line, Script, SessionState};
 use std::alloc::Global;
 
 /// The first command of a session, counted from 1, whose answer is not lawful there. Where all are, there
@@ -41,14 +41,14 @@ pub(crate) fn first_unlawful(
     ensures kinds { OnOk result (kinds_of accepted.new ≡ kinds_of accepted.old) }
     ensures puts { (kinds : List of_kind.Kind) (puts : List (ℕ × made.Put)) → AreByKey kinds puts accepted.old → IfOk result (λ found. IfNone found (AreByKey kinds (puts ++ puts_from (record { session = session; level = level }) start lines.now answers.now) accepted.new)) }
 {
-    let mut inside = Inside::new(alloc, session, level);
+    let mut judged = SessionState::new(alloc, session, level);
     let mut had = Had::new(alloc, workers)?;
     for (i, line) in lines.iter().enumerate() {
         let answer = &answers[i];
-        if !is_lawful(placement, &inside, &had, line, answer) {
+        if !is_lawful(placement, &judged, &had, line, answer) {
             return Ok(Some(i as u32 + 1));
         }
-        inside.take_in(alloc, accepted, line, answer)?;
+        take_in(accepted, &mut judged, line, answer)?;
         had.take_in(line, answer)?;
     }
     Ok(None)

@@ -1,22 +1,17 @@
 //! Whether an answer is lawful, as far as it is decided inside its session.
-ghost use Rattle.std.specs.Prelude.{◌≡◌, ◌↔◌, ◌≤◌, ◌*◌, ◌==◌, ℕ, List, cond, IsTrue, length};
-ghost use Rattle.clock_lattice.specs.Clock.{covers};
-ghost use Rattle.clock_lattice.specs.Needs.{clock_at};
-ghost use Rattle.session_known.specs.Lawful as lawful;
-ghost use Rattle.session_known.specs.Lawful.{MayReply, required, IsClockFrom, IsLawfulReply, IsLawfulAgain, IsLawful};
+ghost use Rattle.std.specs.Prelude.{◌≡◌, ◌↔◌, ◌≤◌, ◌*◌, ℕ, List, IsTrue, length};
+ghost use Rattle.session_known.specs.Lawful.{MayReply, IsClockFrom, IsLawfulReply, IsLawfulAgain, IsLawful};
 ghost use Rattle.session_known.specs.Script.{IsOneOf};
-ghost use Rattle.session_known.specs.Session.{known_raised};
 ghost use Rattle.session_known.specs.declared.report.Answer as of_answer;
 ghost use Rattle.session_known.specs.declared.script.Line as of_line;
 ghost use Rattle.anna_check.specs.Had.{AreJoined};
 ghost use Rattle.anna_check.specs.Inside.{NamesKey, NamesWorker};
 
 use crate::had::Had;
-use crate::inside::Inside;
 use clock_lattice::Clock;
 use lattice_laws::Lattice;
 use placement::Placement;
-use session_known::{Answer, Known, Level, Line};
+use session_known::{Answer, Known, Level, Line, SessionState};
 
 /// Whether the worker may reply to a get of the session: in a causal session any replica, else the
 /// named worker or the home.
@@ -64,40 +59,6 @@ fn is_clock_from(
         && (worker != home || clock.count(known.session()) == known.own(key))
 }
 
-/// Whether the clock covers what is known of the key.
-fn covers_known(known: &Known, key: u16, clock: &Clock) -> bool
-    ensures { result ≡ covers clock.now (clock_at key known.now.knows.known) }
-{
-    match known.clock_for(key) {
-        Some(known) => clock.covers(known),
-        None => true,
-    }
-}
-
-/// Whether the clock covers what is known of the key, raised at the session to the count.
-fn covers_raised(known: &Known, key: u16, session: u16, count: u64, clock: &Clock) -> bool
-    ensures { result ≡ covers clock.now (known_raised known.now.knows key session count) }
-{
-    clock.attest();
-    known.needs().attest();
-    covers_known(known, key, clock) & (clock.count(session) >= count)
-}
-
-/// Whether the clock covers what a reply to the line must cover.
-fn covers_required(known: &Known, line: &Line, clock: &Clock) -> bool
-    ensures { result ≡ covers clock.now (required known.now.client known.now.knows line.now) }
-{
-    match line {
-        Line::Get { key, .. } => known.level() != Level::Causal || covers_known(known, *key, clock),
-        Line::Await {
-            key,
-            session,
-            count,
-        } => covers_raised(known, *key, *session, *count, clock),
-        Line::Put { .. } | Line::Begin | Line::Commit | Line::Abort => true,
-    }
-}
-
 /// Whether the worker may reply to the line with a cell of this clock.
 fn is_lawful_reply(
     placement: &Placement,
@@ -117,30 +78,8 @@ fn is_lawful_reply(
     let may_reply = may_reply(placement, known, key, named, worker);
     let is_clock = is_clock_from(placement, known, had, key, worker, clock);
     let is_no_later = clock.count(known.session()) <= known.own(key);
-    let is_covering = covers_required(known, line, clock);
+    let is_covering = known.covers_required(line, clock);
     may_reply & is_clock & is_no_later & is_covering
-}
-
-/// Of two replicas the one that is asked last, the second unless it is the home.
-fn asked_behind(home: u16, last: u16, replica: u16) -> u16
-    ensures { result ≡ cond (replica == home) last replica }
-{
-    if replica == home { last } else { replica }
-}
-
-/// The replica of the key that the session asks last: the last that is not its home, and the home where
-/// there is no other.
-fn last_asked(placement: &Placement, session: u16, key: u16) -> u16
-    requires session { 1 ≤ session }
-    requires key { IsOneOf (length placement.now) key }
-    ensures { result ≡ lawful.last_asked placement.now session key }
-{
-    let home = placement.home(session, key);
-    let mut last = home;
-    for replica in placement.replicas(key) {
-        last = asked_behind(home, last, *replica);
-    }
-    last
 }
 
 /// Whether so many asks are 8 of each of so many replicas.
@@ -169,39 +108,39 @@ fn is_lawful_again(
 {
     let is_causal = known.level() == Level::Causal;
     let is_asked = is_asks_of(asks, placement.replicas(key).len());
-    let is_last = worker == last_asked(placement, known.session(), key);
+    let is_last = worker == placement.last_asked(known.session(), key);
     let is_clock = is_clock_from(placement, known, had, key, worker, clock);
-    let is_lacking = !covers_required(known, line, clock);
+    let is_lacking = !known.covers_required(line, clock);
     is_causal & is_asked & is_last & is_clock & is_lacking
 }
 
 /// Whether the line may get the answer, as far as it is decided inside the session.
 pub(crate) fn is_lawful(
     placement: &Placement,
-    inside: &Inside,
+    session: &SessionState,
     had: &Had,
     line: &Line,
     answer: &Answer,
 ) -> bool
-    requires session { 1 ≤ inside.now.client.session }
+    requires client { 1 ≤ session.now.client.session }
     requires line { NamesKey (length placement.now) line.now }
     requires answer { NamesWorker (length had.now) answer.now }
-    ensures { (workers : ℕ) (earlier : List (of_line.Line × of_answer.Answer)) → AreJoined workers earlier had.now → IsTrue result ↔ IsLawful placement.now inside.now.client inside.now.state earlier line.now answer.now }
+    ensures { (workers : ℕ) (earlier : List (of_line.Line × of_answer.Answer)) → AreJoined workers earlier had.now → IsTrue result ↔ IsLawful placement.now session.now.client session.now.state earlier line.now answer.now }
 {
-    let known = inside.known();
+    let known = session.known();
     match (line, answer) {
         (Line::Put { key, .. }, Answer::Put { number, lamport }) => {
-            inside.is_lawful_put(*key, *number, *lamport)
+            session.is_lawful_put(*key, *number, *lamport)
         }
-        (Line::Put { .. }, Answer::Held) => inside.is_begun(),
-        (Line::Put { .. }, Answer::Worn) => !inside.is_begun() && inside.is_worn(),
-        (Line::Begin, Answer::Begun) => !inside.is_begun(),
+        (Line::Put { .. }, Answer::Held) => session.is_begun(),
+        (Line::Put { .. }, Answer::Worn) => !session.is_begun() && session.is_worn(),
+        (Line::Begin, Answer::Begun) => !session.is_begun(),
         (Line::Commit, Answer::Committed { puts, lamport }) => {
-            inside.is_lawful_commit(*puts, *lamport)
+            session.is_lawful_commit(*puts, *lamport)
         }
-        (Line::Commit, Answer::Worn) => inside.is_begun() && inside.is_worn(),
+        (Line::Commit, Answer::Worn) => session.is_begun() && session.is_worn(),
         (Line::Abort, Answer::Aborted { puts }) => {
-            inside.is_begun() && *puts as usize == inside.held_count()
+            session.is_begun() && *puts as usize == session.held_count()
         }
         (Line::Get { key, worker: named }, Answer::Got { worker, shown }) => is_lawful_reply(
             placement,

@@ -9,10 +9,10 @@
 #![tactic(auto)]
 
 mod accepted;
+mod answered;
 mod cells;
 mod first;
 mod had;
-mod inside;
 mod judge;
 mod lawful;
 mod laws;

@@ -1,3 +1,4 @@
+pub mod AskedLemmas
 pub mod ReplicaLemmas
 pub mod RingPoints
 pub mod RoundLemmas

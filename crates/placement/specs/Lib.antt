@@ -1,3 +1,4 @@
+pub mod Asked
 pub mod Config
 pub mod ConfigLaws
 pub mod Hash

@@ -1,5 +1,6 @@
 //! The placement of a config's keys.
-ghost use Rattle.std.specs.Prelude.{◌≡◌, ◌-◌, ◌≤◌, [], length, slice_index_or, IfOk, IsSorted};
+ghost use Rattle.std.specs.Prelude.{◌≡◌, ◌-◌, ◌≤◌, [], ◌∷◌, length, slice_index_or, IfOk, IsSorted};
+ghost use Rattle.placement.specs.Asked.{others, last_asked, asked};
 ghost use Rattle.placement.specs.Config.{IsValidConfig, IsPlacement, EachHasReplicas, replicas_on, home_of};
 ghost use Rattle.placement.specs.Ring.{point_cmp};
 
@@ -74,6 +75,36 @@ impl Placement {
         replicas[(session as usize - 1) % replicas.len()]
     }
 
+    /// The replica that a session's ask for a key goes to, by the number of the ask from 1: its home
+    /// first, then the others as they are listed, and round again. The session is at least 1, and the key
+    /// one of 1 to `keys()`. Takes no memory.
+    pub fn asked(&self, session: u16, key: u16, ask: u32) -> u16
+        requires session_some { 1 ≤ session }
+        requires some { 1 ≤ key }
+        requires known { key ≤ length self.now }
+        requires ask_some { 1 ≤ ask }
+        ensures { result ≡ asked self.now session key ask }
+    {
+        let home = self.home(session, key);
+        let replicas = self.replicas(key);
+        let order = count_others(replicas, home) + 1;
+        in_order(replicas, home, (ask as usize - 1) % order)
+    }
+
+    /// The replica of a key that a session asks last in each round: the last that is not its home, and
+    /// the home where there is no other. The session is at least 1, and the key one of 1 to `keys()`.
+    /// Takes no memory.
+    pub fn last_asked(&self, session: u16, key: u16) -> u16
+        requires session_some { 1 ≤ session }
+        requires some { 1 ≤ key }
+        requires known { key ≤ length self.now }
+        ensures { result ≡ last_asked self.now session key }
+    {
+        let home = self.home(session, key);
+        let replicas = self.replicas(key);
+        in_order(replicas, home, count_others(replicas, home))
+    }
+
     /// An equal placement.
     pub fn copy(&self) -> Result<Placement, NoMemory>
         ensures { IfOk result (λ copy. copy ≡ self.now) }
@@ -81,6 +112,33 @@ impl Placement {
         let replicas = self.replicas.clone()?;
         Ok(Placement { replicas })
     }
+}
+
+/// How many of the replicas are not the home.
+fn count_others(replicas: &[u16], home: u16) -> usize
+    ensures { result ≡ length (others home replicas.now) }
+{
+    replicas.iter().filter(|replica| **replica != home).count()
+}
+
+/// Of the home and then the other replicas as they are listed, the one at a place, from 0.
+fn in_order(replicas: &[u16], home: u16, place: usize) -> u16
+    requires { place ≤ length (others home replicas.now) }
+    ensures { result ≡ slice_index_or (home ∷ others home replicas.now) place 0 }
+{
+    if place == 0 {
+        return home;
+    }
+    let mut left = place - 1;
+    for replica in replicas {
+        if *replica != home {
+            if left == 0 {
+                return *replica;
+            }
+            left -= 1;
+        }
+    }
+    home
 }
 
 /// The workers that hold a key: its pins, and where it has none the workers met from its hash
@@ -154,6 +212,10 @@ mod tests {
         for (session, want) in [(1, 2), (2, 1), (3, 2)] {
             assert_eq!(rt; placement.home(session, 1), want);
         }
+        for (ask, want) in [(1, 1), (2, 2), (3, 1)] {
+            assert_eq!(rt; placement.asked(2, 1, ask), want);
+        }
+        assert_eq!(rt; placement.last_asked(2, 1), 2);
         Ok(())
     }
 

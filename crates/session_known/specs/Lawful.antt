@@ -1,13 +1,14 @@
 -- Which answers a session may get: what is decided inside the session, and what speaks of all accepted puts.
-use Rattle.std.specs.Prelude.{◌≡◌, ◌≢◌, ℕ, ◌+◌, ◌-◌, ◌*◌, ◌^◌, ◌≤◌, zero, suc, ◌==◌, cond, not, ◌&&◌, IsTrue, IsFalse, List, [], ◌∷◌, ◌++◌, length, filter, filter_map, slice_index_or, Option, Some, None, IsSome, All, Contains, ⊤}
+use Rattle.std.specs.Prelude.{◌≡◌, ◌≢◌, ℕ, ◌+◌, ◌-◌, ◌*◌, ◌^◌, ◌≤◌, zero, suc, ◌==◌, cond, ◌&&◌, IsTrue, IsFalse, List, [], ◌∷◌, ◌++◌, length, filter_map, Option, Some, None, IsSome, All, Contains, ⊤}
 use Rattle.clock_lattice.specs.Clock.{count_of, joined_clocks, one_count, covers}
 use Rattle.clock_lattice.specs.Needs.{clock_at}
+use Rattle.placement.specs.Asked.{replicas_of, home_at, last_asked}
 use Rattle.composed_value.specs.PlainValue.{puts_of_session}
 use Rattle.composed_value.specs.Sound.{IsSound, AreSoundNeeds}
 use Rattle.composed_value.specs.declared.kind.Kind.{Kind}
 use Rattle.composed_value.specs.declared.put.Put as puts
 use Rattle.session_known.specs.Accepted.{puts_on}
-use Rattle.session_known.specs.Script.{replicas_of, home_at, kind_at}
+use Rattle.session_known.specs.Script.{kind_at}
 use Rattle.session_known.specs.Session.{Client, Knowledge, State, own_count, held_puts, after}
 use Rattle.session_known.specs.declared.report.Answer.{Answer}
 use Rattle.session_known.specs.declared.report.Answer.TheVariants as answers
@@ -20,14 +21,6 @@ use Rattle.session_known.specs.declared.script.Line.TheVariants as lines
 -- the greatest Lamport number that there is
 abbrev pub last_lamport : ℕ
 last_lamport = 2 ^ 64 - 1
-
--- the order in which a session asks the replicas of a key: its home, then the others as they are listed
-abbrev pub ask_order : List (List ℕ) → ℕ → ℕ → List ℕ
-ask_order table session key = home_at table session key ∷ filter (λ replica. not (replica == home_at table session key)) (replicas_of table key)
-
--- the last of them
-abbrev pub last_asked : List (List ℕ) → ℕ → ℕ → ℕ
-last_asked table session key = let order = ask_order table session key in slice_index_or order (length order - 1) 0
 
 -- what a get must cover: in a causal session what is known of the key
 abbrev pub required_by_get : Level → Knowledge → ℕ → List (ℕ × ℕ)

@@ -2,8 +2,8 @@
 use Rattle.std.specs.Prelude.{ℕ, ◌+◌, ◌*◌, ◌%◌, ◌≤◌, List, [], ◌∷◌, ◌++◌, length, map, slice_index_or, Option, unwrap_or, ⊤}
 use Rattle.std.specs.List.{range_with_len}
 use Rattle.composed_value.specs.declared.put.Put as puts
-use Rattle.session_known.specs.Lawful.{ask_order, required}
-use Rattle.session_known.specs.Script.{replicas_of, home_at}
+use Rattle.placement.specs.Asked.{replicas_of, home_at, ask_order}
+use Rattle.session_known.specs.Lawful.{required}
 use Rattle.session_known.specs.Session.{Client, State, start, after, puts_by}
 use Rattle.session_known.specs.declared.report.Answer.{Answer}
 use Rattle.session_known.specs.declared.report.Answer.TheVariants as answers

@@ -1,7 +1,8 @@
 -- Which scripts are valid, and what they say of keys and sessions.
 use Rattle.std.specs.Prelude.{◌≡◌, ◌≢◌, ℕ, ◌-◌, ◌≤◌, Bool, true, false, IsTrue, IsFalse, List, [], ◌∷◌, length, sum_by, slice_index_or, Option, Some, None, All, AllPairs, Contains, ⊤}
 use Rattle.placement.specs.Name.{IsName}
-use Rattle.placement.specs.Config.{IsValidConfig, IsPlacement, home_of}
+use Rattle.placement.specs.Asked.{replicas_of}
+use Rattle.placement.specs.Config.{IsValidConfig, IsPlacement}
 use Rattle.composed_value.specs.Kind.{kind_of}
 use Rattle.composed_value.specs.Put.{IsPayload}
 use Rattle.composed_value.specs.declared.kind.Kind.{Kind}
@@ -12,14 +13,6 @@ use Rattle.session_known.specs.declared.script.Line.{Line}
 use Rattle.session_known.specs.declared.script.Line.TheVariants.{Put, Get, Await, Begin, Commit, Abort}
 use Rattle.session_known.specs.declared.script.Script.{Script}
 use Rattle.session_known.specs.declared.script.SessionPlan.{SessionPlan}
-
--- the replicas of a key, of a table that has those of each key
-abbrev pub replicas_of : List (List ℕ) → ℕ → List ℕ
-replicas_of table key = slice_index_or table (key - 1) []
-
--- the replica that takes a session's puts on a key
-abbrev pub home_at : List (List ℕ) → ℕ → ℕ → ℕ
-home_at table session key = home_of (replicas_of table key) session
 
 -- the kind of a key
 abbrev pub kind_at : List Kind → ℕ → Kind

@@ -35,6 +35,15 @@ pub record State : Type 0 where
   pub knows : Knowledge
   pub held : Option (List (ℕ × Payload))
 
+-- a session and its state
+pub record InState : Type 0 where
+  pub client : Client
+  pub state : State
+
+-- a session in a state, with what it knows there
+abbrev pub known_of : InState → Knows
+known_of session = record { client = session.client; knows = session.state.knows }
+
 -- at the start nothing is known, and no transaction is begun
 abbrev pub nothing_known : Knowledge
 nothing_known = record { known = []; lamport = 0; own = [] }
@@ -67,6 +76,10 @@ put_made client knows key payload number lamport place = record {
   payload = payload;
 }
 
+-- the session's next put on a key, at a Lamport number and place
+abbrev pub next_put : Knows → ℕ → Payload → ℕ → ℕ → puts.Put
+next_put of key payload lamport place = put_made of.client of.knows key payload (own_count of.knows key + 1) lamport place
+
 -- what is known once the put is made
 abbrev pub knows_put : Client → Knowledge → ℕ → ℕ → ℕ → Knowledge
 knows_put client knows key number lamport = record {
@@ -74,6 +87,10 @@ knows_put client knows key number lamport = record {
   lamport = lamport;
   own = joined_clocks knows.own (one_count key number);
 }
+
+-- what is known once the session has made its next put on a key; the Lamport number that is known never falls
+abbrev pub knows_next : Knows → ℕ → ℕ → Knowledge
+knows_next of key lamport = knows_put of.client of.knows key (own_count of.knows key + 1) (max of.knows.lamport lamport)
 
 -- the held puts in order, each the session's next on its key, at one Lamport number, in places from the given one on
 abbrev pub puts_committed : Client → Knowledge → ℕ → ℕ → List (ℕ × Payload) → List (ℕ × puts.Put)

@@ -1,15 +1,18 @@
 //! What a session knows between its lines.
-ghost use Rattle.std.specs.Prelude.{◌≡◌, ◌+◌, ◌^◌, ◌<◌, [], max, unwrap_or, OnOk, OnErr, MatchOption};
+ghost use Rattle.std.specs.Prelude.{◌≡◌, ◌+◌, ◌^◌, ◌<◌, [], unwrap_or, IfOk, OnOk, OnErr, MatchOption};
 ghost use Rattle.std.specs.Option.{option_map};
 ghost use Rattle.std.specs.Ordering.{nat_cmp};
 ghost use Rattle.std.specs.FinMap.{find};
-ghost use Rattle.clock_lattice.specs.Needs.{joined_needs, one_need};
-ghost use Rattle.session_known.specs.Lawful.{last_lamport};
-ghost use Rattle.session_known.specs.Session.{nothing_known, own_count, knows_put, needs_learned, knows_learned, shown_of, knows_shown};
+ghost use Rattle.clock_lattice.specs.Clock.{covers};
+ghost use Rattle.clock_lattice.specs.Needs.{clock_at, joined_needs, one_need};
+ghost use Rattle.composed_value.specs.Kind.{kind_of};
+ghost use Rattle.composed_value.specs.PlainValue.{IsPutOf};
+ghost use Rattle.session_known.specs.Lawful.{last_lamport, required};
+ghost use Rattle.session_known.specs.Session.{nothing_known, own_count, known_raised, needs_by, next_put, knows_next, needs_learned, knows_learned, shown_of, knows_shown};
 
-use crate::{Level, Shown};
+use crate::{Level, Line, Shown};
 use clock_lattice::{Clock, Needs};
-use composed_value::Cell;
+use composed_value::{Cell, Payload, Put};
 use lattice_laws::{Lattice, NoMemory};
 use std::alloc::Global;
 use std::marker::Model;
@@ -112,7 +115,7 @@ impl Known {
     pub fn note_put(&mut self, key: u16, lamport: u64) -> Result<(), NoMemory>
         requires { own_count self.old.knows key + 1 < 2 ^ 64 }
         ensures client { self.new.client ≡ self.old.client }
-        ensures ok { OnOk result (self.new.knows ≡ knows_put self.old.client self.old.knows key (own_count self.old.knows key + 1) (max self.old.knows.lamport lamport)) }
+        ensures ok { OnOk result (self.new.knows ≡ knows_next self.old key lamport) }
         ensures err { OnErr result (self.new.knows ≡ self.old.knows) }
     {
         let number = self.own.count(key) + 1;
@@ -155,6 +158,118 @@ impl Known {
         ensures { result.now ≡ self.now.knows.known }
     {
         &self.needs
+    }
+
+    /// The put that the session makes next on the key, at this Lamport number and place, from 0 to
+    /// 4,294,967,295 and 0 outside a commit: a version has seen all that is known of the key, and the put
+    /// of a causal session depends on all that it knows. It is not noted; see [`Known::note_put`].
+    pub fn put_at(
+        &self,
+        key: u16,
+        payload: &Payload,
+        lamport: u64,
+        place: u32,
+    ) -> Result<Put, NoMemory>
+        requires { own_count self.now.knows key + 1 < 2 ^ 64 }
+        ensures put { IfOk result (λ put. put ≡ next_put self.now key payload.now lamport place) }
+        ensures kind { IfOk result (IsPutOf (kind_of payload.now)) }
+    {
+        let session = self.session();
+        let number = self.own(key) + 1;
+        let seen = self.clock_raised(key, session, number)?;
+        seen.attest();
+        let needs = self.needs_of_put()?;
+        needs.attest();
+        Ok(Put {
+            session,
+            number,
+            lamport,
+            place,
+            seen,
+            needs,
+            payload: payload.copy()?,
+        })
+    }
+
+    // The clock that is known of the key, raised at the session to the count.
+    fn clock_raised(&self, key: u16, session: u16, count: u64) -> Result<Clock, NoMemory>
+        ensures { IfOk result (λ clock. clock ≡ known_raised self.now.knows key session count) }
+    {
+        let mut clock = self.clock_copy(key)?;
+        clock.raise(session, count)?;
+        Ok(clock)
+    }
+
+    // The clock that is known of the key, empty where no put on it is known.
+    fn clock_copy(&self, key: u16) -> Result<Clock, NoMemory>
+        ensures { IfOk result (λ clock. clock ≡ clock_at key self.now.knows.known) }
+    {
+        match self.clock_for(key) {
+            Some(clock) => clock.copy(),
+            None => Ok(Clock::new(self.alloc)),
+        }
+    }
+
+    // The causal dependencies of the session's next put: all that it knows, where it is causal.
+    fn needs_of_put(&self) -> Result<Needs, NoMemory>
+        ensures { IfOk result (λ needs. needs ≡ needs_by self.now.client.level self.now.knows) }
+    {
+        match self.level {
+            Level::Causal => self.needs.copy(),
+            Level::Eventual | Level::Committed => Ok(Needs::new(self.alloc)),
+        }
+    }
+
+    /// What a reply to the line must cover: at an await what is known of the key, raised to the awaited
+    /// count; at a get of a causal session what is known of the key; and else nothing.
+    pub fn required(&self, line: &Line) -> Result<Clock, NoMemory>
+        ensures { IfOk result (λ clock. clock ≡ required self.now.client self.now.knows line.now) }
+    {
+        match line {
+            Line::Get { key, .. } if self.level == Level::Causal => self.clock_copy(*key),
+            Line::Await {
+                key,
+                session,
+                count,
+            } => self.clock_raised(*key, *session, *count),
+            Line::Get { .. } | Line::Put { .. } | Line::Begin | Line::Commit | Line::Abort => {
+                Ok(Clock::new(self.alloc))
+            }
+        }
+    }
+
+    /// Whether the clock covers what a reply to the line must cover. Takes no memory.
+    pub fn covers_required(&self, line: &Line, clock: &Clock) -> bool
+        ensures { result ≡ covers clock.now (required self.now.client self.now.knows line.now) }
+    {
+        match line {
+            Line::Get { key, .. } => self.level != Level::Causal || self.covers_known(*key, clock),
+            Line::Await {
+                key,
+                session,
+                count,
+            } => self.covers_raised(*key, *session, *count, clock),
+            Line::Put { .. } | Line::Begin | Line::Commit | Line::Abort => true,
+        }
+    }
+
+    // Whether the clock covers what is known of the key.
+    fn covers_known(&self, key: u16, clock: &Clock) -> bool
+        ensures { result ≡ covers clock.now (clock_at key self.now.knows.known) }
+    {
+        match self.clock_for(key) {
+            Some(known) => clock.covers(known),
+            None => true,
+        }
+    }
+
+    // Whether the clock covers what is known of the key, raised at the session to the count.
+    fn covers_raised(&self, key: u16, session: u16, count: u64, clock: &Clock) -> bool
+        ensures { result ≡ covers clock.now (known_raised self.now.knows key session count) }
+    {
+        clock.attest();
+        self.needs().known();
+        self.covers_known(key, clock) & (clock.count(session) >= count)
     }
 }
 

@@ -12,8 +12,9 @@
 //! [`causal_replies_cover_earlier_ones`]. Examples, legal and not, are those of the crate
 //! `worked_reports`.
 //!
-//! [`Known`] is what a running session keeps between its lines: it follows `specs/Session.antt` step by
-//! step, so that whoever runs a session with it can say what was known at each line.
+//! [`Known`] is what a running session knows between its lines, and [`SessionState`] that with the puts
+//! that it holds: they follow `specs/Session.antt` step by step, so that whoever runs a session with them,
+//! or judges one, can say what was known at each line.
 //!
 //! The crate stands on `composed_value` and `placement` and those below them.
 #![tactic(auto)]
@@ -22,6 +23,7 @@ mod known;
 mod laws;
 mod report;
 mod script;
+mod state;
 
 pub use known::Known;
 pub use laws::{
@@ -30,3 +32,4 @@ pub use laws::{
 };
 pub use report::{Answer, FinalCell, Report, Shown};
 pub use script::{Level, Line, Script, SessionPlan};
+pub use state::SessionState;

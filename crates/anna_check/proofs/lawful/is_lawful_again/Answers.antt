@@ -1,6 +1,5 @@
 use Rattle.std.proofs.Common.{rules, ◌≡◌, ◌↔◌, ◌*◌, IsTrue, length, nat_eq}
-use Rattle.session_known.specs.Lawful.{last_asked}
-use Rattle.session_known.specs.Script.{replicas_of}
+use Rattle.placement.specs.Asked.{replicas_of, last_asked}
 use Rattle.session_known.specs.declared.script.Level.TheVariants.{Causal}
 use Rattle.anna_check.proofs.LawfulLemmas.{again_tested}
 use Rattle.anna_check.proofs.lawful.is_lawful_again.Goals as goal

@@ -2,12 +2,12 @@ use Rattle.std.proofs.Common.{◌&&◌, leb, sym, ap, subst, ◌∙◌}
 use Rattle.clock_lattice.specs.Clock.{covers}
 use Rattle.clock_lattice.specs.Needs.{IsNeeds, clock_at}
 use Rattle.clock_lattice.specs.NeedsLaws.{clock_at_is_clock}
-use Rattle.anna_check.proofs.LawfulLemmas.{covers_raised_both}
-use Rattle.anna_check.proofs.lawful.covers_raised.Goals as goal
+use Rattle.session_known.proofs.CoversLemmas.{covers_raised_both}
+use Rattle.session_known.proofs.known.Known.covers_raised.Goals as goal
 
 pub returns : goal.returns
 returns c =
-    let knows = c.args.known.now.knows in
+    let knows = c.args.self.now.knows in
     let is_known = clock_at_is_clock c.args.key knows.known (subst IsNeeds c.needs.ensures c.known-2.ensures) in
     ap (λ t. t && leb c.args.count c.count.result) c.covers_known.ensures
     ∙ ap (λ n. covers c.args.clock.now (clock_at c.args.key knows.known) && leb c.args.count n) c.count.ensures

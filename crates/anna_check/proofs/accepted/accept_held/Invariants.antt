@@ -1,5 +1,0 @@
-use Rattle.anna_check.proofs.HeldLemmas.{AreAccepting}
-use Rattle.anna_check.proofs.accepted.accept_held.Given as goal
-
-abbrev pub invariant-loop-place : goal.invariant-loop-place
-invariant-loop-place l = AreAccepting l.fn.known l.fn.accepted l.lamport l.held l.place l.known l.accepted

@@ -1,0 +1,101 @@
+//! What an answer does: what its session knows and holds from then on, and the puts that it accepts.
+ghost use Rattle.std.specs.Prelude.{◌≡◌, ℕ, ◌+◌, ◌<◌, ◌≤◌, ◌^◌, List, [], ◌∷◌, ◌++◌, All, length, OnOk};
+ghost use Rattle.composed_value.specs.declared.kind.Kind as of_kind;
+ghost use Rattle.composed_value.specs.declared.put.Put as made;
+ghost use Rattle.session_known.specs.Lawful.{IsLawful};
+ghost use Rattle.session_known.specs.Session.{held_puts, knows_put, knows_committed, own_count, put_made, puts_committed, after, puts_by};
+ghost use Rattle.session_known.specs.declared.report.Answer as of_answer;
+ghost use Rattle.session_known.specs.declared.script.Line as of_line;
+ghost use Rattle.anna_check.specs.ByKey.{AreByKey, MayBePut, kinds_of};
+ghost use Rattle.anna_check.specs.Inside.{MayTake};
+
+use crate::accepted::Accepted;
+use composed_value::Payload;
+use lattice_laws::NoMemory;
+use session_known::{Answer, Line, SessionState};
+
+/// Accepts the session's next put on a key, at a Lamport number and place: the session knows it, and it is
+/// added to the accepted puts.
+fn accept(
+    accepted: &mut Accepted,
+    session: &mut SessionState,
+    key: u16,
+    payload: &Payload,
+    lamport: u64,
+    place: u32,
+) -> Result<(), NoMemory>
+    requires payload { MayBePut (kinds_of accepted.old) key payload.now }
+    requires count { own_count session.old.state.knows key + 1 < 2 ^ 64 }
+    requires lamport { session.old.state.knows.lamport ≤ lamport }
+    ensures client { session.new.client ≡ session.old.client }
+    ensures held { session.new.state.held ≡ session.old.state.held }
+    ensures knows { OnOk result (session.new.state.knows ≡ knows_put session.old.client session.old.state.knows key (own_count session.old.state.knows key + 1) lamport) }
+    ensures kinds { OnOk result (kinds_of accepted.new ≡ kinds_of accepted.old) }
+    ensures puts { (kinds : List of_kind.Kind) (puts : List (ℕ × made.Put)) → AreByKey kinds puts accepted.old → OnOk result (AreByKey kinds (puts ++ (key, put_made session.old.client session.old.state.knows key payload.now (own_count session.old.state.knows key + 1) lamport place) ∷ []) accepted.new) }
+{
+    let put = session.put(key, payload, lamport, place)?;
+    accepted.add(key, put)
+}
+
+/// Accepts puts that were held, one after another, at one Lamport number.
+fn accept_held(
+    accepted: &mut Accepted,
+    session: &mut SessionState,
+    held: &[(u16, Payload)],
+    lamport: u64,
+) -> Result<(), NoMemory>
+    requires held { All (λ held. MayBePut (kinds_of accepted.old) held.0 held.1) held.now }
+    requires counts { (key : ℕ) → own_count session.old.state.knows key + length held.now < 2 ^ 32 }
+    requires lamport { 0 < length held.now → session.old.state.knows.lamport ≤ lamport }
+    ensures client { session.new.client ≡ session.old.client }
+    ensures held { OnOk result (session.new.state.held ≡ session.old.state.held) }
+    ensures knows { OnOk result (session.new.state.knows ≡ knows_committed session.old.client session.old.state.knows lamport held.now) }
+    ensures kinds { OnOk result (kinds_of accepted.new ≡ kinds_of accepted.old) }
+    ensures puts { (kinds : List of_kind.Kind) (puts : List (ℕ × made.Put)) → AreByKey kinds puts accepted.old → OnOk result (AreByKey kinds (puts ++ puts_committed session.old.client session.old.state.knows lamport 0 held.now) accepted.new) }
+{
+    for (place, (key, payload)) in held.iter().enumerate() {
+        accept(accepted, session, *key, payload, lamport, place as u32)?;
+    }
+    Ok(())
+}
+
+/// Takes in the lawful answer of a line: what the session knows and holds from then on, and the puts that
+/// it accepts.
+pub(crate) fn take_in(
+    accepted: &mut Accepted,
+    session: &mut SessionState,
+    line: &Line,
+    answer: &Answer,
+) -> Result<(), NoMemory>
+    requires lawful { (table : List (List ℕ)) × (earlier : List (of_line.Line × of_answer.Answer)) × IsLawful table session.old.client session.old.state earlier line.now answer.now }
+    requires line { MayTake (kinds_of accepted.old) line.now }
+    requires held { All (λ held. MayBePut (kinds_of accepted.old) held.0 held.1) (held_puts session.old.state) }
+    requires counts { (key : ℕ) → own_count session.old.state.knows key + length (held_puts session.old.state) + 1 < 2 ^ 32 }
+    ensures client { session.new.client ≡ session.old.client }
+    ensures state { OnOk result (session.new.state ≡ after session.old.client session.old.state line.now answer.now) }
+    ensures kinds { OnOk result (kinds_of accepted.new ≡ kinds_of accepted.old) }
+    ensures puts { (kinds : List of_kind.Kind) (puts : List (ℕ × made.Put)) → AreByKey kinds puts accepted.old → OnOk result (AreByKey kinds (puts ++ puts_by session.old.client session.old.state line.now answer.now) accepted.new) }
+{
+    match (line, answer) {
+        (Line::Put { key, payload }, Answer::Put { lamport, .. }) => {
+            accept(accepted, session, *key, payload, *lamport, 0)
+        }
+        (Line::Put { key, payload }, Answer::Held) => session.hold(*key, payload),
+        (Line::Begin, Answer::Begun) => {
+            session.begin();
+            Ok(())
+        }
+        (Line::Commit, Answer::Committed { lamport, .. }) => {
+            let held = session.end();
+            accept_held(accepted, session, held.as_slice(), *lamport)
+        }
+        (Line::Commit, Answer::Worn) | (Line::Abort, Answer::Aborted { .. }) => {
+            session.end();
+            Ok(())
+        }
+        (Line::Get { key, .. } | Line::Await { key, .. }, Answer::Got { shown, .. }) => {
+            session.note_shown(*key, shown)
+        }
+        _ => Ok(()),
+    }
+}
