@@ -7,7 +7,7 @@ use Rattle.session_known.specs.Legal.{IsLegal, IsLegalAt}
 use Rattle.session_known.specs.declared.report.Report.{Report}
 use Rattle.session_known.specs.declared.script.Script.{Script}
 use Rattle.anna_check.specs.Unlawful.{IsVerdict}
-use Rattle.anna_check.specs.VerdictLaws.{legal_alone}
+use Rattle.anna_check.proofs.OneVerdictLemmas.{legal_alone}
 use Rattle.anna_check.specs.declared.judge.Verdict.{Verdict}
 use Rattle.anna_check.specs.declared.judge.Verdict.TheVariants.{Legal, Command, Final}
 use Rattle.anna_run.specs.Outcomes.{IsOwedOf, TellsOf, TellsVerdict}

@@ -7,6 +7,7 @@ pub mod OnePlaceLaws
 pub mod OnePutsLaws
 pub mod OneRunLaws
 pub mod OneSessionLaws
+pub mod OneWorker
 pub mod OneWorkerLaws
 pub mod ReportLemmas
 pub mod ServingLemmas

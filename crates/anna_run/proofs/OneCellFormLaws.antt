@@ -19,8 +19,8 @@ use Rattle.lattice_laws.specs.declared.maybe.Maybe.TheVariants.{Bottom, Is}
 use Rattle.clock_lattice.specs.Clock.{IsCount, IsClock, joined_clocks, one_count}
 use Rattle.composed_value.specs.Cell.{PlainCell, joined_cells, empty_cell, one_put_cell}
 use Rattle.composed_value.specs.PlainValue.{IsValueOf, stamped_of, version_of, stamped, versions}
-use Rattle.composed_value.specs.PlainValueLaws.{value_has_kind}
-use Rattle.composed_value.specs.Sound.{puts_on}
+use Rattle.composed_value.proofs.PlainValueLemmas.{value_has_kind}
+use Rattle.session_known.specs.Accepted.{puts_on}
 use Rattle.composed_value.specs.declared.kind.Kind.{Kind}
 use Rattle.composed_value.specs.declared.kind.Kind.TheVariants as kinds
 use Rattle.composed_value.specs.declared.payload.Payload.{Payload}
@@ -34,7 +34,7 @@ use Rattle.version_antichain.specs.declared.version.Version.{Version}
 use Rattle.session_known.specs.Form.{NamesSessions, IsClockIn, ValueNamesSessions, IsValueIn, IsFinalIn}
 use Rattle.session_known.specs.Script.{IsOneOf, kind_at}
 use Rattle.session_known.specs.declared.script.Script.{Script}
-use Rattle.anna_run.specs.OneWorker.{cell_at, final_at}
+use Rattle.anna_run.proofs.OneWorker.{cell_at, final_at}
 use Rattle.anna_run.proofs.OneCellLaws.{cell_is}
 use Rattle.anna_run.proofs.OnePutsLaws.{IsClockOf, IsPutIn, ArePutsIn, each_on_key}
 

@@ -9,15 +9,17 @@ use Rattle.lattice_laws.specs.Members.{contains_filter, contains_map}
 use Rattle.clock_lattice.specs.Clock.{count_of, covers}
 use Rattle.clock_lattice.specs.ClockLaws.{covers_from_counts}
 use Rattle.composed_value.specs.Cell.{PlainCell, IsCell}
-use Rattle.composed_value.specs.CellOfLaws.{cell_of_is_cell}
+use Rattle.composed_value.proofs.CellOfLemmas.{cell_of_is_cell}
 use Rattle.composed_value.specs.PlainValue.{IsValueOf, IsCellOf}
-use Rattle.composed_value.specs.Sound.{puts_on, counted, IsSound}
+use Rattle.composed_value.specs.Sound.{counted, IsSound}
+use Rattle.session_known.specs.Accepted.{puts_on}
 use Rattle.composed_value.specs.declared.kind.Kind.{Kind}
 use Rattle.composed_value.specs.declared.put.Put.{Put}
-use Rattle.session_known.specs.Numbered.{made_on-append, made_on, AreNext}
+use Rattle.session_known.proofs.NumberedLemmas.{made_on-append}
+use Rattle.session_known.specs.Accepted.{made_on, AreNext}
 use Rattle.session_known.specs.Script.{kind_at}
 use Rattle.session_known.specs.declared.script.Script.{Script}
-use Rattle.anna_run.specs.OneWorker.{cell_at}
+use Rattle.anna_run.proofs.OneWorker.{cell_at}
 use Rattle.anna_run.proofs.OnePutsLaws.{ArePutsIn, puts_on-append, each_on_key, of_kind_on, next_rest, greater_of_next, greatest_of_next, puts_in_front}
 
 -- a filter keeps all where all pass
@@ -65,7 +67,7 @@ counts_no_later script done later key are =
     omega (arith, greater, count_is script done key (puts_in_front script done later are) put.session)) (puts_on key later) (All-contains_itself (puts_on key later))
 
 -- what the cell counts of all puts is the puts behind which it stands
-counted_is : (script : Script) (done later : List (ℕ × Put)) (key : ℕ) → ArePutsIn script (done ++ later) → counted (done ++ later) key (cell_at script.kinds done key).clock ≡ puts_on key done
+counted_is : (script : Script) (done later : List (ℕ × Put)) (key : ℕ) → ArePutsIn script (done ++ later) → counted (puts_on key (done ++ later)) (cell_at script.kinds done key).clock ≡ puts_on key done
 counted_is script done later key are =
     let clock : List (ℕ × ℕ) = (cell_at script.kinds done key).clock in
     let counts : Put → Bool = λ put. leb put.number (count_of put.session clock) in
@@ -79,7 +81,7 @@ counted_is script done later key are =
 
 -- So the cell is sound for these puts and those that follow.
 pub sound_at : (script : Script) (done later : List (ℕ × Put)) (key : ℕ) → ArePutsIn script (done ++ later)
-    → IsSound (kind_at script.kinds key) (done ++ later) key (cell_at script.kinds done key).clock (cell_at script.kinds done key).top (cell_at script.kinds done key).value
+    → IsSound (kind_at script.kinds key) (puts_on key (done ++ later)) (cell_at script.kinds done key).clock (cell_at script.kinds done key).top (cell_at script.kinds done key).value
 sound_at script done later key are =
     let before = puts_in_front script done later are in
     let kind : Kind = kind_at script.kinds key in

@@ -12,7 +12,8 @@ use Rattle.composed_value.specs.declared.put.Put as puts
 use Rattle.placement.specs.Config.{placed}
 use Rattle.session_known.specs.Form.{Fits}
 use Rattle.session_known.specs.Lawful.{last_lamport, MayReply, IsLawful, AreLawful}
-use Rattle.session_known.specs.Script.{IsOneOf, replicas_of, MayName, MayStand, IsValidScript}
+use Rattle.session_known.specs.Script.{IsOneOf, MayName, MayStand, IsValidScript}
+use Rattle.placement.specs.Asked.{replicas_of}
 use Rattle.session_known.specs.Session.{Client, State, own_count, after, puts_by, puts_from}
 use Rattle.session_known.specs.declared.report.Answer.{Answer}
 use Rattle.session_known.specs.declared.report.Answer.TheVariants as answers
@@ -20,7 +21,7 @@ use Rattle.session_known.specs.declared.script.Level.TheVariants.{Eventual, Caus
 use Rattle.session_known.specs.declared.script.Line.{Line}
 use Rattle.session_known.specs.declared.script.Line.TheVariants as lines
 use Rattle.session_known.specs.declared.script.Script.{Script}
-use Rattle.anna_run.specs.OneWorker.{shown_at, answer_of, session_answers}
+use Rattle.anna_run.proofs.OneWorker.{shown_at, answer_of, session_answers}
 use Rattle.anna_run.proofs.OneCellFormLaws.{clock_is_in, value_is_in}
 use Rattle.anna_run.proofs.OneCellLaws.{cell_is, count_is}
 use Rattle.anna_run.proofs.OnePlaceLaws.{only_one, replicas_are_one, home_is_one}

@@ -15,7 +15,8 @@ use Rattle.placement.specs.declared.config.Config.{Config}
 use Rattle.placement.specs.declared.config.KeyPlace.{KeyPlace}
 use Rattle.placement.specs.declared.ring.Point.{Point}
 use Rattle.session_known.specs.Form.{replicas_ascending, final_places}
-use Rattle.session_known.specs.Script.{IsValidScript, replicas_of, home_at}
+use Rattle.session_known.specs.Script.{IsValidScript}
+use Rattle.placement.specs.Asked.{replicas_of, home_at}
 use Rattle.session_known.specs.declared.report.FinalCell.{FinalCell}
 use Rattle.session_known.specs.declared.script.Script.{Script}
 

@@ -9,9 +9,10 @@ use Rattle.lattice_laws.specs.Entries.{IsMap}
 use Rattle.lattice_laws.specs.Greatest.{IsGreatestOrZero}
 use Rattle.clock_lattice.specs.Clock.{IsCount}
 use Rattle.composed_value.specs.PlainValue.{IsPutOf}
-use Rattle.composed_value.specs.Sound.{puts_on}
+use Rattle.session_known.specs.Accepted.{puts_on}
 use Rattle.composed_value.specs.declared.put.Put.{Put}
-use Rattle.session_known.specs.Numbered.{made_on, AreNext, number_at, made_on-append, made_here, made_elsewhere, made_by_other}
+use Rattle.session_known.specs.Accepted.{made_on, AreNext}
+use Rattle.session_known.proofs.NumberedLemmas.{number_at, made_on-append, made_here, made_elsewhere, made_by_other}
 use Rattle.session_known.specs.Script.{IsOneOf, kind_at}
 use Rattle.session_known.specs.declared.script.Script.{Script}
 

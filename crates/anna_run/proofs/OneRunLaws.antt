@@ -9,7 +9,7 @@ use Rattle.composed_value.specs.declared.kind.Kind.{Kind}
 use Rattle.composed_value.specs.declared.payload.Payload.{Payload}
 use Rattle.composed_value.specs.declared.put.Put.{Put}
 use Rattle.placement.specs.Config.{placed}
-use Rattle.session_known.specs.Accepted.{client_of, accepted_from}
+use Rattle.session_known.specs.Accepted.{client_of, puts_on, accepted_from}
 use Rattle.session_known.specs.Form.{Fits}
 use Rattle.session_known.specs.Lawful.{IsSoundReply, IsTrueOf}
 use Rattle.session_known.specs.Legal.{AreLawfulFrom}
@@ -22,7 +22,7 @@ use Rattle.session_known.specs.declared.script.Line.{Line}
 use Rattle.session_known.specs.declared.script.Line.TheVariants as lines
 use Rattle.session_known.specs.declared.script.Script.{Script}
 use Rattle.session_known.specs.declared.script.SessionPlan.{SessionPlan}
-use Rattle.anna_run.specs.OneWorker.{cell_at, shown_at, answer_of, session_answers, run_answers}
+use Rattle.anna_run.proofs.OneWorker.{cell_at, shown_at, answer_of, session_answers, run_answers}
 use Rattle.anna_run.proofs.OneCellLaws.{sound_at}
 use Rattle.anna_run.proofs.OneLinesLaws.{HasOneWorker, AreAnswered, session_is_answered}
 use Rattle.anna_run.proofs.OnePutsLaws.{ArePutsIn}
@@ -61,7 +61,7 @@ sessions_are_served script number done (plan ∷ plans) has some within eventual
 -- a reply with the cell of a key behind the first of all puts is sound
 reply_is_sound : (script : Script) (all done later : List (ℕ × Put)) (key : ℕ) → ArePutsIn script all → all ≡ done ++ later → IsSoundReply script.kinds all key (shown_at script.kinds done key)
 reply_is_sound script all done later key are split = record {
-  sound = subst (λ puts. IsSound (kind_at script.kinds key) puts key (cell_at script.kinds done key).clock (cell_at script.kinds done key).top (cell_at script.kinds done key).value) (sym split) (sound_at script done later key (subst (ArePutsIn script) split are));
+  sound = subst (λ puts. IsSound (kind_at script.kinds key) (puts_on key puts) (cell_at script.kinds done key).clock (cell_at script.kinds done key).top (cell_at script.kinds done key).value) (sym split) (sound_at script done later key (subst (ArePutsIn script) split are));
   needs = tt;
 }
 

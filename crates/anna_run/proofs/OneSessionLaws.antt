@@ -12,11 +12,12 @@ use Rattle.clock_lattice.specs.ClockLaws.{covers_from_counts, covers_through}
 use Rattle.clock_lattice.specs.NeedsLaws.{empty_are_needs}
 use Rattle.composed_value.specs.Kind.{kind_of}
 use Rattle.composed_value.specs.Put.{IsPayload}
-use Rattle.composed_value.specs.Sound.{puts_on}
+use Rattle.session_known.specs.Accepted.{puts_on}
 use Rattle.composed_value.specs.declared.payload.Payload.{Payload}
 use Rattle.composed_value.specs.declared.put.Put as puts
 use Rattle.session_known.specs.Lawful.{had_from, earlier_from}
-use Rattle.session_known.specs.Numbered.{made_on, made_on-append, made_here, made_elsewhere, count_put, count_put_elsewhere}
+use Rattle.session_known.specs.Accepted.{made_on}
+use Rattle.session_known.proofs.NumberedLemmas.{made_on-append, made_here, made_elsewhere, count_put, count_put_elsewhere}
 use Rattle.session_known.specs.Script.{IsOneOf, kind_at}
 use Rattle.session_known.specs.Session.{Client, State, start, own_count, put_made, after}
 use Rattle.session_known.specs.declared.report.Answer.{Answer}
@@ -25,7 +26,7 @@ use Rattle.session_known.specs.declared.script.Level.TheVariants.{Eventual}
 use Rattle.session_known.specs.declared.script.Line.{Line}
 use Rattle.session_known.specs.declared.script.Line.TheVariants as lines
 use Rattle.session_known.specs.declared.script.Script.{Script}
-use Rattle.anna_run.specs.OneWorker.{cell_at, shown_at}
+use Rattle.anna_run.proofs.OneWorker.{cell_at, shown_at}
 use Rattle.anna_run.proofs.OneCellFormLaws.{clock_of_cell, clock_of_is_clock, one_count_of}
 use Rattle.anna_run.proofs.OneCellLaws.{cell_is, covers_before, top_at_most}
 use Rattle.anna_run.proofs.OneKnownLaws.{AreNeedsOf, no_needs_of, needs_with, seen_is_of}

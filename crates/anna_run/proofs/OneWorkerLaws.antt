@@ -7,14 +7,14 @@ use Rattle.composed_value.specs.Sound.{IsSound}
 use Rattle.composed_value.specs.declared.put.Put.{Put}
 use Rattle.placement.specs.Config.{placed}
 use Rattle.placement.specs.ConfigLaws.{is_placement}
-use Rattle.session_known.specs.Accepted.{accepted_from}
+use Rattle.session_known.specs.Accepted.{puts_on, accepted_from}
 use Rattle.session_known.specs.Form.{IsFinalIn}
 use Rattle.session_known.specs.Legal.{IsLawfulFinal, IsLegal}
 use Rattle.session_known.specs.Script.{IsValidScript, kind_at}
 use Rattle.session_known.specs.declared.report.Answer.{Answer}
 use Rattle.session_known.specs.declared.script.Level.TheVariants.{Eventual}
 use Rattle.session_known.specs.declared.script.Script.{Script}
-use Rattle.anna_run.specs.OneWorker.{cell_at, run_answers, final_at, report_of}
+use Rattle.anna_run.proofs.OneWorker.{cell_at, run_answers, final_at, report_of}
 use Rattle.anna_run.proofs.OneCellFormLaws.{final_is_in}
 use Rattle.anna_run.proofs.OneCellLaws.{counts_each, sound_at}
 use Rattle.anna_run.proofs.OnePlaceLaws.{final_places_of_one}
@@ -27,7 +27,7 @@ final_is_lawful : (script : Script) (all : List (ℕ × Put)) (key : ℕ) → Ar
 final_is_lawful script all key are =
     let same = append-nil all in
     record {
-      sound = subst (λ puts. IsSound (kind_at script.kinds key) puts key (cell_at script.kinds all key).clock (cell_at script.kinds all key).top (cell_at script.kinds all key).value) same (sound_at script all [] key (subst (ArePutsIn script) (sym same) are));
+      sound = subst (λ puts. IsSound (kind_at script.kinds key) (puts_on key puts) (cell_at script.kinds all key).clock (cell_at script.kinds all key).top (cell_at script.kinds all key).value) same (sound_at script all [] key (subst (ArePutsIn script) (sym same) are));
       counts_all = counts_each script all key are;
     }
 

@@ -9,7 +9,7 @@ use Rattle.std.proofs.lemmas.List.FromFn.{length-map-range_with_len, get_or-map-
 use Rattle.lattice_laws.specs.Joins.{joined_all}
 use Rattle.composed_value.specs.Cell.{PlainCell, empty_cell, one_put_cell, joined_cells, cell_of}
 use Rattle.composed_value.specs.Kind.{kind_of_value}
-use Rattle.composed_value.specs.Sound.{puts_on}
+use Rattle.session_known.specs.Accepted.{puts_on}
 use Rattle.composed_value.specs.Value.{empty_value}
 use Rattle.composed_value.specs.declared.kind.Kind.{Kind}
 use Rattle.composed_value.specs.declared.kind.Kind.TheVariants as kinds
@@ -28,7 +28,8 @@ use Rattle.session_known.specs.declared.script.Script.{Script}
 use Rattle.session_known.specs.declared.script.SessionPlan.{SessionPlan}
 use Rattle.anna_run.specs.OneMap.{cell_for, cells_with}
 use Rattle.anna_run.proofs.OnePutsLaws.{puts_on-append}
-use Rattle.anna_run.specs.OneWorker.{cell_at, shown_plainly, answer_of, session_answers, run_answers, final_at, report_of}
+use Rattle.anna_run.proofs.OneWorker.{cell_at, answer_of, session_answers, run_answers, final_at, report_of}
+use Rattle.anna_run.specs.Serving.{shown_plainly}
 use Rattle.anna_run.specs.Serving.{kinds_of, CanServe, outside, answer_from, cells_merged, cells_then, knows_then, lines_answered, cells_behind, sessions_answered, cells_at_end, final_of}
 
 -- the cells of all keys behind these puts

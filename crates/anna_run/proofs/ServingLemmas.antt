@@ -7,7 +7,7 @@ use Rattle.clock_lattice.specs.Clock.{count_of, joined_clocks, one_count}
 use Rattle.composed_value.specs.Cell.{PlainCell, empty_cell}
 use Rattle.composed_value.specs.Kind.{kind_of, kind_of_value}
 use Rattle.composed_value.specs.Put.{value_of_put}
-use Rattle.composed_value.specs.ValidValues.{put_has_kind}
+use Rattle.composed_value.proofs.ValidValueLemmas.{put_has_kind}
 use Rattle.composed_value.specs.Value.{joined_values}
 use Rattle.composed_value.specs.declared.kind.Kind.TheVariants as kinds
 use Rattle.composed_value.specs.declared.payload.Payload.{Payload}
@@ -16,7 +16,7 @@ use Rattle.composed_value.specs.declared.value.Value.{Value}
 use Rattle.composed_value.specs.declared.value.Value.TheVariants.{Max, Or, Set, Map, Last, Versions}
 use Rattle.session_known.specs.Accepted.{client_of}
 use Rattle.session_known.specs.Lawful.{last_lamport}
-use Rattle.session_known.specs.Numbered.{count_put, count_put_elsewhere}
+use Rattle.session_known.proofs.NumberedLemmas.{count_put, count_put_elsewhere}
 use Rattle.session_known.specs.Script.{kind_at}
 use Rattle.session_known.specs.Session.{Client, Knowledge, Knows, nothing_known, own_count, put_made, knows_put}
 use Rattle.session_known.specs.declared.report.Answer.{Answer}

@@ -2,7 +2,7 @@
 use Rattle.std.proofs.Common.{◌≡◌, ℕ, ◌<◌, inl, inr, List, [], ◌++◌, length, Option, Some, None, sym, ap, ◌∙◌, arith}
 use Rattle.std.proofs.lemmas.Bool.{cases_lt}
 use Rattle.std.proofs.lemmas.List.{append-nil, length-append}
-use Rattle.script_reader.specs.Outside.{TookMost}
+use Rattle.outside.specs.Outside.{TookMost}
 
 -- an input that is shorter than the most that is taken is taken whole
 pub took_whole : (most : ℕ) (now : Option (List ℕ)) (input bytes : List ℕ) → TookMost most (Some input) now bytes → length input < most → bytes ≡ input

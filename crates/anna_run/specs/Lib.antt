@@ -1,5 +1,4 @@
 pub mod OneMap
-pub mod OneWorker
 pub mod Outcomes
 pub mod Run
 pub mod Serving

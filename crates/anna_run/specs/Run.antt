@@ -2,7 +2,8 @@
 use Rattle.std.specs.Prelude.{◌≡◌, ℕ, ◌+◌, ◌<◌, ◌≤◌, ◌⊎◌, false, List, [], ◌∷◌, ◌++◌, take, drop, length, Option, Some, None, Result, Ok, Err, Vec, String, codes}
 use Rattle.std.specs.Global.{Global}
 use Rattle.std.specs.Fmt.{decimal}
-use Rattle.script_reader.specs.Outside.{Rose, NoneLeft, Took, TookMost, Grew, Ends}
+use Rattle.outside.specs.Outside.{Ends}
+use Rattle.outside.specs.Outside.{Rose, NoneLeft, Took, TookMost, Grew}
 use Rattle.placement.specs.Config.{placed}
 use Rattle.script_reader.specs.Grammar.{most_bytes, all_built, IsScript, IsRefused}
 use Rattle.script_reader.specs.Split.{split_place}

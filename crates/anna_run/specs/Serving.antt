@@ -13,11 +13,15 @@ use Rattle.session_known.specs.Session.{Client, Knowledge, Knows, State, nothing
 use Rattle.session_known.specs.declared.report.Answer.{Answer}
 use Rattle.session_known.specs.declared.report.Answer.TheVariants as answers
 use Rattle.session_known.specs.declared.report.FinalCell.{FinalCell}
+use Rattle.session_known.specs.declared.report.Shown.{Shown}
 use Rattle.session_known.specs.declared.script.Line.{Line}
 use Rattle.session_known.specs.declared.script.Line.TheVariants as lines
 use Rattle.session_known.specs.declared.script.SessionPlan.{SessionPlan}
 use Rattle.anna_run.specs.OneMap.{cells_with}
-use Rattle.anna_run.specs.OneWorker.{shown_plainly, final_from}
+
+-- a cell, as a session that is not causal is shown it
+abbrev pub shown_plainly : PlainCell → Shown
+shown_plainly cell = record { clock = cell.clock; top = cell.top; value = cell.value; needs = None }
 
 -- the cell of a key
 abbrev pub cell_in : List PlainCell → ℕ → PlainCell
@@ -93,6 +97,10 @@ sessions_answered number cells (plan ∷ plans) =
 abbrev pub cells_at_end : ℕ → List PlainCell → List SessionPlan → List PlainCell
 cells_at_end number cells [] = cells
 cells_at_end number cells (plan ∷ plans) = cells_at_end (number + 1) (cells_behind (client_of number plan) cells nothing_known plan.lines) plans
+
+-- a cell as the final one of a key, at the one worker
+abbrev pub final_from : ℕ → PlainCell → FinalCell
+final_from key cell = record { key = key; worker = 1; clock = cell.clock; top = cell.top; value = cell.value }
 
 -- the final cell of a key
 abbrev pub final_of : List PlainCell → ℕ → FinalCell

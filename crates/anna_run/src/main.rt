@@ -11,7 +11,7 @@ mod texts;
 mod words;
 
 use run::exit_of;
-use script_reader::outside::{ReadSource, WriteSink};
+use outside::{ReadSource, WriteSink};
 use std::env;
 use std::io::ErrorKind;
 use std::process::ExitCode;

@@ -1,6 +1,6 @@
 //! The call that does all that the program does.
 ghost use Rattle.std.specs.Prelude.{◌≡◌, ◌≤◌, ℕ, List, Some, None, IfOk};
-ghost use Rattle.script_reader.specs.Outside.{Rose};
+ghost use Rattle.outside.specs.Outside.{Rose};
 ghost use Rattle.script_reader.specs.Grammar.{IsScript};
 ghost use Rattle.placement.specs.Config.{placed};
 ghost use Rattle.session_known.specs.Form.{HasForm};
@@ -17,7 +17,7 @@ use crate::words::{Command, WordsFault, read_words};
 use anna_check::{Verdict, check};
 use lattice_laws::NoMemory;
 use report_text::{ReportFault, read_report, write_report};
-use script_reader::outside::{Failed, ReadFault, Sink, Source, finish, read_all};
+use outside::{Failed, ReadFault, Sink, Source, finish, read_all};
 use script_reader::{Built, MOST_BYTES, ScriptFault, read_script, read_script_built, split_input};
 use session_known::{Report, Script};
 use std::alloc::Global;

@@ -4,14 +4,13 @@ ghost use Rattle.std.specs.List.{range_with_len};
 ghost use Rattle.placement.specs.Config.{placed};
 ghost use Rattle.session_known.specs.Legal.{IsLegal};
 ghost use Rattle.session_known.specs.Script.{IsValidScript};
-ghost use Rattle.session_known.specs.Session.{nothing_known, own_count, put_made};
+ghost use Rattle.session_known.specs.Session.{nothing_known};
 ghost use Rattle.session_known.specs.declared.script.Level.TheVariants.{Eventual};
 ghost use Rattle.session_known.specs.declared.script.Line.TheVariants as lines;
-ghost use Rattle.anna_run.specs.OneWorker.{shown_plainly};
+ghost use Rattle.anna_run.specs.Serving.{shown_plainly};
 ghost use Rattle.anna_run.specs.Serving.{CanServe, HasAnswered, IsKept, kinds_of, lines_answered, cells_behind, sessions_answered, cells_at_end, final_of};
 
-use clock_lattice::{Clock, Needs};
-use composed_value::{Cell, Payload, Put};
+use composed_value::{Cell, Payload};
 use lattice_laws::{Items, Lattice, NoMemory};
 use session_known::{Answer, FinalCell, Known, Level, Line, Report, Script, SessionPlan, Shown};
 use std::alloc::Global;
@@ -29,53 +28,21 @@ fn shown(cell: &Cell) -> Result<Shown, NoMemory>
     })
 }
 
-/// The put that an eventual session makes next on the key, at this Lamport number.
-fn next_put(
-    alloc: Global,
-    session: u16,
-    known: &Known,
-    key: u16,
-    lamport: u64,
-    payload: &Payload,
-) -> Result<Put, NoMemory>
-    requires { own_count known.now.knows key + 1 < 2 ^ 64 }
-    ensures { IfOk result (λ put. put ≡ put_made (record { session = session; level = Eventual }) known.now.knows key payload.now (own_count known.now.knows key + 1) lamport 0) }
-{
-    let number = known.own(key) + 1;
-    let mut seen = match known.clock_for(key) {
-        Some(clock) => clock.copy()?,
-        None => Clock::new(alloc),
-    };
-    seen.raise(session, number)?;
-    Ok(Put {
-        session,
-        number,
-        lamport,
-        place: 0,
-        seen,
-        needs: Needs::new(alloc),
-        payload: payload.copy()?,
-    })
-}
-
 /// Takes a put: the session's next on the key, at its next Lamport number where one is left.
 fn put(
-    alloc: Global,
     cells: &mut OneMap,
-    session: u16,
     known: &mut Known,
     key: u16,
     payload: &Payload,
 ) -> Result<Answer, NoMemory>
     requires line { CanServe (kinds_of cells.old) (lines.Put key payload.now) }
-    requires client { known.old.client ≡ record { session = session; level = Eventual } }
     requires kept { IsKept known.old.knows }
     ensures { IfOk result (λ answer. HasAnswered cells.old known.old (lines.Put key payload.now) answer cells.new known.new) }
 {
     let Some(lamport) = known.next_number() else {
         return Ok(Answer::Worn);
     };
-    let put = next_put(alloc, session, known, key, lamport, payload)?;
+    let put = known.put_at(key, payload, lamport, 0)?;
     known.note_put(key, lamport)?;
     cells.put(key, &put)?;
     Ok(Answer::Put {
@@ -102,20 +69,14 @@ fn get(cells: &OneMap, known: &mut Known, key: u16, worker: Option<u16>) -> Resu
 }
 
 /// Answers a line of an eventual session.
-fn answer(
-    alloc: Global,
-    cells: &mut OneMap,
-    session: u16,
-    known: &mut Known,
-    line: &Line,
-) -> Result<Answer, NoMemory>
+fn answer(cells: &mut OneMap, known: &mut Known, line: &Line) -> Result<Answer, NoMemory>
     requires line { CanServe (kinds_of cells.old) line.now }
-    requires client { known.old.client ≡ record { session = session; level = Eventual } }
+    requires level { known.old.client.level ≡ Eventual }
     requires kept { IsKept known.old.knows }
     ensures { IfOk result (λ answer. HasAnswered cells.old known.old line.now answer cells.new known.new) }
 {
     match line {
-        Line::Put { key, payload } => put(alloc, cells, session, known, *key, payload),
+        Line::Put { key, payload } => put(cells, known, *key, payload),
         Line::Get { key, worker } => get(cells, known, *key, *worker),
         // Only committed and causal sessions have these.
         Line::Await { .. } | Line::Begin | Line::Commit | Line::Abort => unreachable!(),
@@ -137,7 +98,7 @@ fn serve_session(
     let mut known = Known::new(alloc, session, Level::Eventual);
     let mut answers = Items::new(Vec::new(alloc));
     for line in lines {
-        answers.push(answer(alloc, cells, session, &mut known, line)?)?;
+        answers.push(answer(cells, &mut known, line)?)?;
     }
     Ok(answers)
 }

@@ -22,7 +22,7 @@ use Rattle.basic_lattices.specs.Stamped.{stamp_cmp}
 use Rattle.basic_lattices.specs.StampedLaws.{stamp_total, stamp_exact, stamp_is_second}
 use Rattle.basic_lattices.specs.TextSet.{united}
 use Rattle.basic_lattices.specs.Word.{IsWord, word_cmp}
-use Rattle.basic_lattices.specs.WordLaws.{word_total, word_exact}
+use Rattle.lattice_laws.specs.SpellingLaws.{spelled_total, spelled_exact}
 use Rattle.basic_lattices.specs.declared.stamped.Stamped.{Stamped}
 use Rattle.clock_lattice.specs.Clock.{IsClock}
 use Rattle.version_antichain.specs.Versions.{joined_versions}
@@ -126,7 +126,7 @@ value_has_kind _ puts _ is = absurd is
 pub value_of_none : (kind : Kind) → IsValueOf kind [] (empty_value kind)
 value_of_none kinds.Max = none_of_none
 value_of_none kinds.Or = ((λ on. absurd (false≢true on)), (λ some. absurd (omega arith)))
-value_of_none kinds.Set = set_of_none word_total word_exact IsWord
+value_of_none kinds.Set = set_of_none spelled_total spelled_exact IsWord
 value_of_none kinds.Map = (record { ascending = refl; are_entries = All-nil (IsEntry IsWord (λ number. number < 2 ^ 64)) }, λ field. none_of_none)
 value_of_none kinds.Last = none_of_none
 value_of_none kinds.Versions = kept_of_none
@@ -135,7 +135,7 @@ value_of_none kinds.Versions = kept_of_none
 value_of_payload : (kind : Kind) (put : Put) (payload : Payload) → kind_of payload ≡ kind → IsClock put.seen → IsPayload payload → IsValueOf kind (record put { payload = payload } ∷ []) (brought_by put payload)
 value_of_payload kinds.Max put (payloads.Max number) of_kind seen is = greatest_of_one max_is_greater number
 value_of_payload kinds.Or put payloads.On of_kind seen is = ((λ on. omega arith), (λ some. refl))
-value_of_payload kinds.Set put (payloads.Add word) of_kind seen is = set_of_one word_total word_exact IsWord word is
+value_of_payload kinds.Set put (payloads.Add word) of_kind seen is = set_of_one spelled_total spelled_exact IsWord word is
 value_of_payload kinds.Map put (payloads.Field its_field number) of_kind seen is = (
   record { ascending = refl; are_entries = All-cons (IsEntry IsWord (λ n. n < 2 ^ 64)) (its_field, number) [] is (All-nil (IsEntry IsWord (λ n. n < 2 ^ 64))) },
   λ field. field_of_one (eq_by_cmp word_cmp field its_field) number,
@@ -155,11 +155,11 @@ value_of_both kinds.Max xs ys (values.Max a) _ va vb = absurd vb
 value_of_both kinds.Or xs ys (values.Or a) (values.Or b) va vb = some_of_both xs ys a b va vb
 value_of_both kinds.Or xs ys (values.Or a) _ va vb = absurd vb
 value_of_both kinds.Set xs ys (values.Set a) (values.Set b) va vb =
-    subst (λ all. IsSetOf word_cmp IsWord all (united a b)) (sym (filter_map-append word_in xs ys)) (set_of_both word_total word_exact IsWord (words xs) (words ys) a b va vb)
+    subst (λ all. IsSetOf word_cmp IsWord all (united a b)) (sym (filter_map-append word_in xs ys)) (set_of_both spelled_total spelled_exact IsWord (words xs) (words ys) a b va vb)
 value_of_both kinds.Set xs ys (values.Set a) _ va vb = absurd vb
 value_of_both kinds.Map xs ys (values.Map a) (values.Map b) va vb = (
   (fields_laws.closed a b va.0 vb.0 tt).0,
-  λ field. subst₂ (IsGreatest ◌≤◌) (sym (filter_map-append (number_in_at field) xs ys)) (sym (find-joined_maps max word_total field a b vb.0.ascending))
+  λ field. subst₂ (IsGreatest ◌≤◌) (sym (filter_map-append (number_in_at field) xs ys)) (sym (find-joined_maps max spelled_total field a b vb.0.ascending))
       (greatest_of_both max_is_greater (numbers_at field xs) (numbers_at field ys) (find word_cmp field a) (find word_cmp field b) (va.1 field) (vb.1 field)),
 )
 value_of_both kinds.Map xs ys (values.Map a) _ va vb = absurd vb
@@ -186,10 +186,10 @@ value_is_single kinds.Max puts (values.Max a) (values.Max b) va vb = ap values.M
 value_is_single kinds.Max puts (values.Max a) _ va vb = absurd vb
 value_is_single kinds.Or puts (values.Or a) (values.Or b) va vb = ap values.Or (both_ways a b (λ on. vb.1 (va.0 on)) (λ on. va.1 (vb.0 on)))
 value_is_single kinds.Or puts (values.Or a) _ va vb = absurd vb
-value_is_single kinds.Set puts (values.Set a) (values.Set b) va vb = ap values.Set (set_of_is_single word_total word_exact IsWord (words puts) a b va vb)
+value_is_single kinds.Set puts (values.Set a) (values.Set b) va vb = ap values.Set (set_of_is_single spelled_total spelled_exact IsWord (words puts) a b va vb)
 value_is_single kinds.Set puts (values.Set a) _ va vb = absurd vb
 value_is_single kinds.Map puts (values.Map a) (values.Map b) va vb =
-    ap values.Map (same_from_keys word_total word_exact IsWord (max_laws (λ number. number < 2 ^ 64)) (λ _ _. tt) a b va.0 vb.0
+    ap values.Map (same_from_keys spelled_total spelled_exact IsWord (max_laws (λ number. number < 2 ^ 64)) (λ _ _. tt) a b va.0 vb.0
     (λ field. greatest_is_single max_is_greater (numbers_at field puts) (find word_cmp field a) (find word_cmp field b) (va.1 field) (vb.1 field)))
 value_is_single kinds.Map puts (values.Map a) _ va vb = absurd vb
 value_is_single kinds.Last puts (values.Last a) (values.Last b) va vb = ap values.Last (found_is_single stamp_is_greater stamped_in puts a b va vb)

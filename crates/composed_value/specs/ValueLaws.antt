@@ -16,7 +16,7 @@ use Rattle.basic_lattices.specs.Stamped.{stamp_cmp, IsStamped}
 use Rattle.basic_lattices.specs.StampedLaws.{stamp_laws, stamp_associative}
 use Rattle.basic_lattices.specs.TextSetLaws.{set_laws, set_associative}
 use Rattle.basic_lattices.specs.Word.{IsWord}
-use Rattle.basic_lattices.specs.WordLaws.{word_total, word_exact}
+use Rattle.lattice_laws.specs.SpellingLaws.{spelled_total, spelled_exact}
 use Rattle.version_antichain.specs.VersionsLaws.{versions_laws, versions_associative}
 use Rattle.composed_value.specs.Kind.{kind_of_value}
 use Rattle.composed_value.specs.Value.{IsFound, joined_found, IsFields, joined_fields, IsValue, joined_values}
@@ -86,7 +86,7 @@ greatest_laws : LatticeLaws (IsFound (λ number. number < 2 ^ 64)) (λ _ _. ⊤)
 greatest_laws = found_laws (max_laws (λ number. number < 2 ^ 64)) (λ _ _. tt)
 
 pub fields_laws : LatticeLaws IsFields (λ _ _. ⊤) joined_fields
-fields_laws = map_laws word_total word_exact IsWord (max_laws (λ number. number < 2 ^ 64)) (λ _ _. tt)
+fields_laws = map_laws spelled_total spelled_exact IsWord (max_laws (λ number. number < 2 ^ 64)) (λ _ _. tt)
 
 last_laws : LatticeLaws (IsFound IsStamped) (λ _ _. ⊤) (joined_found (ord_max stamp_cmp))
 last_laws = found_laws stamp_laws (λ _ _. tt)
@@ -125,7 +125,7 @@ value_regrouped (Or a) (Or b) (Or c) h i va vb vc = ap Or (or_associative a b c 
 value_regrouped (Or a) (Or b) _ h i va vb vc = absurd i
 value_regrouped (Set a) (Set b) (Set c) h i va vb vc = ap Set (set_associative a b c va vb vc tt tt)
 value_regrouped (Set a) (Set b) _ h i va vb vc = absurd i
-value_regrouped (Map a) (Map b) (Map c) h i va vb vc = ap Map (map_associative word_total word_exact IsWord (max_laws (λ number. number < 2 ^ 64)) (λ _ _. tt) (max_associative (λ number. number < 2 ^ 64)) a b c va vb vc tt tt)
+value_regrouped (Map a) (Map b) (Map c) h i va vb vc = ap Map (map_associative spelled_total spelled_exact IsWord (max_laws (λ number. number < 2 ^ 64)) (λ _ _. tt) (max_associative (λ number. number < 2 ^ 64)) a b c va vb vc tt tt)
 value_regrouped (Map a) (Map b) _ h i va vb vc = absurd i
 value_regrouped (Last a) (Last b) (Last c) h i va vb vc = ap Last (found_associative stamp_laws (λ _ _. tt) stamp_associative a b c va vb vc tt tt)
 value_regrouped (Last a) (Last b) _ h i va vb vc = absurd i

@@ -107,7 +107,7 @@ has_added old before now line kept was is =
 
 -- ---- where a command stands
 
--- behind the number of workers, in a session
+-- after the number of workers, in a session
 pub record IsInSession (context : Context) : Type 0 where
   pub workers : context.has_workers ≡ true
   pub some : nat_lt 0 (length context.script.sessions) ≡ true
@@ -326,7 +326,7 @@ all_two : (workers rest : Bool) → not (workers && rest) ≡ false → workers 
 all_two true rest is = refl
 all_two false rest is = absurd cc
 
--- an end line behind no transaction adds nothing
+-- an end line after no transaction adds nothing
 pub end_read : (reader : Reader) → IsKept reader → MayStand (seen reader) keywords.End [] → begun_of reader.sessions ≡ false → HasRead reader reader keywords.End []
 end_read reader kept stands ended =
     let workers : reader.has_workers ≡ true = all_two reader.has_workers _ stands.word in
@@ -386,7 +386,7 @@ no_workers : (has_workers has_header : Bool) → (has_workers ≡ true → has_h
 no_workers true has_header headed none = sym (headed refl)
 no_workers false has_header headed none = sym none
 
--- a reader behind the header
+-- a reader after the header
 abbrev pub with_header : Reader → Reader
 with_header reader = record {
   built = reader.built;

@@ -1,4 +1,4 @@
--- The lines that declare: what the reader keeps behind each, and which fault a line has.
+-- The lines that declare: what the reader keeps after each, and which fault a line has.
 use Rattle.std.proofs.Common.{◌≡◌, ℕ, ◌+◌, ◌<◌, ◌≤◌, Bool, true, false, not, cond, nat_le, ◌||◌, ◌&&◌, List, [], ◌∷◌, ◌++◌, map, length, drop, Option, Some, None, is_some, unwrap_or, Result, Ok, Err, MatchResult, MatchOption, slice_index_or, All, Vec, Global, refl, sym, ap, subst, ◌∙◌, arith}
 use Rattle.std.specs.List.{list_any, sum_by}
 use Rattle.std.specs.Str.{bytes_eq}
@@ -281,7 +281,7 @@ session_begun context words name level are stands named once few begun =
     at_session (λ words. MayStand context keywords.Session words → code_of context keywords.Session words ≡ Some codes_of.Transaction) words name level are
     (λ word said stands. code_transaction _ _ _ stands.header stands.word refl (ap not named) once refl refl (at_least_is few) begun) stands
 
--- a session is begun behind the line of workers
+-- a session is begun after the line of workers
 pub session_follows : (context : Context) (words : List (List ℕ)) → MayStand context keywords.Session words → context.has_workers ≡ true
 session_follows context words stands = follows context keywords.Session words stands
 
@@ -376,7 +376,7 @@ session_last sessions own name met last is own_is missing last_is =
 
 -- ---- keys
 
--- what holds of the name and the words behind it holds of the words
+-- what holds of the name and the words after it holds of the words
 at_key : (P : List (List ℕ) → Type 0) (words : List (List ℕ)) (name : List ℕ) (kind : Kind) (pins : List (List ℕ)) → AreKeyWords words name kind pins
     → ((rest : List (List ℕ)) → kind_said (slice_index_or (name ∷ rest) 1 []) ≡ Some kind → drop 3 (name ∷ rest) ≡ pins → P (name ∷ rest)) → P words
 at_key P [] name kind pins are holds = absurd (false≢true are.may_stand)

@@ -8,7 +8,7 @@ use Rattle.std.proofs.lemmas.Iterator.{YieldsList}
 
 module _ {S T A B C : Type 0} (steps : S → Option A → S → Type 0) (others : T → Option A → T → Type 0) (v : A → B) (w : A → C) (eq : A → A → Bool) (same : B → C → Bool)
     (agree : (x y : A) → eq x y ≡ same (v x) (w y)) (result : Bool) where
-  -- what was met behind the items that are equal: an end, two ends, or two that differ
+  -- what was met after the items that are equal: an end, two ends, or two that differ
   abbrev Last : Option A → Option A → Type 0
   Last o p = MatchOption o (MatchOption p (result ≡ true) (λ _. result ≡ false)) (λ x. (result ≡ false) × IfSome p (λ y. eq x y ≡ false))
 

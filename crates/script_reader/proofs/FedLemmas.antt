@@ -1,4 +1,4 @@
--- Lines with their line feeds: a text that goes on behind one, how long lines are, and the front of a text that they are.
+-- Lines with their line feeds: a text that goes on after one, how long lines are, and the front of a text that they are.
 use Rattle.std.proofs.Common.{◌≡◌, ℕ, suc, ◌+◌, ◌<◌, Bool, true, false, cond, List, [], ◌∷◌, ◌++◌, map, length, take, refl, ap, ◌∙◌, arith}
 use Rattle.std.specs.Str.Lines.{strip_carriage_return}
 use Rattle.std.specs.List.{slice_split, onto_first, list_any}
@@ -19,7 +19,7 @@ pub fed_append : (lines more : List (List ℕ)) → fed (lines ++ more) ≡ fed 
 fed_append [] more = omega arith
 fed_append (line ∷ lines) more = omega (arith, fed_append lines more)
 
--- the place behind the first line that says `end` alone, where a line follows it
+-- the place after the first line that says `end` alone, where a line follows it
 pub place_at : (before : List (List ℕ)) (line : List ℕ) (after : List (List ℕ)) → list_any is_end_alone before ≡ false → is_end_alone line ≡ true → 0 < length after → bytes_to_end (before ++ line ∷ after) ≡ fed (before ++ line ∷ [])
 place_at [] line after none ends some = before_lines line after some ∙ ap (λ ends. length line + 1 + cond ends 0 (bytes_to_end after)) ends
 place_at (first ∷ before) line after none ends some =
@@ -38,7 +38,7 @@ cut_append : (feed : Bool) (b : ℕ) (lines more : List (List ℕ)) → 0 < leng
 cut_append true b lines more some = refl
 cut_append false b lines more some = onto_append b lines more some
 
--- what stands behind a line feed is cut by itself
+-- what stands after a line feed is cut by itself
 pub split_behind : (text more : List ℕ) → slice_split is_line_feed (text ++ 10 ∷ more) ≡ slice_split is_line_feed text ++ slice_split is_line_feed more
 split_behind [] more = refl
 split_behind (b ∷ text) more =

@@ -143,7 +143,7 @@ pub record HasReadLines (setting : Setting) (lines : List (List ℕ)) (n : ℕ) 
   pub ended_is : ended ≡ has_end (take n lines)
   pub in_order : AreInOrder setting (take n lines)
 
--- what is held behind these lines is what they say
+-- what is held after these lines is what they say
 code_here : (setting : Setting) (lines : List (List ℕ)) (n : ℕ) (reader : Reader) (ended : Bool) (line : List ℕ) → HasReadLines setting lines n reader ended → code_said (seen reader) ended line (statement_of line) ≡ code_behind setting (take n lines) line
 code_here setting lines n reader ended line read = λ i. code_said (read.holds i) (read.ended_is i) line (statement_of line)
 
@@ -173,7 +173,7 @@ read_code setting lines n reader ended line why read within at fault = record {
   code_is = refl;
 }
 
--- A line is at fault behind those that were read.
+-- A line is at fault after those that were read.
 pub read_fault : (setting : Setting) (lines : List (List ℕ)) (n : ℕ) (reader : Reader) (ended : Bool) (line : List ℕ) (fault : LineFault) → HasReadLines setting lines n reader ended → n < length lines → line ≡ get_or lines n [] → IsFaultOf (code_said (seen reader) ended line (statement_of line)) fault → IsWhyNoLines setting lines (told (n + 1) fault)
 read_fault setting lines n reader ended line (line_faults.Code why) read within at fault = inl (read_code setting lines n reader ended line why read within at fault)
 read_fault setting lines n reader ended line line_faults.NoMemory read within at fault = tt
@@ -218,9 +218,9 @@ read_script setting lines n reader ended read all end =
     let whole : take n lines ≡ lines = take_all n lines (omega arith) in
     record { in_order = subst (AreInOrder setting) whole read.in_order; ended = ap has_end (sym whole) ∙ sym read.ended_is ∙ end; says = ap (λ context. context.script) read.holds ∙ ap (λ front. script_said setting.named (statements_of front)) whole }
 
--- ---- lines behind references
+-- ---- lines after references
 
--- a line behind its reference
+-- a line after its reference
 pub line_behind : (lines : List (Bor (List ℕ))) (n : ℕ) (d : Bor (List ℕ)) → n < length lines → (get_or lines n d).now ≡ get_or (map (λ line. line.now) lines) n []
 line_behind lines n d within = sym (get_or-map (λ (line : Bor (List ℕ)). line.now) lines n d [] within)
 

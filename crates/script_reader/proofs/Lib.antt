@@ -8,7 +8,6 @@ pub mod FormsLaws
 pub mod GrammarLaws
 pub mod GrammarLemmas
 pub mod LineLemmas
-pub mod OutsideLemmas
 pub mod PinLemmas
 pub mod SaidLaws
 pub mod ScriptEndLemmas

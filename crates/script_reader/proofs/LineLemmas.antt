@@ -1,4 +1,4 @@
--- Lists of lines and names behind references.
+-- Lists of lines and names after references.
 use Rattle.std.proofs.Common.{◌≡◌, ℕ, Bool, true, false, not, cond, nat_lt, List, [], ◌∷◌, ◌++◌, map, length, Some, None, Bor, position, refl, ap, sym, ◌∙◌, ◌+◌, ◌||◌, if◌then◌else◌, ◌-◌, slice_get, ◌≢◌, option_map, take, zero, suc, arith}
 use Rattle.std.specs.List.{position_or_len, list_any}
 use Rattle.std.specs.Str.{bytes_eq}
@@ -59,7 +59,7 @@ last_behind lines last at n counted =
     let place : length lines - 1 ≡ n = omega (arith, length-map lines (λ (line : Bor (List ℕ)). line.now)) in
     slice_get-map (λ (line : Bor (List ℕ)). line.now) lines n ∙ ap (λ i. option_map (λ (line : Bor (List ℕ)). line.now) (slice_get lines i)) (sym place) ∙ ap (option_map (λ line. line.now)) at
 
--- an empty last line behind references
+-- an empty last line after references
 pub dropped_behind : (lines : List (Bor (List ℕ))) (last : Bor (List ℕ)) → slice_get lines (length lines - 1) ≡ Some last → length last.now ≡ 0 → map (λ line. line.now) (take (length lines - 1) lines) ≡ without_empty_last (map (λ line. line.now) lines)
 dropped_behind lines last at empty =
     let some = slice_get_within lines (length lines - 1) last at in

@@ -53,7 +53,7 @@ pub number_first : (other : ℕ) (before : List Statement) (statement : Statemen
 number_first other [] statement none = refl
 number_first other (first ∷ before) statement none = let some = lt-ltb 0 (length (first ∷ before)) (omega arith) in absurd cc
 
--- behind the first two lines the number of workers stays
+-- after the first two lines the number of workers stays
 pub workers_kept : (before : List Statement) (statement : Statement) → nat_lt 1 (length before) ≡ true → number_or 0 (drop 1 (before ++ statement ∷ [])) ≡ number_or 0 (drop 1 before)
 workers_kept [] statement two = absurd cc
 workers_kept (first ∷ []) statement two = absurd cc

@@ -1,4 +1,4 @@
--- Where a script ends: at its first line whose only word is `end`, behind which no line says anything.
+-- Where a script ends: at its first line whose only word is `end`, after which no line says anything.
 use Rattle.std.proofs.Common.{◌≡◌, ◌⊎◌, ℕ, ◌+◌, ◌<◌, ◌≤◌, ◌==◌, ◌||◌, Bool, true, false, cond, List, [], ◌∷◌, ◌++◌, map, length, take, codes, Option, Some, None, is_some, refl, sym, ap, ◌∙◌, subst, inl, inr, append_assoc, arith}
 use Rattle.std.specs.List.{before_first, slice_split, slice_index, list_any, cons_option}
 use Rattle.std.specs.Str.{bytes_eq}
@@ -35,7 +35,7 @@ end_said : (word : List ℕ) (test : Bool) → bytes_eq word (codes "end") ≡ t
 end_said word true is = ap (λ word. is_end (keyword_of word)) ((bytes_eq-Decides word (codes "end")).0 is)
 end_said word false is = other_word word is
 
--- an end line without a fault has no word behind `end`
+-- an end line without a fault has no word after `end`
 end_words : (context : Context) (keyword : Keyword) (next : List ℕ) (words : List (List ℕ)) → code_of context keyword (next ∷ words) ≡ None → is_end keyword ≡ false
 end_words context End next words fine = let word = word_fine context End (next ∷ words) fine in grind (arith, word)
 end_words context keyword next words fine = refl
@@ -45,7 +45,7 @@ no_comment : (first : List ℕ) → (slice_index first 0 == 35) ≡ true → byt
 no_comment [] is = refl
 no_comment (b ∷ first) is = grind (arith, nat_tests)
 
--- the first word of a line and those behind it say the end where they are `end` alone
+-- the first word of a line and those after it say the end where they are `end` alone
 said_alone : (context : Context) (line first : List ℕ) (words : List (List ℕ)) (comment : Bool) → (slice_index first 0 == 35) ≡ comment
     → code_said context false line (cond comment None (Some (record { keyword = keyword_of first; words = words }))) ≡ None
     → says_end (cond comment None (Some (record { keyword = keyword_of first; words = words }))) ≡ are_end_alone (first ∷ words)
@@ -77,12 +77,12 @@ alone_says (word ∷ next ∷ words) is = absurd cc
 
 -- ---- lines in order, and their end
 
--- behind an end, a line that is not at fault says nothing
+-- after an end, a line that is not at fault says nothing
 silent_line : (context : Context) (line : List ℕ) (said : Option Statement) → code_said context true line said ≡ None → said ≡ None
 silent_line context line None fine = refl
 silent_line context line (Some statement) fine = absurd cc
 
--- behind an end, lines in order say nothing
+-- after an end, lines in order say nothing
 silent_behind : (setting : Setting) (front rest : List (List ℕ)) → AreInOrder setting (front ++ rest) → has_end front ≡ true → statements_of rest ≡ []
 silent_behind setting front [] order ended = refl
 silent_behind setting front (line ∷ rest) order ended =
@@ -91,7 +91,7 @@ silent_behind setting front (line ∷ rest) order ended =
     ap (λ said. cons_option said (statements_of rest)) none
     ∙ silent_behind setting (front ++ line ∷ []) rest (subst (AreInOrder setting) (sym (append_assoc front (line ∷ []) rest)) order) (end_push front line ∙ ap (λ ended. ended || says_end (statement_of line)) ended)
 
--- The first of the lines whose only word is `end`, behind which no line says anything.
+-- The first of the lines whose only word is `end`, after which no line says anything.
 pub record HasEndAlone (lines : List (List ℕ)) : Type 0 where
   pub before : List (List ℕ)
   pub end : List ℕ
@@ -158,7 +158,7 @@ cut_behind text more at = split_behind text more ∙ ap (λ lines. lines ++ slic
 some_behind : (text more : List ℕ) (at : HasEndAlone (slice_split is_line_feed text)) → 0 < length (at.after ++ slice_split is_line_feed more)
 some_behind text more at = omega (arith, length-append at.after (slice_split is_line_feed more), length-slice_split is_line_feed more)
 
--- it is split behind its end, whatever follows
+-- it is split after its end, whatever follows
 place_behind_end : (text more : List ℕ) (at : HasEndAlone (slice_split is_line_feed text)) → split_place (text ++ 10 ∷ more) ≡ fed (at.before ++ at.end ∷ [])
 place_behind_end text more at =
     ap bytes_to_end (cut_behind text more at) ∙ place_at at.before at.end (at.after ++ slice_split is_line_feed more) at.none at.ends (some_behind text more at)
@@ -169,7 +169,7 @@ same_place built text more script is =
     let at = end_of_script built text script is in
     place_behind_end text more at ∙ sym (place_behind_end text [] at)
 
--- where a list with a last element is cut, nothing is behind the cut, or the last
+-- where a list with a last element is cut, nothing is after the cut, or the last
 last_behind : {A : Type 0} (xs : List A) (last : A) (ys : List A) (y : A) (zs : List A) → xs ++ last ∷ [] ≡ ys ++ y ∷ zs → (zs ≡ []) ⊎ ((between : List A) × (zs ≡ between ++ last ∷ []))
 last_behind [] last [] y zs e = inl cc
 last_behind [] last (z ∷ ys) y zs e = let none : [] ≡ ys ++ y ∷ zs = cc in absurd (omega (arith, ap length none, length-append ys (y ∷ zs)))
@@ -198,7 +198,7 @@ split_whole built text more script lines last is cut ends =
       | inr (between, after) ↦ absurd (silent_last between last ends (ap (λ after. statements_of (map strip_carriage_return after)) (sym after) ∙ at.silent))
     ]
 
--- a front of a script behind which no line says anything is that script
+-- a front of a script after which no line says anything is that script
 front_is_script : (built : Built) (text front : List ℕ) (script : Script) (rest : List (List ℕ)) → script_lines text ≡ script_lines front ++ rest → statements_of rest ≡ [] → length front ≤ length text → IsScript built text script → IsScript built front script
 front_is_script built text front script rest lines silent short is =
     let same : statements_of (script_lines text) ≡ statements_of (script_lines front) =

@@ -1,4 +1,4 @@
--- Where an input is split: at the end of its first line, and behind it.
+-- Where an input is split: at the end of its first line, and after it.
 use Rattle.std.proofs.Common.{◌≡◌, ℕ, ◌+◌, ◌-◌, ◌<◌, ◌≤◌, Bool, cond, List, [], ◌∷◌, length, take, drop, None, Some, refl, sym, ap, ◌∙◌, subst, arith, Bor, codes}
 use Rattle.std.specs.Cmp.Lexicographic.{pointwise}
 use Rattle.std.specs.Str.{bytes_eq}
@@ -34,12 +34,12 @@ cut_line text end found =
     subst (λ (n : ℕ). slice_split is_line_feed text ≡ take n text ∷ slice_split is_line_feed (drop (n + 1) text)) place (slice_split_first is_line_feed text 0 (omega arith)) in
     rw (between_to_end text (end + 1) (length text) (omega arith)) (cut, omega (arith, length-take-le end text, length-drop (end + 1) text))
 
--- in lines: the place is behind the first where it says `end` alone, and else where those behind it have it
+-- in lines: the place is after the first where it says `end` alone, and else where those after it have it
 pub before_lines : (line : List ℕ) (lines : List (List ℕ)) → 0 < length lines → bytes_to_end (line ∷ lines) ≡ length line + 1 + cond (is_end_alone line) 0 (bytes_to_end lines)
 before_lines line [] some = absurd (omega arith)
 before_lines line (next ∷ lines) some = refl
 
--- in a text: the same of its first line and what stands behind that
+-- in a text: the same of its first line and what stands after that
 pub place_behind : (text line rest : List ℕ) (ends : Bool) → slice_split is_line_feed text ≡ line ∷ slice_split is_line_feed rest → ends ≡ is_end_alone line
     → split_place text ≡ length line + 1 + cond ends 0 (split_place rest)
 place_behind text line rest ends cut says =

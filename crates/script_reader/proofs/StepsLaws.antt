@@ -25,7 +25,7 @@ same_context : (a b : Context) → a.built ≡ b.built → a.named ≡ b.named �
 same_context a b built named header workers factor round script begun =
     λ i. record { built = built i; named = named i; has_header = header i; has_workers = workers i; has_factor = factor i; has_round = round i; script = script i; begun = begun i }
 
--- the names of the keys are the first words behind `key`
+-- the names of the keys are the first words after `key`
 pub keys_are : (setting : Setting) (before : List Statement) → keys_of (context_of setting before) ≡ map (word 0) (those is_key before)
 keys_are setting before = key_names (those is_key before)
 
@@ -157,7 +157,7 @@ command_push setting before statement sessions behind no_key no_factor no_round 
     same_script (script_said setting.named (before ++ statement ∷ [])) (record { config = (script_said setting.named before).config; round = (script_said setting.named before).round; kinds = (script_said setting.named before).kinds; sessions = sessions })
     (workers_kept before statement behind) (factor_kept setting.named before statement no_factor) (keys_kept setting.named before statement no_key) (round_kept setting.named before statement no_round) (kinds_kept setting.named before statement no_key) same
 
--- such a line stands behind the number of workers
+-- such a line stands after the number of workers
 behind_workers : (behind rest : Bool) → (behind && rest) ≡ true → behind ≡ true
 behind_workers behind rest both = (and_parts behind rest both).0
 
@@ -176,7 +176,7 @@ script_push setting before keyword words follows has new =
     let statement : Statement = record { keyword = keyword; words = words } in
     command_push setting before statement _ (behind_workers (nat_lt 1 (length before)) _ follows) refl refl refl (command_plans setting before statement refl refl refl)
 
--- whether a transaction is begun behind a line
+-- whether a transaction is begun after a line
 begun_push : (before : List Statement) (keyword : Keyword) (words : List (List ℕ)) → last_begins (those is_boundary (before ++ record { keyword = keyword; words = words } ∷ [])) ≡ begun_after (last_begins (those is_boundary before)) keyword
 begun_push before Begin words =
     let statement : Statement = record { keyword = Begin; words = words } in

@@ -1,4 +1,4 @@
--- What every context behind faultless lines has.
+-- What every context after faultless lines has.
 use Rattle.std.specs.Prelude.{◌≡◌, ◌≢◌, ℕ, ◌≤◌, Bool, true, false, IsTrue, IsFalse, List, [], ◌∷◌, map, length, sum_by, All, AllPairs}
 use Rattle.composed_value.specs.Kind.{kind_of}
 use Rattle.composed_value.specs.Put.{IsPayload}
@@ -7,7 +7,8 @@ use Rattle.placement.specs.Config.{ArePins, placed}
 use Rattle.placement.specs.Name.{IsName}
 use Rattle.placement.specs.declared.config.Config.{Config}
 use Rattle.script_reader.specs.Faults.{Context}
-use Rattle.session_known.specs.Script.{IsOneOf, MayName, kind_at, replicas_of}
+use Rattle.session_known.specs.Script.{IsOneOf, MayName, kind_at}
+use Rattle.placement.specs.Asked.{replicas_of}
 use Rattle.session_known.specs.declared.script.Level.{Level}
 use Rattle.session_known.specs.declared.script.Level.TheVariants.{Committed, Causal}
 use Rattle.session_known.specs.declared.script.Line.{Line}
@@ -23,7 +24,7 @@ Stands keys of_keys named table level Begin = level ≡ Committed
 Stands keys of_keys named table level Commit = level ≡ Committed
 Stands keys of_keys named table level Abort = level ≡ Committed
 
--- The lines begin and end transactions in turn; `begun` says whether one is begun before the first line, and `behind` behind the last.
+-- The lines begin and end transactions in turn; `begun` says whether one is begun before the first line, and `after` after the last.
 abbrev pub Leads : Bool → List Line → Bool → Type 0
 Leads begun [] behind = begun ≡ behind
 Leads begun (Begin ∷ lines) behind = IsFalse begun × Leads true lines behind

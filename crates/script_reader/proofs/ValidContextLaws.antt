@@ -80,7 +80,7 @@ start setting = record {
   };
 }
 
--- a line behind the line of workers
+-- a line after the line of workers
 behind_workers : (context : Context) (keyword : Keyword) (words : List (List ℕ)) → IsValidContext context → context.has_workers ≡ true
     → IsOneOf 8 (after context keyword words).script.config.workers × IsOneOf (after context keyword words).script.config.workers (after context keyword words).script.config.factor
     → IsOneOf 64 (after context keyword words).script.round
@@ -301,7 +301,7 @@ step_fine context Unknown words valid fine = absurd (false≢true (and_parts con
 pub step : (context : Context) (keyword : Keyword) (words : List (List ℕ)) → IsValidContext context → code_of context keyword words ≡ None → IsValidContext (after context keyword words)
 step context keyword words valid none = step_fine context keyword words valid (faultless context keyword words none)
 
--- behind an end line that is not at fault there are workers, and no transaction is begun
+-- after an end line that is not at fault there are workers, and no transaction is begun
 pub ended : (context : Context) (words : List (List ℕ)) → IsValidContext context → code_of context End words ≡ None → IsTrue (after context End words).has_workers × IsFalse (after context End words).begun
 ended context words valid none =
     let fine = faultless context End words none in

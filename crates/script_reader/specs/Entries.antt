@@ -10,20 +10,20 @@ use Rattle.script_reader.specs.declared.entry.Entry.TheVariants as entries
 use Rattle.script_reader.specs.declared.keyword.Keyword.{Keyword}
 use Rattle.script_reader.specs.declared.keyword.Keyword.TheVariants as keywords
 
--- the words behind `key`: a name, a kind, and pins where there are any
+-- the words after `key`: a name, a kind, and pins where there are any
 pub record AreKeyWords (words : List (List ℕ)) (name : List ℕ) (kind : Kind) (pins : List (List ℕ)) : Type 0 where
   pub may_stand : may_have keywords.Key words ≡ true
   pub name_is : slice_index_or words 0 [] ≡ name
   pub kind_is : kind_said (slice_index_or words 1 []) ≡ Some kind
   pub pins_are : drop 3 words ≡ pins
 
--- the words behind `session`: a name and a level
+-- the words after `session`: a name and a level
 pub record AreSessionWords (words : List (List ℕ)) (name : List ℕ) (level : Level) : Type 0 where
   pub may_stand : may_have keywords.Session words ≡ true
   pub name_is : slice_index_or words 0 [] ≡ name
   pub level_is : level_said (slice_index_or words 1 []) ≡ Some level
 
--- The entry says what stands behind the first word, and there may stand as much.
+-- The entry says what stands after the first word, and there may stand as much.
 abbrev pub Shows : Entry → Keyword → List (List ℕ) → Type 0
 Shows (entries.Header version) keyword words = (keyword ≡ keywords.Anna) × (words ≡ version.now ∷ [])
 Shows (entries.Workers number) keyword words = (keyword ≡ keywords.Workers) × (words ≡ number.now ∷ [])

@@ -123,7 +123,7 @@ may_follow context Session = context.has_workers
 may_follow context End = context.has_workers
 may_follow context keyword = context.has_workers && (is_command keyword && nat_lt 0 (length context.script.sessions))
 
--- how many words a first word may have behind it, and which of them are given
+-- how many words a first word may have after it, and which of them are given
 abbrev pub may_have : Keyword → List (List ℕ) → Bool
 may_have Anna (version ∷ []) = true
 may_have Workers (number ∷ []) = true
@@ -253,7 +253,7 @@ code_of context keyword words = first_held (
 abbrev pub is_text_byte : ℕ → Bool
 is_text_byte b = (b == 9) || is_within 32 126 b
 
--- The code of a line at fault, by what the lines before it say and whether an end line is among them: behind the end, then where it
+-- The code of a line at fault, by what the lines before it say and whether an end line is among them: after the end, then where it
 -- has another byte than text has, then by what it says. Blank lines and comments are never at fault.
 abbrev pub code_said : Context → Bool → List ℕ → Option Statement → Option Code
 code_said context ended line None = None
@@ -261,6 +261,6 @@ code_said context ended line (Some statement) =
     if ended then Some codes_of.AfterEnd else
     (if not (list_all is_text_byte line) then Some codes_of.Byte else code_of context statement.keyword statement.words)
 
--- The code of a line at fault behind these lines.
+-- The code of a line at fault after these lines.
 abbrev pub code_behind : Setting → List (List ℕ) → List ℕ → Option Code
 code_behind setting before line = code_said (context_of setting (statements_of before)) (has_end before) line (statement_of line)

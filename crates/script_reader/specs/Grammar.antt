@@ -21,7 +21,7 @@ most_bytes = 1048576
 abbrev pub setting_of : Built → List (List ℕ) → Setting
 setting_of built lines = record { built = built; named = named_in (before_first is_end_line (statements_of lines)) }
 
--- no line is at fault behind those before it
+-- no line is at fault after those before it
 abbrev pub AreInOrder : Setting → List (List ℕ) → Type 0
 AreInOrder setting lines = (before after : List (List ℕ)) (line : List ℕ) → lines ≡ before ++ line ∷ after → code_behind setting before line ≡ None
 

@@ -1,3 +1,5 @@
+pub use Rattle.outside.specs.Memory
+pub use Rattle.outside.specs.Outside
 pub mod Codes
 pub mod Entries
 pub mod Faults
@@ -5,8 +7,6 @@ pub mod Grammar
 pub mod Keywords
 pub mod LineReads
 pub mod Lines
-pub mod Memory
-pub mod Outside
 pub mod Reader
 pub mod Said
 pub mod Split

@@ -14,7 +14,7 @@ use Rattle.script_reader.specs.declared.reader.LineFault.{LineFault}
 use Rattle.script_reader.specs.declared.reader.LineFault.TheVariants as line_faults
 use Rattle.script_reader.specs.declared.reader.Reader.{Reader}
 
--- A line was read behind others, of which one is an end line where `ended` is true; `now` says the same with it.
+-- A line was read after others, of which one is an end line where `ended` is true; `now` says the same with it.
 abbrev pub HasReadLine : Reader → Reader → Bool → Bool → List ℕ → Option Statement → Type 0
 HasReadLine old new ended now line None = (new ≡ old) × (now ≡ ended)
 HasReadLine old new ended now line (Some statement) =

@@ -9,7 +9,7 @@ use Rattle.script_reader.specs.declared.keyword.Keyword.{Keyword}
 abbrev pub is_line_feed : ℕ → Bool
 is_line_feed b = b == 10
 
--- what stands behind the last line feed is a line where it has a byte
+-- what stands after the last line feed is a line where it has a byte
 abbrev pub without_empty_last : List (List ℕ) → List (List ℕ)
 without_empty_last [] = []
 without_empty_last ([] ∷ []) = []
@@ -28,7 +28,7 @@ is_blank b = (b == 32) || (b == 9)
 abbrev pub words_of : List ℕ → List (List ℕ)
 words_of line = filter (λ word. nat_lt 0 (length word)) (slice_split is_blank line)
 
--- what a line says: its first word as a keyword, and the words behind it
+-- what a line says: its first word as a keyword, and the words after it
 pub record Statement : Type 0 where
   pub keyword : Keyword
   pub words : List (List ℕ)
@@ -49,7 +49,7 @@ statements_of lines = filter_map statement_of lines
 abbrev pub those : (Keyword → Bool) → List Statement → List Statement
 those test statements = filter (λ statement. test statement.keyword) statements
 
--- a word of a statement, counted from 0 behind the first word
+-- a word of a statement, counted from 0 after the first word
 abbrev pub word : ℕ → Statement → List ℕ
 word i statement = slice_index_or statement.words i []
 

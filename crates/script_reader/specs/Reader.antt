@@ -56,7 +56,7 @@ pub record IsKept (reader : Reader) : Type 0 where
   pub few_keys : length reader.config.keys ≤ 128
   pub sessions : AreKept reader.config reader.sessions
 
--- a line may stand with its words behind those before it
+-- a line may stand with its words after those before it
 pub record MayStand (context : Context) (keyword : Keyword) (words : List (List ℕ)) : Type 0 where
   pub header : lacks_header context keyword words ≡ false
   pub word : lacks_word context keyword words ≡ false
@@ -88,7 +88,7 @@ pub record IsFound (context : Context) (key : List ℕ) (place : ℕ) (kind : Ki
   pub within : place < length context.script.config.keys
   pub few : length context.script.config.keys ≤ 128
 
--- whether a transaction is begun behind a command
+-- whether a transaction is begun after a command
 abbrev pub begun_behind : Bool → Line → Bool
 begun_behind begun lines.Begin = true
 begun_behind begun lines.Commit = false

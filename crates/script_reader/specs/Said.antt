@@ -46,7 +46,7 @@ abbrev pub number_or : ℕ → List Statement → ℕ
 number_or other [] = other
 number_or other (statement ∷ statements) = number_of (word 0 statement)
 
--- the pins of a key, of the words behind `key`
+-- the pins of a key, of the words after `key`
 abbrev pub pins_said : List (List ℕ) → List ℕ
 pins_said words = map number_of (drop 3 words)
 

@@ -1,4 +1,4 @@
--- Where the script ends in a text that goes on behind it.
+-- Where the script ends in a text that goes on after it.
 use Rattle.std.specs.Prelude.{ℕ, ◌+◌, Bool, false, List, [], ◌∷◌, length, codes, if◌then◌else◌}
 use Rattle.std.specs.List.{slice_split}
 use Rattle.std.specs.Str.{bytes_eq}
@@ -21,6 +21,6 @@ bytes_to_end [] = 0
 bytes_to_end (line ∷ []) = length line
 bytes_to_end (line ∷ next ∷ lines) = length line + 1 + (if is_end_alone line then 0 else bytes_to_end (next ∷ lines))
 
--- the place behind the line end of the first line whose only word is `end`, and behind all of the text where there is none
+-- the place after the line end of the first line whose only word is `end`, and after all of the text where there is none
 abbrev pub split_place : List ℕ → ℕ
 split_place text = bytes_to_end (slice_split is_line_feed text)

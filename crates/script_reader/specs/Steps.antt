@@ -70,7 +70,7 @@ script_after context Commit words = with_command context Commit words
 script_after context Abort words = with_command context Abort words
 script_after context keyword words = context.script
 
--- whether a transaction is begun behind a line
+-- whether a transaction is begun after a line
 abbrev pub begun_after : Bool → Keyword → Bool
 begun_after begun Begin = true
 begun_after begun Commit = false

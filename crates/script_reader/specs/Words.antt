@@ -60,7 +60,7 @@ level_said word =
 abbrev pub word_said : List ℕ → Option (List ℕ)
 word_said word = if is_value_word word then Some word else None
 
--- the payload that the words behind `put KEY` say, where they fit the key's kind
+-- the payload that the words after `put KEY` say, where they fit the key's kind
 abbrev pub payload_said : Kind → List (List ℕ) → Option Payload
 payload_said kinds.Max (value ∷ []) = option_map payloads.Max (number_said value)
 payload_said kinds.Or (value ∷ []) = if bytes_eq value (codes "on") then Some payloads.On else None

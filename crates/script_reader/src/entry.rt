@@ -62,7 +62,7 @@ pub(crate) enum Entry<'w, 'a> {
     Bare(Bare),
 }
 
-/// Tells a line apart, where its words are as many as may stand behind its first word, and those that
+/// Tells a line apart, where its words are as many as may stand after its first word, and those that
 /// are given are right.
 pub(crate) fn tell_apart<'w, 'a>(keyword: Keyword, words: &'w [&'a [u8]]) -> Option<Entry<'w, 'a>>
     ensures { MatchOption result (may_have keyword (map (λ word. word.now) words.now) ≡ false) (λ entry. Shows entry keyword (map (λ word. word.now) words.now)) }
@@ -85,7 +85,7 @@ pub(crate) fn tell_apart<'w, 'a>(keyword: Keyword, words: &'w [&'a [u8]]) -> Opt
     }
 }
 
-/// The line of one word, where no words stand behind it.
+/// The line of one word, where no words stand after it.
 fn bare_entry<'w, 'a>(words: &'w [&'a [u8]], bare: Bare) -> Option<Entry<'w, 'a>>
     ensures { MatchOption result (length words.now ≢ 0) (λ entry. (entry ≡ entries.Bare bare) × (words.now ≡ [])) }
 {

@@ -27,7 +27,7 @@ use std::alloc::Global;
 /// The most bytes that a script may have.
 pub const MOST_BYTES: usize = 1_048_576;
 
-/// What the words of a line say: its first word, and the words behind it. Nothing, where there are
+/// What the words of a line say: its first word, and the words after it. Nothing, where there are
 /// none or the line is a comment.
 fn statement<'w, 'a>(words: &'w [&'a [u8]]) -> Option<(Keyword, &'w [&'a [u8]])>
     ensures { MatchOption result
@@ -81,7 +81,7 @@ fn is_text_byte(byte: u8) -> bool
     byte == b'\t' || (b' '..=b'~').contains(&byte)
 }
 
-/// Reads a line behind others, of which one is an end line where `ended` is true. Says the same with
+/// Reads a line after others, of which one is an end line where `ended` is true. Says the same with
 /// this line.
 fn read_line<'a>(
     alloc: Global,
@@ -156,7 +156,7 @@ fn refused(line: usize, code: Code) -> ScriptFault
 /// Reads a script, where these forms are served.
 ///
 /// Refused is exactly what is no script: more than 1,048,576 bytes (code 12 at line 0), else the first
-/// line at fault with the least code whose condition holds, else a script with no end (code 10 behind
+/// line at fault with the least code whose condition holds, else a script with no end (code 10 after
 /// its last line). Takes time linear in the bytes on average: names are found by their hashes.
 pub fn read_script_built(alloc: Global, bytes: &[u8], built: Built) -> Result<Script, ScriptFault>
     ensures script { IfOk result (IsScript built bytes.now) }
@@ -170,7 +170,8 @@ pub fn read_script_built(alloc: Global, bytes: &[u8], built: Built) -> Result<Sc
 
     // What is a script is read as that script, and what is refused is refused so.
     ensures accepts { (script : Script) → IsScript built bytes.now script → IsReadAs script result }
-    ensures refuses { (line code : ℕ) → IsRefused built bytes.now line code → IsRefusedAs line code result }
+    ensures refuses { (line code : ℕ)
+        → IsRefused built bytes.now line code → IsRefusedAs line code result }
 {
     read_text(alloc, bytes, built)
 }
@@ -192,8 +193,10 @@ pub fn read_script(alloc: Global, bytes: &[u8]) -> Result<Script, ScriptFault>
     ensures script { IfOk result (IsScript all_built bytes.now) }
     ensures refused { IfErr result (IsWhyNoScript all_built bytes.now) }
     ensures valid { IfOk result (λ script. IsValidScript script (placed script.config)) }
-    ensures accepts { (script : Script) → IsScript all_built bytes.now script → IsReadAs script result }
-    ensures refuses { (line code : ℕ) → IsRefused all_built bytes.now line code → IsRefusedAs line code result }
+    ensures accepts { (script : Script)
+        → IsScript all_built bytes.now script → IsReadAs script result }
+    ensures refuses { (line code : ℕ)
+        → IsRefused all_built bytes.now line code → IsRefusedAs line code result }
 {
     let built = Built {
         workers: true,

@@ -6,9 +6,8 @@
 //! is read is valid, as `session_known` says. Where a report follows a script in one input,
 //! [`split_input`] tells the place between them.
 //!
-//! [`outside`] has the two ends through which a program meets the world, a source of bytes and a
-//! sink for them, each with a count of its faults, so that a contract can say which bytes were
-//! taken, which were written, and that no fault is reported that did not come.
+//! The ends through which a program meets the world, and what their contracts speak of, are passed
+//! on from [`outside`], so that a crate above need not name it.
 #![tactic(auto)]
 
 mod built;
@@ -19,7 +18,6 @@ mod grammar;
 mod keyword;
 mod lines;
 mod names;
-pub mod outside;
 mod payload;
 mod pins;
 mod reader;
@@ -29,5 +27,6 @@ mod words;
 pub use built::Built;
 pub use fault::ScriptFault;
 pub use grammar::{MOST_BYTES, read_script, read_script_built};
+pub use outside;
 pub use session_known::{Answer, FinalCell, Level, Line, Report, Script, SessionPlan, Shown};
 pub use split::{scripts_are_split_off, split_input};

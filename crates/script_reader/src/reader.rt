@@ -147,7 +147,7 @@ impl<'a> Reader<'a> {
         Ok(entry)
     }
 
-    /// Reads a line: its first word, and the words behind it. After a fault the reader is not to be
+    /// Reads a line: its first word, and the words after it. After a fault the reader is not to be
     /// used again.
     pub(crate) fn take(
         &mut self,

@@ -20,17 +20,20 @@ fn is_end_alone(line: &[u8]) -> bool
         .eq(once(b"end".as_slice()))
 }
 
-/// The first line of a text that ends with a line feed, and what stands behind that.
+/// The first line of a text that ends with a line feed, and what stands after that.
 fn first_line(text: &[u8]) -> Option<(&[u8], &[u8])>
     ensures { MatchOption result
         (slice_split is_line_feed text.now ≡ text.now ∷ [])
-        (λ parts. (slice_split is_line_feed text.now ≡ parts.0.now ∷ slice_split is_line_feed parts.1.now) × (length text.now ≡ length parts.0.now + 1 + length parts.1.now)) }
+        (λ parts.
+            (slice_split is_line_feed text.now
+                ≡ parts.0.now ∷ slice_split is_line_feed parts.1.now)
+            × (length text.now ≡ length parts.0.now + 1 + length parts.1.now)) }
 {
     let end = text.iter().position(|byte| *byte == b'\n')?;
     Some((&text[..end], &text[end + 1..]))
 }
 
-/// The place in an input behind the line end of the first line whose only word is `end`: there its
+/// The place in an input after the line end of the first line whose only word is `end`: there its
 /// script ends and what follows begins. It is the input's length where there is no such line. Takes
 /// no memory.
 pub fn split_input(bytes: &[u8]) -> usize
@@ -48,16 +51,24 @@ pub fn split_input(bytes: &[u8]) -> usize
 }
 
 /// A script that ends with a line feed is split off an input that begins with it, whatever follows.
-/// Blank lines and comments that it has behind its end line stay with what follows.
+/// Blank lines and comments that it has after its end line stay with what follows.
 pub fn scripts_are_split_off()
     // What stands before the place is that script.
-    ensures script { (built : Built) (text more : List ℕ) (script : Script) → IsScript built (text ++ 10 ∷ []) script → IsScript built (take (split_place (text ++ 10 ∷ more)) (text ++ 10 ∷ more)) script }
+    ensures script { (built : Built) (text more : List ℕ) (script : Script)
+        → IsScript built (text ++ 10 ∷ []) script
+        → IsScript built (take (split_place (text ++ 10 ∷ more)) (text ++ 10 ∷ more)) script }
 
     // The place is the one in the script by itself.
-    ensures same { (built : Built) (text more : List ℕ) (script : Script) → IsScript built (text ++ 10 ∷ []) script → split_place (text ++ 10 ∷ more) ≡ split_place (text ++ 10 ∷ []) }
+    ensures same { (built : Built) (text more : List ℕ) (script : Script)
+        → IsScript built (text ++ 10 ∷ []) script
+        → split_place (text ++ 10 ∷ more) ≡ split_place (text ++ 10 ∷ []) }
 
-    // It is behind the whole script, where the script's last line is its end line.
-    ensures whole { (built : Built) (text more : List ℕ) (script : Script) (lines : List (List ℕ)) (last : List ℕ) → IsScript built (text ++ 10 ∷ []) script → slice_split is_line_feed text ≡ lines ++ last ∷ [] → IsTrue (says_end_alone last) → split_place (text ++ 10 ∷ more) ≡ length text + 1 }
+    // It is after the whole script, where the script's last line is its end line.
+    ensures whole { (built : Built) (text more : List ℕ) (script : Script)
+        (lines : List (List ℕ)) (last : List ℕ)
+        → IsScript built (text ++ 10 ∷ []) script
+        → slice_split is_line_feed text ≡ lines ++ last ∷ [] → IsTrue (says_end_alone last)
+        → split_place (text ++ 10 ∷ more) ≡ length text + 1 }
 {}
 
 #[cfg(test)]

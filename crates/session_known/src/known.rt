@@ -268,7 +268,7 @@ impl Known {
         ensures { result ≡ covers clock.now (known_raised self.now.knows key session count) }
     {
         clock.attest();
-        self.needs().known();
+        self.needs().attest();
         self.covers_known(key, clock) & (clock.count(session) >= count)
     }
 }

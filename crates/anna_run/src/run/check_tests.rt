@@ -1,6 +1,6 @@
 //! Reports that are checked, over memory.
 use super::*;
-use script_reader::outside::{MemSink, MemSource, SureSink, SureSource};
+use outside::{MemSink, MemSource, SureSink, SureSource};
 use std::test::Fail;
 
 /// A script, and a report that is legal for it.

@@ -2,7 +2,7 @@
 ghost use Rattle.std.specs.Prelude.{None};
 
 use super::*;
-use script_reader::outside::{Failed, MemSink, MemSource, SureSink, SureSource};
+use outside::{Failed, MemSink, MemSource, SureSink, SureSource};
 use std::test::Fail;
 
 const FIRST: &str =

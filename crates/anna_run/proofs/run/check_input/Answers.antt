@@ -1,5 +1,5 @@
 use Rattle.std.proofs.Common.{ℕ, List, Option, Some, sym, subst, ◌∙◌, arith}
-use Rattle.script_reader.specs.Outside.{TookMost}
+use Rattle.outside.specs.Outside.{TookMost}
 use Rattle.anna_run.specs.Run.{most_taken, AreChecked}
 use Rattle.anna_run.specs.declared.words.Command.TheVariants.{Check}
 use Rattle.anna_run.proofs.Taking.{took_whole}

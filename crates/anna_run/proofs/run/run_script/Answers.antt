@@ -1,7 +1,7 @@
 use Rattle.std.proofs.Common.{ℕ, List, Option, Some, Err, sym, subst, ◌∙◌, arith}
 use Rattle.script_reader.specs.Grammar.{IsScript, IsReadAs}
 use Rattle.script_reader.specs.declared.fault.ScriptFault.{ScriptFault}
-use Rattle.script_reader.specs.Outside.{TookMost}
+use Rattle.outside.specs.Outside.{TookMost}
 use Rattle.anna_run.specs.Run.{most_taken, served_forms}
 use Rattle.anna_run.specs.declared.words.Command.TheVariants.{Run}
 use Rattle.anna_run.proofs.Taking.{took_whole}

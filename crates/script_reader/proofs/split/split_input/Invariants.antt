@@ -2,7 +2,7 @@ use Rattle.std.proofs.Common.{◌≡◌, ◌+◌, ◌≤◌, length}
 use Rattle.script_reader.specs.Split.{split_place}
 use Rattle.script_reader.proofs.split.split_input.Given as goal
 
--- the place in what is left, behind what was passed, is the place in all
+-- the place in what is left, after what was passed, is the place in all
 abbrev pub invariant-loop-line : goal.invariant-loop-line
 invariant-loop-line l = record {
   within : length l.rest ≤ length l.bytes;

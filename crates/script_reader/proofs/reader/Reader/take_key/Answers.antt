@@ -9,7 +9,7 @@ use Rattle.script_reader.proofs.DeclaredLemmas.{name_fault, numbers_read, number
 use Rattle.script_reader.proofs.reader.Reader.take_key.Goals as goal
 use Rattle.script_reader.proofs.reader.Reader.take_key.Goals.{then-is_some-via-then-is_some, then-is_some-via-else-is_some+in_ok-has_repeat+then-branch}
 
--- the words behind references
+-- the words after references
 words_of : List (Bor (List ℕ)) → List (List ℕ)
 words_of words = map (λ word. word.now) words
 
