@@ -17,8 +17,8 @@ mod word;
 
 pub use flag::Flag;
 pub use lattice_laws::MapKey;
-pub use map_of::{FieldMax, MapOf, maps_join_per_key};
+pub use map_of::{FieldMax, MapIter, MapOf, maps_join_per_key};
 pub use max_num::MaxNum;
 pub use stamped::Stamped;
-pub use text_set::{TextSet, union_is_pointwise};
+pub use text_set::{TextSet, TextSetIter, union_is_pointwise};
 pub use word::{Word, WordFault};

@@ -2,6 +2,7 @@
 ghost use Rattle.std.specs.Prelude.{◌≡◌, ◌↔◌, [], length, slice_get, IfOk, IsTrue, OnOk, OnErr, List, ⊤};
 ghost use Rattle.std.specs.Option.{option_map};
 ghost use Rattle.std.specs.FinMap.{find, is_sorted};
+ghost use Rattle.std.specs.Iterator.{YieldsFirstBy, item_count};
 ghost use Rattle.lattice_laws.specs.Entries.{plain_entries, raised, joined_maps, IsMap, IsPushed, JoinsPerKey};
 ghost use Rattle.lattice_laws.specs.EntriesLaws.{map_laws, map_associative};
 
@@ -92,6 +93,15 @@ impl<K: MapKey, L: AllFit> MapOf<K, L> {
         let entry = self.entries.get(i)?;
         Some((&entry.0, &entry.1))
     }
+
+    /// The entries, in the order of the keys. Takes no memory.
+    pub fn iter(&self) -> MapIter<'_, K, L>
+        ensures { result ≡ self.now }
+    {
+        MapIter {
+            entries: self.entries.as_slice(),
+        }
+    }
 }
 
 /// A join of two maps has at each key the join of what stands there in both, where a key that is not
@@ -99,6 +109,47 @@ impl<K: MapKey, L: AllFit> MapOf<K, L> {
 pub fn maps_join_per_key<K: MapKey, L: AllFit>()
     ensures { JoinsPerKey K.cmp L.joined (IsMap K.cmp K.is_key L.is_value) }
 {}
+
+/// The entries of a map that are still to come, in the order of the keys. Contracts see the list of
+/// them.
+#[derive(Drop)]
+pub struct MapIter<'a, K, L> {
+    entries: &'a [(K, L)],
+}
+
+impl<'a, K, L> Model for MapIter<'a, K, L> {
+    ghost use Rattle.std.specs.Prelude.{List};
+
+    ghost Value = { List (K × L) };
+
+    ghost view = { λ iter. iter.entries.now };
+}
+
+impl<'a, K, L> Iterator for MapIter<'a, K, L> {
+    type Item = (&'a K, &'a L);
+
+    ghost next_gives = { YieldsFirstBy (λ entry. (entry.0.now, entry.1.now)) (λ rest. rest) };
+
+    ghost remaining = { item_count (λ rest. rest) };
+
+    fn next(&mut self) -> Option<(&'a K, &'a L)> {
+        let (first, others) = self.entries.split_first()?;
+        self.entries = others;
+        Some((&first.0, &first.1))
+    }
+}
+
+impl<'a, K: MapKey, L: AllFit> IntoIterator for &'a MapOf<K, L> {
+    type Item = (&'a K, &'a L);
+
+    type IntoIter = MapIter<'a, K, L>;
+
+    ghost into_iter_gives = { λ map iter. iter ≡ map.now };
+
+    fn into_iter(self) -> MapIter<'a, K, L> {
+        self.iter()
+    }
+}
 
 impl<K: MapKey, L: AllFit> Lattice for MapOf<K, L> {
     ghost Plain = { List (K × L.Plain) };
@@ -163,6 +214,12 @@ mod tests {
                 matches!(map.at(i), Some((key, value)) if (*key, value.0) == entries[i])
             })
             && map.at(map.len()).is_none()
+            && map.iter().count() == entries.len()
+            && map
+                .iter()
+                .zip(entries)
+                .all(|((key, value), entry)| (*key, value.0) == *entry)
+            && map.is_empty() == entries.is_empty()
     }
 
     #[test]

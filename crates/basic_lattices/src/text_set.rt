@@ -1,11 +1,12 @@
 //! Sets of words.
 ghost use Rattle.std.specs.Prelude.{◌≡◌, ◌↔◌, ◌||◌, List, [], ℕ, length, not, slice_get, IsTrue, OnOk, OnErr, IfOk, ⊤};
 ghost use Rattle.std.specs.Option.{option_map};
+ghost use Rattle.std.specs.Iterator.{YieldsFirstRef, item_count};
 ghost use Rattle.lattice_laws.specs.Entries.{IsPushed};
 ghost use Rattle.basic_lattices.specs.TextSet.{IsTextSet, has, with_word, united};
 ghost use Rattle.basic_lattices.specs.TextSetLaws.{set_laws, set_associative};
 
-use crate::{MapOf, Word};
+use crate::{MapIter, MapOf, Word};
 use lattice_laws::{AllFit, Lattice, Member, NoMemory};
 use std::alloc::Global;
 use std::marker::Model;
@@ -86,6 +87,56 @@ impl TextSet {
         let (word, _) = self.words.at(i)?;
         Some(word)
     }
+
+    /// The words, in order. Takes no memory.
+    pub fn iter(&self) -> TextSetIter<'_>
+        ensures { result ≡ self.now }
+    {
+        TextSetIter {
+            words: self.words.iter(),
+        }
+    }
+}
+
+/// The words of a set that are still to come, in order. Contracts see the list of them.
+#[derive(Drop)]
+pub struct TextSetIter<'a> {
+    words: MapIter<'a, Word, Member>,
+}
+
+impl<'a> Model for TextSetIter<'a> {
+    ghost use Rattle.std.specs.Prelude.{List, ℕ};
+    ghost use Rattle.lattice_laws.specs.Entries.{plain_entries};
+    ghost use Rattle.lattice_laws.specs.Sets.{keys_of};
+
+    ghost Value = { List (List ℕ) };
+
+    ghost view = { λ iter. keys_of (plain_entries (λ _. tt) iter.words) };
+}
+
+impl<'a> Iterator for TextSetIter<'a> {
+    type Item = &'a Word;
+
+    ghost next_gives = { YieldsFirstRef (λ rest. rest) };
+
+    ghost remaining = { item_count (λ rest. rest) };
+
+    fn next(&mut self) -> Option<&'a Word> {
+        let (word, _) = self.words.next()?;
+        Some(word)
+    }
+}
+
+impl<'a> IntoIterator for &'a TextSet {
+    type Item = &'a Word;
+
+    type IntoIter = TextSetIter<'a>;
+
+    ghost into_iter_gives = { λ set iter. iter ≡ set.now };
+
+    fn into_iter(self) -> TextSetIter<'a> {
+        self.iter()
+    }
 }
 
 /// A word is in the union of two sets exactly where it is in one of them.
@@ -150,6 +201,12 @@ mod tests {
                 matches!(set.at(i), Some(word) if word.as_bytes() == words[i])
             })
             && set.at(set.len()).is_none()
+            && set.iter().count() == words.len()
+            && set
+                .iter()
+                .zip(words)
+                .all(|(shown, word)| shown.as_bytes() == *word)
+            && set.is_empty() == words.is_empty()
     }
 
     #[test]

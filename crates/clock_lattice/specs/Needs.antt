@@ -1,5 +1,6 @@
 -- Needs, the causal dependencies of a put or a cell: for each key a clock, as entries in the order of the keys.
 use Rattle.std.specs.Prelude.{ℕ, ◌<◌, ◌^◌, Bool, List, [], ◌∷◌, length, unwrap_or}
+use denote.Ref.{Bor}
 use Rattle.std.specs.List.{list_all}
 use Rattle.std.specs.Ordering.{nat_cmp}
 use Rattle.std.specs.FinMap.{find}
@@ -30,3 +31,7 @@ one_need key (entry ∷ clock) = (key, entry ∷ clock) ∷ []
 -- the needs cover at each key what the others have there
 abbrev pub covers_needs : List (ℕ × List (ℕ × ℕ)) → List (ℕ × List (ℕ × ℕ)) → Bool
 covers_needs needs others = list_all (λ entry. covers (clock_at entry.0 needs) entry.1) others
+
+-- the entry of which the clock is lent
+abbrev pub lent_need : ℕ × Bor (List (ℕ × ℕ)) → ℕ × List (ℕ × ℕ)
+lent_need entry = (entry.0, entry.1.now)

@@ -1,5 +1,6 @@
 //! Vector clocks.
 ghost use Rattle.std.specs.Prelude.{◌≡◌, ◌↔◌, List, [], ℕ, length, slice_get, refl, IsTrue, IfOk, OnOk, OnErr, ⊤};
+ghost use Rattle.std.specs.Iterator.{YieldsFirst, item_count};
 ghost use Rattle.lattice_laws.specs.Entries.{IsPushed};
 ghost use Rattle.clock_lattice.specs.Clock.{IsClock, count_of, joined_clocks, one_count, covers};
 ghost use Rattle.clock_lattice.specs.ClockLaws.{clock_laws, clock_associative};
@@ -120,6 +121,57 @@ impl Clock {
         let (session, count) = self.counts.get(i)?;
         Some((*session, count.number()))
     }
+
+    /// The sessions and counts, in the order of the sessions. Takes no memory.
+    pub fn iter(&self) -> ClockIter<'_>
+        ensures { result ≡ self.now }
+    {
+        ClockIter {
+            counts: self.counts.as_slice(),
+        }
+    }
+}
+
+/// The sessions and counts of a clock that are still to come, in the order of the sessions. Contracts
+/// see the list of them.
+#[derive(Drop)]
+pub struct ClockIter<'a> {
+    counts: &'a [(u16, Count)],
+}
+
+impl<'a> Model for ClockIter<'a> {
+    ghost use Rattle.std.specs.Prelude.{List, ℕ};
+    ghost use Rattle.lattice_laws.specs.Entries.{plain_entries};
+
+    ghost Value = { List (ℕ × ℕ) };
+
+    ghost view = { λ iter. plain_entries (λ n. n) iter.counts.now };
+}
+
+impl<'a> Iterator for ClockIter<'a> {
+    type Item = (u16, u64);
+
+    ghost next_gives = { YieldsFirst (λ rest. rest) };
+
+    ghost remaining = { item_count (λ rest. rest) };
+
+    fn next(&mut self) -> Option<(u16, u64)> {
+        let ((session, count), others) = self.counts.split_first()?;
+        self.counts = others;
+        Some((*session, count.number()))
+    }
+}
+
+impl<'a> IntoIterator for &'a Clock {
+    type Item = (u16, u64);
+
+    type IntoIter = ClockIter<'a>;
+
+    ghost into_iter_gives = { λ clock iter. iter ≡ clock.now };
+
+    fn into_iter(self) -> ClockIter<'a> {
+        self.iter()
+    }
 }
 
 impl Lattice for Clock {
@@ -218,6 +270,12 @@ mod tests {
         clock.len() == entries.len()
             && (0..clock.len()).all(|i| matches!(clock.at(i), Some(entry) if entry == entries[i]))
             && clock.at(clock.len()).is_none()
+            && clock.iter().count() == entries.len()
+            && clock
+                .iter()
+                .zip(entries)
+                .all(|(shown, entry)| shown == *entry)
+            && clock.is_empty() == entries.is_empty()
     }
 
     #[test]

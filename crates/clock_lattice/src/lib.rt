@@ -21,6 +21,6 @@ mod coverage;
 mod needs;
 mod some_clock;
 
-pub use clock::Clock;
+pub use clock::{Clock, ClockIter};
 pub use coverage::{clocks_cover, needs_cover};
-pub use needs::Needs;
+pub use needs::{Needs, NeedsIter};

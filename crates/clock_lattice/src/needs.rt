@@ -3,8 +3,9 @@ ghost use Rattle.std.specs.Prelude.{◌≡◌, ◌↔◌, List, [], ℕ, length,
 ghost use Rattle.std.specs.Option.{option_map};
 ghost use Rattle.std.specs.Ordering.{nat_cmp};
 ghost use Rattle.std.specs.FinMap.{find};
+ghost use Rattle.std.specs.Iterator.{YieldsFirstBy, item_count};
 ghost use Rattle.lattice_laws.specs.Entries.{IsPushed};
-ghost use Rattle.clock_lattice.specs.Needs.{IsNeeds, joined_needs, one_need, covers_needs};
+ghost use Rattle.clock_lattice.specs.Needs.{lent_need, IsNeeds, joined_needs, one_need, covers_needs};
 ghost use Rattle.clock_lattice.specs.NeedsLaws.{needs_laws, needs_associative};
 
 use crate::Clock;
@@ -115,10 +116,61 @@ impl Needs {
     /// The key and clock at place `i`, counted from 0 in the order of the keys, and nothing past the
     /// last. Takes no memory.
     pub fn at(&self, i: usize) -> Option<(u16, &Clock)>
-        ensures { option_map (λ entry. (entry.0, entry.1.now)) result ≡ slice_get self.now i }
+        ensures { option_map lent_need result ≡ slice_get self.now i }
     {
         let (key, clock) = self.clocks.get(i)?;
         Some((*key, clock.clock()))
+    }
+
+    /// The keys and clocks, in the order of the keys. Takes no memory.
+    pub fn iter(&self) -> NeedsIter<'_>
+        ensures { result ≡ self.now }
+    {
+        NeedsIter {
+            clocks: self.clocks.as_slice(),
+        }
+    }
+}
+
+/// The keys and clocks of needs that are still to come, in the order of the keys. Contracts see the
+/// list of them.
+#[derive(Drop)]
+pub struct NeedsIter<'a> {
+    clocks: &'a [(u16, SomeClock)],
+}
+
+impl<'a> Model for NeedsIter<'a> {
+    ghost use Rattle.std.specs.Prelude.{List, ℕ};
+    ghost use Rattle.lattice_laws.specs.Entries.{plain_entries};
+
+    ghost Value = { List (ℕ × List (ℕ × ℕ)) };
+
+    ghost view = { λ iter. plain_entries (λ clock. clock) iter.clocks.now };
+}
+
+impl<'a> Iterator for NeedsIter<'a> {
+    type Item = (u16, &'a Clock);
+
+    ghost next_gives = { YieldsFirstBy lent_need (λ rest. rest) };
+
+    ghost remaining = { item_count (λ rest. rest) };
+
+    fn next(&mut self) -> Option<(u16, &'a Clock)> {
+        let ((key, clock), others) = self.clocks.split_first()?;
+        self.clocks = others;
+        Some((*key, clock.clock()))
+    }
+}
+
+impl<'a> IntoIterator for &'a Needs {
+    type Item = (u16, &'a Clock);
+
+    type IntoIter = NeedsIter<'a>;
+
+    ghost into_iter_gives = { λ needs iter. iter ≡ needs.now };
+
+    fn into_iter(self) -> NeedsIter<'a> {
+        self.iter()
     }
 }
 
@@ -181,6 +233,12 @@ mod tests {
         needs.len() == keys.len()
             && (0..keys.len()).all(|i| matches!(needs.at(i), Some((key, _)) if key == keys[i]))
             && needs.at(keys.len()).is_none()
+            && needs.iter().count() == keys.len()
+            && needs
+                .iter()
+                .zip(keys)
+                .all(|((shown, _), key)| shown == *key)
+            && needs.is_empty() == keys.is_empty()
             && entries.iter().all(|(key, session, n)| {
                 matches!(needs.of(*key), Some(clock) if clock.count(*session) == *n)
             })

@@ -1,5 +1,6 @@
 -- Versions: words with the clocks under which they were written, and the order in which they are listed.
-use Rattle.std.specs.Prelude.{Bool}
+use Rattle.std.specs.Prelude.{ℕ, Bool, List}
+use denote.Ref.{Bor}
 use Rattle.std.specs.Ordering.{ordering_then}
 use Rattle.std.specs.declared.cmp.Ordering.{Ordering}
 use Rattle.basic_lattices.specs.Word.{IsWord, word_cmp}
@@ -11,6 +12,10 @@ use Rattle.version_antichain.specs.declared.version.Version.{Version}
 pub record IsVersion (version : Version) : Type 0 where
   pub is_clock : clocks.IsClock version.clock
   pub is_word : IsWord version.word
+
+-- the version of which the clock and the word are lent
+abbrev pub version_of : Bor (List (ℕ × ℕ)) × Bor (List ℕ) → Version
+version_of lent = record { clock = lent.0.now; word = lent.1.now }
 
 -- by the clock's list of (session, count), then by the word
 abbrev pub version_cmp : Version → Version → Ordering

@@ -20,4 +20,4 @@ mod versions;
 
 pub use antichain::maximal_of_maximal_in_any_order;
 pub use version::Version;
-pub use versions::{Versions, maximal_of_maximal};
+pub use versions::{Versions, VersionsIter, maximal_of_maximal};

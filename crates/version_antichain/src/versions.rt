@@ -3,11 +3,12 @@ ghost use Rattle.std.specs.Prelude.{◌≡◌, ◌↔◌, ◌<◌, ◌||◌, Lis
 ghost use Rattle.std.specs.List.{list_any, list_all};
 ghost use Rattle.std.specs.Option.{option_map};
 ghost use Rattle.std.specs.Ordering.{eq_by_cmp};
+ghost use Rattle.std.specs.Iterator.{YieldsFirstBy, item_count};
 ghost use Rattle.lattice_laws.specs.Entries.{IsPushed};
 ghost use Rattle.clock_lattice.specs.Clock as clocks;
 ghost use Rattle.version_antichain.specs.declared.version.Version.{Version};
 ghost use Rattle.version_antichain.specs.Antichain.{maximal, MaximalOfMaximal};
-ghost use Rattle.version_antichain.specs.Version.{IsVersion, version_cmp, is_below};
+ghost use Rattle.version_antichain.specs.Version.{IsVersion, version_of, version_cmp, is_below};
 ghost use Rattle.version_antichain.specs.Versions.{IsVersions, joined_versions};
 ghost use Rattle.version_antichain.specs.VersionsLaws.{versions_laws, versions_associative};
 
@@ -93,10 +94,61 @@ impl Versions {
     /// The clock and word of the version at place `i`, counted from 0 in the order of the versions,
     /// and nothing past the last. Takes no memory.
     pub fn at(&self, i: usize) -> Option<(&Clock, &Word)>
-        ensures { option_map (λ version. record { clock = version.0.now; word = version.1.now }) result ≡ slice_get self.now i }
+        ensures { option_map version_of result ≡ slice_get self.now i }
     {
         let entry = self.versions.get(i)?;
         Some((&entry.0.clock, &entry.0.word))
+    }
+
+    /// The clocks and words of the versions, in order. Takes no memory.
+    pub fn iter(&self) -> VersionsIter<'_>
+        ensures { result ≡ self.now }
+    {
+        VersionsIter {
+            versions: self.versions.as_slice(),
+        }
+    }
+}
+
+/// The clocks and words of versions that are still to come, in order. Contracts see the list of the
+/// versions.
+#[derive(Drop)]
+pub struct VersionsIter<'a> {
+    versions: &'a [(Version, Member)],
+}
+
+impl<'a> Model for VersionsIter<'a> {
+    ghost use Rattle.std.specs.Prelude.{List, map};
+    ghost use Rattle.version_antichain.specs.declared.version.Version.{Version};
+
+    ghost Value = { List Version };
+
+    ghost view = { λ iter. map (λ entry. entry.0) iter.versions.now };
+}
+
+impl<'a> Iterator for VersionsIter<'a> {
+    type Item = (&'a Clock, &'a Word);
+
+    ghost next_gives = { YieldsFirstBy version_of (λ rest. rest) };
+
+    ghost remaining = { item_count (λ rest. rest) };
+
+    fn next(&mut self) -> Option<(&'a Clock, &'a Word)> {
+        let (first, others) = self.versions.split_first()?;
+        self.versions = others;
+        Some((&first.0.clock, &first.0.word))
+    }
+}
+
+impl<'a> IntoIterator for &'a Versions {
+    type Item = (&'a Clock, &'a Word);
+
+    type IntoIter = VersionsIter<'a>;
+
+    ghost into_iter_gives = { λ versions iter. iter ≡ versions.now };
+
+    fn into_iter(self) -> VersionsIter<'a> {
+        self.iter()
     }
 }
 
@@ -242,7 +294,16 @@ mod tests {
                 return Ok(false);
             }
         }
-        Ok(versions.len() == expected.len() && versions.at(expected.len()).is_none())
+        for ((_, shown), (_, word)) in versions.iter().zip(expected) {
+            if shown.as_bytes() != *word {
+                return Ok(false);
+            }
+        }
+        Ok(
+            versions.iter().count() == expected.len()
+                && versions.len() == expected.len()
+                && versions.at(expected.len()).is_none(),
+        )
     }
 
     // A has written x and then z, having seen only its own x; B has written y and seen nothing.
