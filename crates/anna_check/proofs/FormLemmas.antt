@@ -18,7 +18,7 @@ use Rattle.session_known.specs.declared.script.Line.{Line}
 use Rattle.session_known.specs.declared.script.Line.TheVariants as lines
 use Rattle.session_known.specs.declared.script.Script.{Script}
 use Rattle.session_known.specs.declared.script.SessionPlan.{SessionPlan}
-use Rattle.anna_check.specs.Stand.{CanBeShown, CanBeHeldAgainst, CanAllBeHeldAgainst, CanBeFinal}
+use Rattle.anna_check.specs.AgainstPuts.{CanBeShown, CanBeHeldAgainst, CanAllBeHeldAgainst, CanBeFinal}
 
 -- needs that are shown are valid
 needs_valid : (script : Script) (level : Level) (needs : Option (List (ℕ × List (ℕ × ℕ)))) → NeedsFit script level needs → IfSome needs IsNeeds

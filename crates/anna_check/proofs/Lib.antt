@@ -1,13 +1,13 @@
 pub mod ByKeyLemmas
+pub mod ClocksSeenLemmas
+pub mod ComputedCellsLemmas
 pub mod CountedLemmas
 pub mod FormLemmas
-pub mod HadLemmas
 pub mod HeldLemmas
 pub mod LawfulLemmas
 pub mod LinesLemmas
 pub mod OneVerdictLemmas
 pub mod SessionsLemmas
 pub mod SoundLemmas
-pub mod ToldLemmas
 pub mod TrueLemmas
 pub mod VerdictLemmas

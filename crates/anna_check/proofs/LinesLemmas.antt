@@ -13,8 +13,8 @@ use Rattle.session_known.specs.declared.report.Answer.TheVariants as answers
 use Rattle.session_known.specs.declared.script.Line.{Line}
 use Rattle.session_known.specs.declared.script.Line.TheVariants as lines
 use Rattle.anna_check.specs.ByKey.{OfKey, kinds_of, AreByKey, MayBePut}
-use Rattle.anna_check.specs.Had.{AreJoined}
-use Rattle.anna_check.specs.Inside.{MayTake}
+use Rattle.anna_check.specs.ClocksSeen.{AreJoined}
+use Rattle.anna_check.specs.Judged.{MayTake}
 use Rattle.anna_check.specs.Unlawful.{IsFirstUnlawful}
 use Rattle.anna_check.proofs.HeldLemmas.{count_one_more}
 

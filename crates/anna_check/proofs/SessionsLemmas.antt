@@ -21,7 +21,7 @@ use Rattle.session_known.specs.declared.script.Line.TheVariants as lines
 use Rattle.session_known.specs.declared.script.Script.{Script}
 use Rattle.session_known.specs.declared.script.SessionPlan.{SessionPlan}
 use Rattle.anna_check.specs.ByKey.{OfKey, kinds_of, AreByKey}
-use Rattle.anna_check.specs.Inside.{NamesKey, NamesWorker, MayTake, CanBeJudged}
+use Rattle.anna_check.specs.Judged.{NamesKey, NamesWorker, MayTake, CanBeJudged}
 use Rattle.anna_check.specs.Unlawful.{IsFirstUnlawful, IsFirstUnlawfulFrom}
 
 -- what holds place by place holds at a place

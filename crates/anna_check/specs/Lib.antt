@@ -1,6 +1,6 @@
+pub mod AgainstPuts
 pub mod ByKey
+pub mod ClocksSeen
 pub mod Counted
-pub mod Had
-pub mod Inside
-pub mod Stand
+pub mod Judged
 pub mod Unlawful

@@ -7,7 +7,7 @@ ghost use Rattle.session_known.specs.Session.{held_puts, knows_put, knows_commit
 ghost use Rattle.session_known.specs.declared.report.Answer as of_answer;
 ghost use Rattle.session_known.specs.declared.script.Line as of_line;
 ghost use Rattle.anna_check.specs.ByKey.{AreByKey, MayBePut, kinds_of};
-ghost use Rattle.anna_check.specs.Inside.{MayTake};
+ghost use Rattle.anna_check.specs.Judged.{MayTake};
 
 use crate::accepted::Accepted;
 use composed_value::Payload;

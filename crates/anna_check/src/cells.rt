@@ -8,7 +8,6 @@ ghost use Rattle.composed_value.specs.Kind.{kind_of_value};
 ghost use Rattle.composed_value.specs.Sound.{is_counted, counted};
 ghost use Rattle.anna_check.specs.Counted.{is_newly_counted, IsOfItsPuts, AreNeedsShown, IsCellShown, IsCellFinal};
 
-use crate::same::are_same;
 use clock_lattice::{Clock, Needs};
 use composed_value::{Cell, Kind, Put};
 use lattice_laws::{Lattice, NoMemory};
@@ -67,6 +66,18 @@ fn is_newly_counted(before: &Clock, clock: &Clock, put: &Put) -> bool
     ensures { result ≡ is_newly_counted before.now clock.now put.now }
 {
     before.count(put.session) < put.number && put.number <= clock.count(put.session)
+}
+
+// ---- equal parts
+
+/// Whether two elements are the same: each is at most the other. Takes no memory.
+fn are_same<L: Lattice>(one: &L, other: &L) -> bool
+    requires { L.fits (L.plain one.now) (L.plain other.now) }
+    ensures { IsTrue result ↔ (L.plain one.now ≡ L.plain other.now) }
+{
+    one.attest();
+    other.attest();
+    one.at_most(other) && other.at_most(one)
 }
 
 // ---- replies

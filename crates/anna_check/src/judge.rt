@@ -6,13 +6,13 @@ ghost use Rattle.session_known.specs.Form.{HasForm};
 ghost use Rattle.session_known.specs.Accepted.{made_on, AreNext};
 ghost use Rattle.session_known.specs.Script.{IsValidScript};
 ghost use Rattle.anna_check.specs.ByKey.{AreByKey};
-ghost use Rattle.anna_check.specs.Stand.{CanAllBeHeldAgainst, CanBeFinal};
+ghost use Rattle.anna_check.specs.AgainstPuts.{CanAllBeHeldAgainst, CanBeFinal};
 ghost use Rattle.anna_check.specs.Unlawful.{IsVerdict, IsVerdictOfPuts};
 
 use crate::accepted::Accepted;
-use crate::first::find_unlawful;
-use crate::told::Told;
-use crate::untrue::{find_unlawful_final, find_untrue};
+use crate::inside::find_unlawful;
+use crate::computed_cells::ComputedCells;
+use crate::against_puts::{find_unlawful_final, find_untrue};
 use lattice_laws::NoMemory;
 use placement::Placement;
 use session_known::{Report, Script};
@@ -72,14 +72,14 @@ fn hold_against(
     requires puts { AreByKey script.now.kinds (made.accepted script.now report.now) accepted.now }
     ensures { IfOk result (IsVerdictOfPuts script.now report.now) }
 {
-    let mut told = Told::new(alloc, script.kinds.as_slice(), script.config.workers)?;
+    let mut cells = ComputedCells::new(alloc, script.kinds.as_slice(), script.config.workers)?;
     let sessions = script.sessions.as_slice();
     let answers = report.answers.as_slice();
-    if let Some((session, command)) = find_untrue(alloc, accepted, &mut told, sessions, answers)? {
+    if let Some((session, command)) = find_untrue(alloc, accepted, &mut cells, sessions, answers)? {
         return Ok(Verdict::Command { session, command });
     }
     let finals = report.finals.as_slice();
-    if let Some((key, worker)) = find_unlawful_final(alloc, accepted, &mut told, finals)? {
+    if let Some((key, worker)) = find_unlawful_final(alloc, accepted, &mut cells, finals)? {
         return Ok(Verdict::Final { key, worker });
     }
     Ok(Verdict::Legal)

@@ -4,10 +4,10 @@ ghost use Rattle.session_known.specs.Lawful.{MayReply, IsClockFrom, IsLawfulRepl
 ghost use Rattle.session_known.specs.Script.{IsOneOf};
 ghost use Rattle.session_known.specs.declared.report.Answer as of_answer;
 ghost use Rattle.session_known.specs.declared.script.Line as of_line;
-ghost use Rattle.anna_check.specs.Had.{AreJoined};
-ghost use Rattle.anna_check.specs.Inside.{NamesKey, NamesWorker};
+ghost use Rattle.anna_check.specs.ClocksSeen.{AreJoined};
+ghost use Rattle.anna_check.specs.Judged.{NamesKey, NamesWorker};
 
-use crate::had::Had;
+use crate::clocks_seen::ClocksSeen;
 use clock_lattice::Clock;
 use lattice_laws::Lattice;
 use placement::Placement;
@@ -43,19 +43,19 @@ fn may_reply(
 fn is_clock_from(
     placement: &Placement,
     known: &Known,
-    had: &Had,
+    seen: &ClocksSeen,
     key: u16,
     worker: u16,
     clock: &Clock,
 ) -> bool
     requires session { 1 ≤ known.now.client.session }
     requires key { IsOneOf (length placement.now) key }
-    requires worker { IsOneOf (length had.now) worker }
-    ensures { (workers : ℕ) (earlier : List (of_line.Line × of_answer.Answer)) → AreJoined workers earlier had.now → IsTrue result ↔ IsClockFrom placement.now known.now.client known.now.knows earlier key worker clock.now }
+    requires worker { IsOneOf (length seen.now) worker }
+    ensures { (workers : ℕ) (earlier : List (of_line.Line × of_answer.Answer)) → AreJoined workers earlier seen.now → IsTrue result ↔ IsClockFrom placement.now known.now.client known.now.knows earlier key worker clock.now }
 {
     clock.attest();
     let home = placement.home(known.session(), key);
-    had.are_covered(key, worker, clock)
+    seen.are_covered(key, worker, clock)
         && (worker != home || clock.count(known.session()) == known.own(key))
 }
 
@@ -63,7 +63,7 @@ fn is_clock_from(
 fn is_lawful_reply(
     placement: &Placement,
     known: &Known,
-    had: &Had,
+    seen: &ClocksSeen,
     line: &Line,
     key: u16,
     named: Option<u16>,
@@ -72,11 +72,11 @@ fn is_lawful_reply(
 ) -> bool
     requires session { 1 ≤ known.now.client.session }
     requires key { IsOneOf (length placement.now) key }
-    requires worker { IsOneOf (length had.now) worker }
-    ensures { (workers : ℕ) (earlier : List (of_line.Line × of_answer.Answer)) → AreJoined workers earlier had.now → IsTrue result ↔ IsLawfulReply placement.now known.now.client known.now.knows earlier line.now key named worker clock.now }
+    requires worker { IsOneOf (length seen.now) worker }
+    ensures { (workers : ℕ) (earlier : List (of_line.Line × of_answer.Answer)) → AreJoined workers earlier seen.now → IsTrue result ↔ IsLawfulReply placement.now known.now.client known.now.knows earlier line.now key named worker clock.now }
 {
     let may_reply = may_reply(placement, known, key, named, worker);
-    let is_clock = is_clock_from(placement, known, had, key, worker, clock);
+    let is_clock = is_clock_from(placement, known, seen, key, worker, clock);
     let is_no_later = clock.count(known.session()) <= known.own(key);
     let is_covering = known.covers_required(line, clock);
     may_reply & is_clock & is_no_later & is_covering
@@ -89,12 +89,12 @@ fn is_asks_of(asks: u32, replicas: usize) -> bool
     asks % 8 == 0 && asks as usize / 8 == replicas
 }
 
-/// Whether the session may be told at the line to ask again, after so many asks and with this clock of
+/// Whether the session may be cells at the line to ask again, after so many asks and with this clock of
 /// the worker.
 fn is_lawful_again(
     placement: &Placement,
     known: &Known,
-    had: &Had,
+    seen: &ClocksSeen,
     line: &Line,
     key: u16,
     asks: u32,
@@ -103,13 +103,13 @@ fn is_lawful_again(
 ) -> bool
     requires session { 1 ≤ known.now.client.session }
     requires key { IsOneOf (length placement.now) key }
-    requires worker { IsOneOf (length had.now) worker }
-    ensures { (workers : ℕ) (earlier : List (of_line.Line × of_answer.Answer)) → AreJoined workers earlier had.now → IsTrue result ↔ IsLawfulAgain placement.now known.now.client known.now.knows earlier line.now key asks worker clock.now }
+    requires worker { IsOneOf (length seen.now) worker }
+    ensures { (workers : ℕ) (earlier : List (of_line.Line × of_answer.Answer)) → AreJoined workers earlier seen.now → IsTrue result ↔ IsLawfulAgain placement.now known.now.client known.now.knows earlier line.now key asks worker clock.now }
 {
     let is_causal = known.level() == Level::Causal;
     let is_asked = is_asks_of(asks, placement.replicas(key).len());
     let is_last = worker == placement.last_asked(known.session(), key);
-    let is_clock = is_clock_from(placement, known, had, key, worker, clock);
+    let is_clock = is_clock_from(placement, known, seen, key, worker, clock);
     let is_lacking = !known.covers_required(line, clock);
     is_causal & is_asked & is_last & is_clock & is_lacking
 }
@@ -118,14 +118,14 @@ fn is_lawful_again(
 pub(crate) fn is_lawful(
     placement: &Placement,
     session: &SessionState,
-    had: &Had,
+    seen: &ClocksSeen,
     line: &Line,
     answer: &Answer,
 ) -> bool
     requires client { 1 ≤ session.now.client.session }
     requires line { NamesKey (length placement.now) line.now }
-    requires answer { NamesWorker (length had.now) answer.now }
-    ensures { (workers : ℕ) (earlier : List (of_line.Line × of_answer.Answer)) → AreJoined workers earlier had.now → IsTrue result ↔ IsLawful placement.now session.now.client session.now.state earlier line.now answer.now }
+    requires answer { NamesWorker (length seen.now) answer.now }
+    ensures { (workers : ℕ) (earlier : List (of_line.Line × of_answer.Answer)) → AreJoined workers earlier seen.now → IsTrue result ↔ IsLawful placement.now session.now.client session.now.state earlier line.now answer.now }
 {
     let known = session.known();
     match (line, answer) {
@@ -145,7 +145,7 @@ pub(crate) fn is_lawful(
         (Line::Get { key, worker: named }, Answer::Got { worker, shown }) => is_lawful_reply(
             placement,
             known,
-            had,
+            seen,
             line,
             *key,
             *named,
@@ -155,7 +155,7 @@ pub(crate) fn is_lawful(
         (Line::Await { key, .. }, Answer::Got { worker, shown }) => is_lawful_reply(
             placement,
             known,
-            had,
+            seen,
             line,
             *key,
             None,
@@ -169,7 +169,7 @@ pub(crate) fn is_lawful(
                 worker,
                 clock,
             },
-        ) => is_lawful_again(placement, known, had, line, *key, *asks, *worker, clock),
+        ) => is_lawful_again(placement, known, seen, line, *key, *asks, *worker, clock),
         (
             Line::Await { key, .. },
             Answer::Again {
@@ -177,7 +177,7 @@ pub(crate) fn is_lawful(
                 worker,
                 clock,
             },
-        ) => is_lawful_again(placement, known, had, line, *key, *asks, *worker, clock),
+        ) => is_lawful_again(placement, known, seen, line, *key, *asks, *worker, clock),
         _ => false,
     }
 }

@@ -9,16 +9,15 @@
 #![tactic(auto)]
 
 mod accepted;
+mod against_puts;
 mod answered;
 mod cells;
-mod first;
-mod had;
+mod clocks_seen;
+mod computed_cells;
+mod inside;
 mod judge;
 mod lawful;
 mod laws;
-mod same;
-mod told;
-mod untrue;
 
 pub use judge::{Verdict, check};
 pub use laws::reports_have_one_verdict;

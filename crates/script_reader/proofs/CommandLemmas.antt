@@ -25,9 +25,9 @@ use Rattle.script_reader.specs.Entries.{Shows}
 use Rattle.script_reader.specs.Faults.{Context, code_of, keys_of, level_of, last_level, commands_of, is_committed, is_declared, is_replica, kind_of_key, may_follow, may_have, suits, is_served, lacks_word, lacks_number, lacks_name, repeats, is_unknown, misfits, passes_limit, breaks_transaction}
 use Rattle.script_reader.proofs.FaultsLaws.{code_limit, code_transaction, code_none}
 use Rattle.script_reader.specs.Keywords.{is_factor, is_round}
-use Rattle.script_reader.specs.Reader.{seen, plans_of, begun_of, with_added, begun_behind, AreKept, IsKept, MayStand, IsFaultOf, HasRead, HasAdded, Reads, IsFound, MayBound, IsBoundFault}
+use Rattle.script_reader.specs.Reader.{seen, plans_of, begun_of, with_added, begun_behind, AreKept, IsKept, SuitsPlace, IsFaultOf, HasRead, HasAdded, Reads, IsKeyAt, MayBound, IsBoundFault}
 use Rattle.script_reader.specs.Said.{place_of, number_in, payload_for, line_said}
-use Rattle.script_reader.specs.Steps.{after, with_line, with_sessions, with_command, script_after, begun_after}
+use Rattle.script_reader.specs.Steps.{context_after, with_line, with_sessions, with_command, script_after, begun_after}
 use Rattle.script_reader.specs.Words.{is_payload_too_great, number_of, number_said, payload_said}
 use Rattle.script_reader.specs.declared.code.Code.TheVariants as codes_of
 use Rattle.script_reader.specs.declared.entry.Entry.{Entry}
@@ -107,7 +107,7 @@ has_added old before now line kept was is =
 
 -- ---- where a command stands
 
--- after the number of workers, in a session
+-- context_after the number of workers, in a session
 pub record IsInSession (context : Context) : Type 0 where
   pub workers : context.has_workers ≡ true
   pub some : nat_lt 0 (length context.script.sessions) ≡ true
@@ -150,7 +150,7 @@ added_is_after : (old : Reader) (keyword : Keyword) (words : List (List ℕ)) (l
       has_round = old.has_round;
       script = with_sessions (with_line line (seen old).script.sessions) (seen old).script;
       begun = begun_behind (seen old).begun line;
-    } ≡ after (seen old) keyword words
+    } ≡ context_after (seen old) keyword words
 added_is_after old keyword words line kept stands says =
     let header : old.has_header ≡ true = kept.headed stands.workers in
     let workers : old.has_workers ≡ old.has_header = stands.workers ∙ sym header in
@@ -180,29 +180,29 @@ fails_not false is = refl
 
 -- ---- keys
 
-found_declared : (context : Context) (key : List ℕ) (place : ℕ) (kind : Kind) → IsFound context key place kind → is_declared context key ≡ true
+found_declared : (context : Context) (key : List ℕ) (place : ℕ) (kind : Kind) → IsKeyAt context key place kind → is_declared context key ≡ true
 found_declared context key place kind found = ap is_some found.place_is
 
-pub found_number : (context : Context) (key : List ℕ) (place : ℕ) (kind : Kind) → IsFound context key place kind → number_in (keys_of context) key ≡ place + 1
+pub found_number : (context : Context) (key : List ℕ) (place : ℕ) (kind : Kind) → IsKeyAt context key place kind → number_in (keys_of context) key ≡ place + 1
 found_number context key place kind found = ap (λ p. unwrap_or p 0 + 1) found.place_is
 
-found_kind : (context : Context) (key : List ℕ) (place : ℕ) (kind : Kind) → IsFound context key place kind → kind_of_key context key ≡ Some kind
+found_kind : (context : Context) (key : List ℕ) (place : ℕ) (kind : Kind) → IsKeyAt context key place kind → kind_of_key context key ≡ Some kind
 found_kind context key place kind found = ap (option_and_then (λ p. slice_get context.script.kinds p)) found.place_is ∙ found.kind_is
 
-found_payload : (context : Context) (key : List ℕ) (words : List (List ℕ)) (place : ℕ) (kind : Kind) → IsFound context key place kind → payload_for (keys_of context) context.script.kinds key words ≡ payload_said kind words
+found_payload : (context : Context) (key : List ℕ) (words : List (List ℕ)) (place : ℕ) (kind : Kind) → IsKeyAt context key place kind → payload_for (keys_of context) context.script.kinds key words ≡ payload_said kind words
 found_payload context key words place kind found = ap (option_and_then (λ kind. payload_said kind words)) (found_kind context key place kind found)
 
-found_replica : (context : Context) (key : List ℕ) (place worker : ℕ) (kind : Kind) → IsFound context key place kind → is_replica context key worker ≡ list_any (λ replica. replica == worker) (slice_index_or (placed context.script.config) place [])
+found_replica : (context : Context) (key : List ℕ) (place worker : ℕ) (kind : Kind) → IsKeyAt context key place kind → is_replica context key worker ≡ list_any (λ replica. replica == worker) (slice_index_or (placed context.script.config) place [])
 found_replica context key place worker kind found = ap (λ p. list_any (λ replica. replica == worker) (option_map_or (λ place. slice_index_or (placed context.script.config) place []) p [])) found.place_is
 
 -- a put lacks a number where its payload's number says too much
-pub too_much_is : (context : Context) (key : List ℕ) (words : List (List ℕ)) (found : Option (ℕ × Kind)) → MatchOption found (place_of (keys_of context) key ≡ None) (λ found. IsFound context key found.0 found.1)
+pub too_much_is : (context : Context) (key : List ℕ) (words : List (List ℕ)) (found : Option (ℕ × Kind)) → MatchOption found (place_of (keys_of context) key ≡ None) (λ found. IsKeyAt context key found.0 found.1)
     → option_map_or (λ found. is_payload_too_great found.1 words) found false ≡ lacks_number context keywords.Put (key ∷ words)
 too_much_is context key words None none = sym (ap (λ p. option_map_or (λ kind. is_payload_too_great kind words) (option_and_then (λ p. slice_get context.script.kinds p) p) false) none)
 too_much_is context key words (Some found) is = sym (ap (λ kind. option_map_or (λ kind. is_payload_too_great kind words) kind false) (found_kind context key found.0 found.1 is))
 
 -- whether a get that names a worker names a replica of a key that is there
-pub unknown_worker : (context : Context) (key word : List ℕ) (place worker : ℕ) (kind : Kind) (has : Bool) → IsFound context key place kind → Some worker ≡ number_said word
+pub unknown_worker : (context : Context) (key word : List ℕ) (place worker : ℕ) (kind : Kind) (has : Bool) → IsKeyAt context key place kind → Some worker ≡ number_said word
     → list_any (λ replica. replica == worker) (slice_index_or (placed context.script.config) place []) ≡ has → not (is_declared context key && is_replica context key (number_of word)) ≡ not has
 unknown_worker context key word place worker kind has found says is =
     let number : number_of word ≡ worker = ap (λ number. unwrap_or number 0) (sym says) in
@@ -213,7 +213,7 @@ pub both_spelled : (key session : Bool) → true ≡ key → true ≡ session �
 both_spelled key session spells says = λ i. not (sym spells i && sym says i)
 
 -- the payload that a put says for its key
-pub put_payload : (context : Context) (key : List ℕ) (words : List (List ℕ)) (place : ℕ) (kind : Kind) (said : Option Payload) → IsFound context key place kind → said ≡ payload_said kind words → payload_for (keys_of context) context.script.kinds key words ≡ said
+pub put_payload : (context : Context) (key : List ℕ) (words : List (List ℕ)) (place : ℕ) (kind : Kind) (said : Option Payload) → IsKeyAt context key place kind → said ≡ payload_said kind words → payload_for (keys_of context) context.script.kinds key words ≡ said
 put_payload context key words place kind said found says = found_payload context key words place kind found ∙ sym says
 
 -- ---- transactions
@@ -256,13 +256,13 @@ bound_kept true false true is same = absurd cc
 bound_kept true false false is same = refl
 
 -- why a transaction cannot be begun or ended is the fault of the line
-pub bound_fault : (context : Context) (keyword : Keyword) (begun : Bool) (fault : LineFault) → IsBoundary keyword begun → MayStand context keyword [] → IsBoundFault context begun fault → IsFaultOf (code_of context keyword []) fault
+pub bound_fault : (context : Context) (keyword : Keyword) (begun : Bool) (fault : LineFault) → IsBoundary keyword begun → SuitsPlace context keyword [] → IsBoundFault context begun fault → IsFaultOf (code_of context keyword []) fault
 bound_fault context keyword begun (faults.Code codes_of.Limit) bounds stands full = code_limit context keyword [] stands.header stands.word (bounds.number context) bounds.name (bounds.twice context) (bounds.unknown context) (bounds.kind context) (bounds.limit context ∙ full)
 bound_fault context keyword begun (faults.Code codes_of.Transaction) bounds stands why = code_transaction context keyword [] stands.header stands.word (bounds.number context) bounds.name (bounds.twice context) (bounds.unknown context) (bounds.kind context) (bounds.limit context ∙ why.0) (bounds.transaction context ∙ bound_broken (is_committed (level_of context)) begun context.begun why.1)
 bound_fault context keyword begun fault bounds stands none = absurd none
 
 -- where it can be, the line has no fault
-pub bound_faultless : (context : Context) (keyword : Keyword) (begun : Bool) → IsBoundary keyword begun → MayStand context keyword [] → MayBound context begun → code_of context keyword [] ≡ None
+pub bound_faultless : (context : Context) (keyword : Keyword) (begun : Bool) → IsBoundary keyword begun → SuitsPlace context keyword [] → MayBound context begun → code_of context keyword [] ≡ None
 bound_faultless context keyword begun bounds stands may = code_none context keyword [] stands.header stands.word (bounds.number context) bounds.name (bounds.twice context) (bounds.unknown context) (bounds.kind context) (bounds.limit context ∙ may.room) (bounds.transaction context ∙ bound_kept (is_committed (level_of context)) begun context.begun may.committed may.is_begun)
 
 -- ---- the numbers of replicas
@@ -326,8 +326,8 @@ all_two : (workers rest : Bool) → not (workers && rest) ≡ false → workers 
 all_two true rest is = refl
 all_two false rest is = absurd cc
 
--- an end line after no transaction adds nothing
-pub end_read : (reader : Reader) → IsKept reader → MayStand (seen reader) keywords.End [] → begun_of reader.sessions ≡ false → HasRead reader reader keywords.End []
+-- an end line context_after no transaction adds nothing
+pub end_read : (reader : Reader) → IsKept reader → SuitsPlace (seen reader) keywords.End [] → begun_of reader.sessions ≡ false → HasRead reader reader keywords.End []
 end_read reader kept stands ended =
     let workers : reader.has_workers ≡ true = all_two reader.has_workers _ stands.word in
     let header : reader.has_header ≡ true = kept.headed workers in
@@ -369,8 +369,8 @@ header_kept has is stands = ap (λ has. not has && not is) stands
 pub shown : {entry : Entry} (is : Entry) (keyword : Keyword) (words : List (List ℕ)) → entry ≡ is → Shows entry keyword words → Shows is keyword words
 shown is keyword words same shows = subst (λ (entry : Entry). Shows entry keyword words) same shows
 
-pub stands_at : (context : Context) (keyword is : Keyword) (words are : List (List ℕ)) → keyword ≡ is → words ≡ are → MayStand context keyword words → MayStand context is are
-stands_at context keyword is words are same alike stands = subst (λ (line : Keyword × List (List ℕ)). MayStand context line.0 line.1) (λ i. (same i, alike i)) stands
+pub stands_at : (context : Context) (keyword is : Keyword) (words are : List (List ℕ)) → keyword ≡ is → words ≡ are → SuitsPlace context keyword words → SuitsPlace context is are
+stands_at context keyword is words are same alike stands = subst (λ (line : Keyword × List (List ℕ)). SuitsPlace context line.0 line.1) (λ i. (same i, alike i)) stands
 
 pub reads_at : (old new : Reader) (result : Result (Unit {0}) LineFault) (keyword is : Keyword) (words are : List (List ℕ)) → keyword ≡ is → words ≡ are → Reads old result new is are → Reads old result new keyword words
 reads_at old new result keyword is words are same alike reads = subst (λ (line : Keyword × List (List ℕ)). Reads old result new line.0 line.1) (λ i. (sym same i, sym alike i)) reads
@@ -386,7 +386,7 @@ no_workers : (has_workers has_header : Bool) → (has_workers ≡ true → has_h
 no_workers true has_header headed none = sym (headed refl)
 no_workers false has_header headed none = sym none
 
--- a reader after the header
+-- a reader context_after the header
 abbrev pub with_header : Reader → Reader
 with_header reader = record {
   built = reader.built;
@@ -402,7 +402,7 @@ with_header reader = record {
   sessions = reader.sessions;
 }
 
-first_read : (reader : Reader) (version : List ℕ) → IsKept reader → MayStand (seen reader) keywords.Anna (version ∷ []) → HasRead reader (with_header reader) keywords.Anna (version ∷ [])
+first_read : (reader : Reader) (version : List ℕ) → IsKept reader → SuitsPlace (seen reader) keywords.Anna (version ∷ []) → HasRead reader (with_header reader) keywords.Anna (version ∷ [])
 first_read reader version kept stands =
     let none : reader.has_header ≡ false = none_before reader.has_header _ stands.word in
     let workers : reader.has_workers ≡ reader.has_header = no_workers reader.has_workers reader.has_header kept.headed none in
@@ -415,6 +415,6 @@ first_read reader version kept stands =
     }
 
 -- a header that was read
-pub header_read : (reader : Reader) (keyword : Keyword) (words : List (List ℕ)) (version : List ℕ) → keyword ≡ keywords.Anna → words ≡ version ∷ [] → IsKept reader → MayStand (seen reader) keyword words → HasRead reader (with_header reader) keyword words
+pub header_read : (reader : Reader) (keyword : Keyword) (words : List (List ℕ)) (version : List ℕ) → keyword ≡ keywords.Anna → words ≡ version ∷ [] → IsKept reader → SuitsPlace (seen reader) keyword words → HasRead reader (with_header reader) keyword words
 header_read reader keyword words version same alike kept stands =
     reads_at reader (with_header reader) (Ok tt) keyword keywords.Anna words (version ∷ []) same alike (first_read reader version kept (stands_at (seen reader) keyword keywords.Anna words (version ∷ []) same alike stands))

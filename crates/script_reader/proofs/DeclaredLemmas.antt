@@ -22,7 +22,7 @@ use Rattle.session_known.specs.declared.script.SessionPlan.{SessionPlan}
 use Rattle.script_reader.specs.Entries.{AreKeyWords, AreSessionWords}
 use Rattle.script_reader.specs.Faults.{Context, level_of, sessions_of, may_follow, may_have, suits, is_served, is_declared, has_repeat, is_within, code_of}
 use Rattle.script_reader.proofs.FaultsLaws.{code_number, code_name, code_twice, code_unknown, code_limit, code_transaction, code_none}
-use Rattle.script_reader.specs.Reader.{seen, plans_of, begun_of, AreKept, IsKept, MayStand, IsFaultOf, IsNameFault, HasRead, Reads, HasOpened}
+use Rattle.script_reader.specs.Reader.{seen, plans_of, begun_of, AreKept, IsKept, SuitsPlace, IsFaultOf, IsNameFault, HasRead, Reads, HasOpened}
 use Rattle.script_reader.specs.Said.{place_of, with_name, pins_said}
 use Rattle.script_reader.proofs.ValidListsLaws.{within_is, are_workers, no_repeat, name_new}
 use Rattle.script_reader.specs.Words.{number_said, is_number, number_of, is_name, kind_said, level_said}
@@ -43,7 +43,7 @@ first_held true b c d is = refl
 first_held false b c d is = absurd cc
 
 -- a line that may stand may follow those before it
-pub follows : (context : Context) (keyword : Keyword) (words : List (List ℕ)) → MayStand context keyword words → may_follow context keyword ≡ true
+pub follows : (context : Context) (keyword : Keyword) (words : List (List ℕ)) → SuitsPlace context keyword words → may_follow context keyword ≡ true
 follows context keyword words stands = first_held (may_follow context keyword) (may_have keyword words) (suits (level_of context) keyword words) (is_served context.built keyword words) stands.word
 
 or_false : (a : Bool) → a ≡ (a || false)
@@ -98,10 +98,10 @@ lies_within least most n word is inside = ap (λ m. not (is_within least most m)
 
 -- ---- workers
 
-pub workers_number : (context : Context) (word : List ℕ) → MayStand context keywords.Workers (word ∷ []) → number_said word ≡ None → code_of context keywords.Workers (word ∷ []) ≡ Some codes_of.Number
+pub workers_number : (context : Context) (word : List ℕ) → SuitsPlace context keywords.Workers (word ∷ []) → number_said word ≡ None → code_of context keywords.Workers (word ∷ []) ≡ Some codes_of.Number
 workers_number context word stands none = code_number _ _ _ stands.header stands.word (no_number word none)
 
-pub workers_limit : (context : Context) (word : List ℕ) (n : ℕ) → MayStand context keywords.Workers (word ∷ []) → number_said word ≡ Some n → is_within 1 8 n ≡ false → code_of context keywords.Workers (word ∷ []) ≡ Some codes_of.Limit
+pub workers_limit : (context : Context) (word : List ℕ) (n : ℕ) → SuitsPlace context keywords.Workers (word ∷ []) → number_said word ≡ Some n → is_within 1 8 n ≡ false → code_of context keywords.Workers (word ∷ []) ≡ Some codes_of.Limit
 workers_limit context word n stands is outside = code_limit _ _ _ stands.header stands.word (is_number_is word n is) refl refl refl refl (not_within 1 8 n word is outside)
 
 -- no keys are nowhere
@@ -113,7 +113,7 @@ kept_workers : (config : Config) (n : ℕ) (sessions : Option Sessions) → conf
 kept_workers config n None none kept = tt
 kept_workers config n (Some sessions) none kept = (kept.0 ∙ placed_none config none ∙ sym (placed_none (record { workers = n; factor = config.factor; keys = config.keys }) none), kept.1, kept.2)
 
-pub workers_read : (reader : Reader) (word : List ℕ) (n : ℕ) → IsKept reader → MayStand (seen reader) keywords.Workers (word ∷ []) → number_said word ≡ Some n → is_within 1 8 n ≡ true
+pub workers_read : (reader : Reader) (word : List ℕ) (n : ℕ) → IsKept reader → SuitsPlace (seen reader) keywords.Workers (word ∷ []) → number_said word ≡ Some n → is_within 1 8 n ≡ true
     → HasRead reader (record reader { has_workers = true; config = record { workers = n; factor = reader.config.factor; keys = reader.config.keys } }) keywords.Workers (word ∷ [])
 workers_read reader word n kept stands is inside =
     let follow = and_parts reader.has_header (not reader.has_workers) (follows (seen reader) keywords.Workers (word ∷ []) stands) in
@@ -156,16 +156,16 @@ workers_read reader word n kept stands is inside =
 
 -- ---- factor
 
-pub factor_number : (context : Context) (word : List ℕ) → MayStand context keywords.Factor (word ∷ []) → number_said word ≡ None → code_of context keywords.Factor (word ∷ []) ≡ Some codes_of.Number
+pub factor_number : (context : Context) (word : List ℕ) → SuitsPlace context keywords.Factor (word ∷ []) → number_said word ≡ None → code_of context keywords.Factor (word ∷ []) ≡ Some codes_of.Number
 factor_number context word stands none = code_number _ _ _ stands.header stands.word (no_number word none)
 
-pub factor_twice : (context : Context) (word : List ℕ) (n : ℕ) → MayStand context keywords.Factor (word ∷ []) → number_said word ≡ Some n → context.has_factor ≡ true → code_of context keywords.Factor (word ∷ []) ≡ Some codes_of.Twice
+pub factor_twice : (context : Context) (word : List ℕ) (n : ℕ) → SuitsPlace context keywords.Factor (word ∷ []) → number_said word ≡ Some n → context.has_factor ≡ true → code_of context keywords.Factor (word ∷ []) ≡ Some codes_of.Twice
 factor_twice context word n stands is twice = code_twice _ _ _ stands.header stands.word (is_number_is word n is) refl twice
 
-pub factor_limit : (context : Context) (word : List ℕ) (n : ℕ) → MayStand context keywords.Factor (word ∷ []) → number_said word ≡ Some n → context.has_factor ≡ false → is_within 1 context.script.config.workers n ≡ false → code_of context keywords.Factor (word ∷ []) ≡ Some codes_of.Limit
+pub factor_limit : (context : Context) (word : List ℕ) (n : ℕ) → SuitsPlace context keywords.Factor (word ∷ []) → number_said word ≡ Some n → context.has_factor ≡ false → is_within 1 context.script.config.workers n ≡ false → code_of context keywords.Factor (word ∷ []) ≡ Some codes_of.Limit
 factor_limit context word n stands is once outside = code_limit _ _ _ stands.header stands.word (is_number_is word n is) refl once refl refl (not_within 1 context.script.config.workers n word is outside)
 
-pub factor_read : (reader : Reader) (word : List ℕ) (n : ℕ) → IsKept reader → MayStand (seen reader) keywords.Factor (word ∷ []) → number_said word ≡ Some n → reader.has_factor ≡ false → is_within 1 reader.config.workers n ≡ true
+pub factor_read : (reader : Reader) (word : List ℕ) (n : ℕ) → IsKept reader → SuitsPlace (seen reader) keywords.Factor (word ∷ []) → number_said word ≡ Some n → reader.has_factor ≡ false → is_within 1 reader.config.workers n ≡ true
     → HasRead reader (record reader { has_factor = true; config = record { workers = reader.config.workers; factor = n; keys = reader.config.keys } }) keywords.Factor (word ∷ [])
 factor_read reader word n kept stands is once inside =
     let follow = and_parts reader.has_workers (nat_le (length reader.config.keys) 0 && nat_le (length (plans_of reader.sessions)) 0) (follows (seen reader) keywords.Factor (word ∷ []) stands) in
@@ -210,16 +210,16 @@ factor_read reader word n kept stands is once inside =
 
 -- ---- round
 
-pub round_number : (context : Context) (word : List ℕ) → MayStand context keywords.Round (word ∷ []) → number_said word ≡ None → code_of context keywords.Round (word ∷ []) ≡ Some codes_of.Number
+pub round_number : (context : Context) (word : List ℕ) → SuitsPlace context keywords.Round (word ∷ []) → number_said word ≡ None → code_of context keywords.Round (word ∷ []) ≡ Some codes_of.Number
 round_number context word stands none = code_number _ _ _ stands.header stands.word (no_number word none)
 
-pub round_twice : (context : Context) (word : List ℕ) (n : ℕ) → MayStand context keywords.Round (word ∷ []) → number_said word ≡ Some n → context.has_round ≡ true → code_of context keywords.Round (word ∷ []) ≡ Some codes_of.Twice
+pub round_twice : (context : Context) (word : List ℕ) (n : ℕ) → SuitsPlace context keywords.Round (word ∷ []) → number_said word ≡ Some n → context.has_round ≡ true → code_of context keywords.Round (word ∷ []) ≡ Some codes_of.Twice
 round_twice context word n stands is twice = code_twice _ _ _ stands.header stands.word (is_number_is word n is) refl twice
 
-pub round_limit : (context : Context) (word : List ℕ) (n : ℕ) → MayStand context keywords.Round (word ∷ []) → number_said word ≡ Some n → context.has_round ≡ false → is_within 1 64 n ≡ false → code_of context keywords.Round (word ∷ []) ≡ Some codes_of.Limit
+pub round_limit : (context : Context) (word : List ℕ) (n : ℕ) → SuitsPlace context keywords.Round (word ∷ []) → number_said word ≡ Some n → context.has_round ≡ false → is_within 1 64 n ≡ false → code_of context keywords.Round (word ∷ []) ≡ Some codes_of.Limit
 round_limit context word n stands is once outside = code_limit _ _ _ stands.header stands.word (is_number_is word n is) refl once refl refl (not_within 1 64 n word is outside)
 
-pub round_read : (reader : Reader) (word : List ℕ) (n : ℕ) → IsKept reader → MayStand (seen reader) keywords.Round (word ∷ []) → number_said word ≡ Some n → reader.has_round ≡ false → is_within 1 64 n ≡ true
+pub round_read : (reader : Reader) (word : List ℕ) (n : ℕ) → IsKept reader → SuitsPlace (seen reader) keywords.Round (word ∷ []) → number_said word ≡ Some n → reader.has_round ≡ false → is_within 1 64 n ≡ true
     → HasRead reader (record reader { has_round = true; round = n }) keywords.Round (word ∷ [])
 round_read reader word n kept stands is once inside =
     let follow = and_parts reader.has_workers (nat_le (length reader.config.keys) 0 && nat_le (length (plans_of reader.sessions)) 0) (follows (seen reader) keywords.Round (word ∷ []) stands) in
@@ -261,35 +261,35 @@ at_session P (first ∷ []) name level are holds = absurd (false≢true are.may_
 at_session P (first ∷ word ∷ []) name level are holds = subst (λ (n : List ℕ). P (n ∷ word ∷ [])) (sym are.name_is) (holds word are.level_is)
 at_session P (first ∷ word ∷ other ∷ words) name level are holds = absurd (false≢true are.may_stand)
 
-pub session_name : (context : Context) (words : List (List ℕ)) (name : List ℕ) (level : Level) → AreSessionWords words name level → MayStand context keywords.Session words → is_name name ≡ false → code_of context keywords.Session words ≡ Some codes_of.Name
+pub session_name : (context : Context) (words : List (List ℕ)) (name : List ℕ) (level : Level) → AreSessionWords words name level → SuitsPlace context keywords.Session words → is_name name ≡ false → code_of context keywords.Session words ≡ Some codes_of.Name
 session_name context words name level are stands unnamed =
-    at_session (λ words. MayStand context keywords.Session words → code_of context keywords.Session words ≡ Some codes_of.Name) words name level are
+    at_session (λ words. SuitsPlace context keywords.Session words → code_of context keywords.Session words ≡ Some codes_of.Name) words name level are
     (λ word said stands. code_name _ _ _ stands.header stands.word refl (ap not unnamed)) stands
 
-pub session_twice : (context : Context) (words : List (List ℕ)) (name : List ℕ) (level : Level) → AreSessionWords words name level → MayStand context keywords.Session words → is_name name ≡ true → list_any (bytes_eq name) (sessions_of context) ≡ true → code_of context keywords.Session words ≡ Some codes_of.Twice
+pub session_twice : (context : Context) (words : List (List ℕ)) (name : List ℕ) (level : Level) → AreSessionWords words name level → SuitsPlace context keywords.Session words → is_name name ≡ true → list_any (bytes_eq name) (sessions_of context) ≡ true → code_of context keywords.Session words ≡ Some codes_of.Twice
 session_twice context words name level are stands named twice =
-    at_session (λ words. MayStand context keywords.Session words → code_of context keywords.Session words ≡ Some codes_of.Twice) words name level are
+    at_session (λ words. SuitsPlace context keywords.Session words → code_of context keywords.Session words ≡ Some codes_of.Twice) words name level are
     (λ word said stands. code_twice _ _ _ stands.header stands.word refl (ap not named) twice) stands
 
-pub session_limit : (context : Context) (words : List (List ℕ)) (name : List ℕ) (level : Level) → AreSessionWords words name level → MayStand context keywords.Session words → is_name name ≡ true → list_any (bytes_eq name) (sessions_of context) ≡ false → 16 ≤ length context.script.sessions → code_of context keywords.Session words ≡ Some codes_of.Limit
+pub session_limit : (context : Context) (words : List (List ℕ)) (name : List ℕ) (level : Level) → AreSessionWords words name level → SuitsPlace context keywords.Session words → is_name name ≡ true → list_any (bytes_eq name) (sessions_of context) ≡ false → 16 ≤ length context.script.sessions → code_of context keywords.Session words ≡ Some codes_of.Limit
 session_limit context words name level are stands named once many =
-    at_session (λ words. MayStand context keywords.Session words → code_of context keywords.Session words ≡ Some codes_of.Limit) words name level are
+    at_session (λ words. SuitsPlace context keywords.Session words → code_of context keywords.Session words ≡ Some codes_of.Limit) words name level are
     (λ word said stands. code_limit _ _ _ stands.header stands.word refl (ap not named) once refl refl (at_most_is many)) stands
 
-pub session_begun : (context : Context) (words : List (List ℕ)) (name : List ℕ) (level : Level) → AreSessionWords words name level → MayStand context keywords.Session words → is_name name ≡ true → list_any (bytes_eq name) (sessions_of context) ≡ false → length context.script.sessions < 16 → context.begun ≡ true → code_of context keywords.Session words ≡ Some codes_of.Transaction
+pub session_begun : (context : Context) (words : List (List ℕ)) (name : List ℕ) (level : Level) → AreSessionWords words name level → SuitsPlace context keywords.Session words → is_name name ≡ true → list_any (bytes_eq name) (sessions_of context) ≡ false → length context.script.sessions < 16 → context.begun ≡ true → code_of context keywords.Session words ≡ Some codes_of.Transaction
 session_begun context words name level are stands named once few begun =
-    at_session (λ words. MayStand context keywords.Session words → code_of context keywords.Session words ≡ Some codes_of.Transaction) words name level are
+    at_session (λ words. SuitsPlace context keywords.Session words → code_of context keywords.Session words ≡ Some codes_of.Transaction) words name level are
     (λ word said stands. code_transaction _ _ _ stands.header stands.word refl (ap not named) once refl refl (at_least_is few) begun) stands
 
 -- a session is begun after the line of workers
-pub session_follows : (context : Context) (words : List (List ℕ)) → MayStand context keywords.Session words → context.has_workers ≡ true
+pub session_follows : (context : Context) (words : List (List ℕ)) → SuitsPlace context keywords.Session words → context.has_workers ≡ true
 session_follows context words stands = follows context keywords.Session words stands
 
-pub session_read : (old new : Reader) (words : List (List ℕ)) (name : List ℕ) (plan : SessionPlan) → IsKept old → AreSessionWords words name plan.level → MayStand (seen old) keywords.Session words
+pub session_read : (old new : Reader) (words : List (List ℕ)) (name : List ℕ) (plan : SessionPlan) → IsKept old → AreSessionWords words name plan.level → SuitsPlace (seen old) keywords.Session words
     → is_name name ≡ true → list_any (bytes_eq name) (sessions_of (seen old)) ≡ false → length (plans_of old.sessions) < 16 → begun_of old.sessions ≡ false
     → plan.name ≡ name → plan.lines ≡ [] → HasOpened old new plan → HasRead old new keywords.Session words
 session_read old new words name plan kept are stands named once few ended name_is empty opened =
-    at_session (λ words. MayStand (seen old) keywords.Session words → HasRead old new keywords.Session words) words name plan.level are
+    at_session (λ words. SuitsPlace (seen old) keywords.Session words → HasRead old new keywords.Session words) words name plan.level are
     (λ word said stands.
     let has : old.has_workers ≡ true = session_follows (seen old) (name ∷ word ∷ []) stands in
     let headed : old.has_header ≡ true = kept.headed has in
@@ -316,7 +316,7 @@ session_read old new words name plan kept are stands named once few ended name_i
     stands
 
 -- what is told of a session's line
-pub session_told : (old new : Reader) (result : Result (Unit {0}) LineFault) (words : List (List ℕ)) (name : List ℕ) (plan : SessionPlan) → IsKept old → AreSessionWords words name plan.level → MayStand (seen old) keywords.Session words
+pub session_told : (old new : Reader) (result : Result (Unit {0}) LineFault) (words : List (List ℕ)) (name : List ℕ) (plan : SessionPlan) → IsKept old → AreSessionWords words name plan.level → SuitsPlace (seen old) keywords.Session words
     → is_name name ≡ true → list_any (bytes_eq name) (sessions_of (seen old)) ≡ false → length (plans_of old.sessions) < 16 → begun_of old.sessions ≡ false
     → plan.name ≡ name → plan.lines ≡ [] → MatchResult result (λ _. HasOpened old new plan) (λ fault. fault ≡ faults.NoMemory) → Reads old result new keywords.Session words
 session_told old new (Ok _) words name plan kept are stands named once few ended name_is empty opened = session_read old new words name plan kept are stands named once few ended name_is empty opened
@@ -389,35 +389,35 @@ lacks words = list_any (λ word. not (is_number word)) words
 said_is : (words pins : List (List ℕ)) (numbers : List ℕ) → drop 3 words ≡ pins → AreNumbers pins numbers → pins_said words ≡ numbers
 said_is words pins numbers pins_are read = ap (map number_of) pins_are ∙ sym read.numbers_are
 
-pub key_number : (context : Context) (words : List (List ℕ)) (name : List ℕ) (kind : Kind) (pins : List (List ℕ)) → AreKeyWords words name kind pins → MayStand context keywords.Key words → lacks pins ≡ true → code_of context keywords.Key words ≡ Some codes_of.Number
+pub key_number : (context : Context) (words : List (List ℕ)) (name : List ℕ) (kind : Kind) (pins : List (List ℕ)) → AreKeyWords words name kind pins → SuitsPlace context keywords.Key words → lacks pins ≡ true → code_of context keywords.Key words ≡ Some codes_of.Number
 key_number context words name kind pins are stands lacking = code_number _ _ _ stands.header stands.word (ap lacks are.pins_are ∙ lacking)
 
-pub key_name : (context : Context) (words : List (List ℕ)) (name : List ℕ) (kind : Kind) (pins : List (List ℕ)) (numbers : List ℕ) → AreKeyWords words name kind pins → MayStand context keywords.Key words → AreNumbers pins numbers → is_name name ≡ false → code_of context keywords.Key words ≡ Some codes_of.Name
+pub key_name : (context : Context) (words : List (List ℕ)) (name : List ℕ) (kind : Kind) (pins : List (List ℕ)) (numbers : List ℕ) → AreKeyWords words name kind pins → SuitsPlace context keywords.Key words → AreNumbers pins numbers → is_name name ≡ false → code_of context keywords.Key words ≡ Some codes_of.Name
 key_name context words name kind pins numbers are stands read unnamed =
-    at_key (λ words. MayStand context keywords.Key words → code_of context keywords.Key words ≡ Some codes_of.Name) words name kind pins are
+    at_key (λ words. SuitsPlace context keywords.Key words → code_of context keywords.Key words ≡ Some codes_of.Name) words name kind pins are
     (λ rest kind_is pins_are stands. code_name _ _ _ stands.header stands.word (ap lacks pins_are ∙ read.each) (ap not unnamed)) stands
 
-pub key_twice : (context : Context) (words : List (List ℕ)) (name : List ℕ) (kind : Kind) (pins : List (List ℕ)) (numbers : List ℕ) → AreKeyWords words name kind pins → MayStand context keywords.Key words → AreNumbers pins numbers → is_name name ≡ true
+pub key_twice : (context : Context) (words : List (List ℕ)) (name : List ℕ) (kind : Kind) (pins : List (List ℕ)) (numbers : List ℕ) → AreKeyWords words name kind pins → SuitsPlace context keywords.Key words → AreNumbers pins numbers → is_name name ≡ true
     → (is_declared context name || has_repeat numbers) ≡ true → code_of context keywords.Key words ≡ Some codes_of.Twice
 key_twice context words name kind pins numbers are stands read named twice =
-    at_key (λ words. MayStand context keywords.Key words → code_of context keywords.Key words ≡ Some codes_of.Twice) words name kind pins are
+    at_key (λ words. SuitsPlace context keywords.Key words → code_of context keywords.Key words ≡ Some codes_of.Twice) words name kind pins are
     (λ rest kind_is pins_are stands. code_twice _ _ _ stands.header stands.word (ap lacks pins_are ∙ read.each) (ap not named)
     (ap (λ said. is_declared context name || has_repeat said) (said_is (name ∷ rest) pins numbers pins_are read) ∙ twice)) stands
 
-pub key_unknown : (context : Context) (words : List (List ℕ)) (name : List ℕ) (kind : Kind) (pins : List (List ℕ)) (numbers : List ℕ) → AreKeyWords words name kind pins → MayStand context keywords.Key words → AreNumbers pins numbers → is_name name ≡ true
+pub key_unknown : (context : Context) (words : List (List ℕ)) (name : List ℕ) (kind : Kind) (pins : List (List ℕ)) (numbers : List ℕ) → AreKeyWords words name kind pins → SuitsPlace context keywords.Key words → AreNumbers pins numbers → is_name name ≡ true
     → (is_declared context name || has_repeat numbers) ≡ false → list_any (λ pin. not (is_within 1 context.script.config.workers pin)) numbers ≡ true → code_of context keywords.Key words ≡ Some codes_of.Unknown
 key_unknown context words name kind pins numbers are stands read named once unknown =
-    at_key (λ words. MayStand context keywords.Key words → code_of context keywords.Key words ≡ Some codes_of.Unknown) words name kind pins are
+    at_key (λ words. SuitsPlace context keywords.Key words → code_of context keywords.Key words ≡ Some codes_of.Unknown) words name kind pins are
     (λ rest kind_is pins_are stands.
     let said = said_is (name ∷ rest) pins numbers pins_are read in
     code_unknown _ _ _ stands.header stands.word (ap lacks pins_are ∙ read.each) (ap not named)
     (ap (λ said. is_declared context name || has_repeat said) said ∙ once)
     (ap (list_any (λ pin. not (is_within 1 context.script.config.workers pin))) said ∙ unknown)) stands
 
-pub key_limit : (context : Context) (words : List (List ℕ)) (name : List ℕ) (kind : Kind) (pins : List (List ℕ)) (numbers : List ℕ) → AreKeyWords words name kind pins → MayStand context keywords.Key words → AreNumbers pins numbers → is_name name ≡ true
+pub key_limit : (context : Context) (words : List (List ℕ)) (name : List ℕ) (kind : Kind) (pins : List (List ℕ)) (numbers : List ℕ) → AreKeyWords words name kind pins → SuitsPlace context keywords.Key words → AreNumbers pins numbers → is_name name ≡ true
     → (is_declared context name || has_repeat numbers) ≡ false → list_any (λ pin. not (is_within 1 context.script.config.workers pin)) numbers ≡ false → 128 ≤ length context.script.config.keys → code_of context keywords.Key words ≡ Some codes_of.Limit
 key_limit context words name kind pins numbers are stands read named once known many =
-    at_key (λ words. MayStand context keywords.Key words → code_of context keywords.Key words ≡ Some codes_of.Limit) words name kind pins are
+    at_key (λ words. SuitsPlace context keywords.Key words → code_of context keywords.Key words ≡ Some codes_of.Limit) words name kind pins are
     (λ rest kind_is pins_are stands.
     let said = said_is (name ∷ rest) pins numbers pins_are read in
     code_limit _ _ _ stands.header stands.word (ap lacks pins_are ∙ read.each) (ap not named)
@@ -433,14 +433,14 @@ pub declared_is : (reader : Reader) (name : List ℕ) → IsKept reader → is_d
 declared_is reader name kept = ap (λ names. is_some (place_of names name)) (sym kept.names)
 
 pub key_read : (reader : Reader) (words : List (List ℕ)) (name : List ℕ) (kind : Kind) (pins : List (List ℕ)) (numbers : List ℕ) (names : List (List ℕ)) (kinds : Vec Kind Global) (keys : List KeyPlace) (key : KeyPlace)
-    → IsKept reader → AreKeyWords words name kind pins → MayStand (seen reader) keywords.Key words → AreNumbers pins numbers → is_name name ≡ true
+    → IsKept reader → AreKeyWords words name kind pins → SuitsPlace (seen reader) keywords.Key words → AreNumbers pins numbers → is_name name ≡ true
     → (is_declared (seen reader) name || has_repeat numbers) ≡ false → list_any (λ pin. not (is_within 1 reader.config.workers pin)) numbers ≡ false → length reader.config.keys < 128
     → names ≡ with_name reader.keys name → kinds.items ≡ reader.kinds.items ++ kind ∷ [] → keys ≡ reader.config.keys ++ key ∷ [] → key.name ≡ name → key.pins ≡ numbers
     → HasRead reader (record reader { config = record { workers = reader.config.workers; factor = reader.config.factor; keys = keys }; keys = names; kinds = kinds }) keywords.Key words
 key_read reader words name kind pins numbers names kinds keys key kept are stands read named once known few names_are kinds_are keys_are name_is numbers_are =
     let config : Config = record { workers = reader.config.workers; factor = reader.config.factor; keys = keys } in
     let new : Reader = record reader { config = config; keys = names; kinds = kinds } in
-    at_key (λ words. MayStand (seen reader) keywords.Key words → HasRead reader new keywords.Key words) words name kind pins are
+    at_key (λ words. SuitsPlace (seen reader) keywords.Key words → HasRead reader new keywords.Key words) words name kind pins are
     (λ rest kind_is pins_are stands.
     let follow = and_parts reader.has_workers (nat_le (length (plans_of reader.sessions)) 0) (follows (seen reader) keywords.Key (name ∷ rest) stands) in
     let has = follow.0 in

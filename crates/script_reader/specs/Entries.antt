@@ -1,8 +1,8 @@
 -- Which words an entry was read from.
-use Rattle.std.specs.Prelude.{◌≡◌, ℕ, true, List, [], ◌∷◌, map, drop, slice_index_or, Some}
+use Rattle.std.specs.Prelude.{◌≡◌, ℕ, true, List, [], ◌∷◌, drop, slice_index_or, Some}
 use Rattle.composed_value.specs.declared.kind.Kind.{Kind}
 use Rattle.session_known.specs.declared.script.Level.{Level}
-use Rattle.script_reader.specs.Words.{kind_said, level_said}
+use Rattle.script_reader.specs.Words.{kind_said, level_said, texts}
 use Rattle.script_reader.specs.Faults.{may_have}
 use Rattle.script_reader.specs.declared.entry.Bare.TheVariants as bares
 use Rattle.script_reader.specs.declared.entry.Entry.{Entry}
@@ -29,9 +29,9 @@ Shows (entries.Header version) keyword words = (keyword ≡ keywords.Anna) × (w
 Shows (entries.Workers number) keyword words = (keyword ≡ keywords.Workers) × (words ≡ number.now ∷ [])
 Shows (entries.Factor number) keyword words = (keyword ≡ keywords.Factor) × (words ≡ number.now ∷ [])
 Shows (entries.Round number) keyword words = (keyword ≡ keywords.Round) × (words ≡ number.now ∷ [])
-Shows (entries.Key name kind pins) keyword words = (keyword ≡ keywords.Key) × AreKeyWords words name.now kind (map (λ word. word.now) pins.now)
+Shows (entries.Key name kind pins) keyword words = (keyword ≡ keywords.Key) × AreKeyWords words name.now kind (texts pins.now)
 Shows (entries.Session name level) keyword words = (keyword ≡ keywords.Session) × AreSessionWords words name.now level
-Shows (entries.Put key payload) keyword words = (keyword ≡ keywords.Put) × (may_have keywords.Put words ≡ true) × (words ≡ key.now ∷ map (λ word. word.now) payload.now)
+Shows (entries.Put key payload) keyword words = (keyword ≡ keywords.Put) × (may_have keywords.Put words ≡ true) × (words ≡ key.now ∷ texts payload.now)
 Shows (entries.Get key) keyword words = (keyword ≡ keywords.Get) × (words ≡ key.now ∷ [])
 Shows (entries.GetFrom key worker) keyword words = (keyword ≡ keywords.Get) × (words ≡ key.now ∷ worker.now ∷ [])
 Shows (entries.Await key session count) keyword words = (keyword ≡ keywords.Await) × (words ≡ key.now ∷ session.now ∷ count.now ∷ [])

@@ -1,6 +1,7 @@
 -- What a word of a line can be: a name, a number, a word of a value, a kind, a level.
-use Rattle.std.specs.Prelude.{ℕ, ◌^◌, Bool, false, ◌&&◌, not, nat_lt, nat_le, if◌then◌else◌, List, [], ◌∷◌, length, codes, Option, Some, None, is_some, unwrap_or}
+use Rattle.std.specs.Prelude.{ℕ, ◌^◌, Bool, false, ◌&&◌, not, nat_lt, nat_le, if◌then◌else◌, List, [], ◌∷◌, map, length, codes, Option, Some, None, is_some, unwrap_or}
 use Rattle.std.specs.List.{list_all}
+use denote.Ref.{Bor}
 use Rattle.std.specs.Option.{option_map, option_and_then}
 use Rattle.std.specs.Str.{bytes_eq, all_ascii_digits}
 use Rattle.std.specs.Str.Parse.{digits_value}
@@ -11,6 +12,10 @@ use Rattle.composed_value.specs.declared.payload.Payload.{Payload}
 use Rattle.composed_value.specs.declared.payload.Payload.TheVariants as payloads
 use Rattle.session_known.specs.declared.script.Level.{Level}
 use Rattle.session_known.specs.declared.script.Level.TheVariants.{Eventual, Committed, Causal}
+
+-- the bytes of words that are lent
+abbrev pub texts : List (Bor (List ℕ)) → List (List ℕ)
+texts words = map (λ word. word.now) words
 
 -- 1 to `most` bytes of A-Z a-z 0-9 _ . -
 abbrev pub is_spelled : ℕ → List ℕ → Bool

@@ -1,8 +1,9 @@
 //! Lines told apart by their first words.
-ghost use Rattle.std.specs.Prelude.{◌≡◌, ◌≢◌, ◌∷◌, [], false, length, map, MatchOption};
+ghost use Rattle.std.specs.Prelude.{◌≡◌, ◌≢◌, ◌∷◌, [], false, length, MatchOption};
 ghost use Rattle.script_reader.specs.declared.entry.Entry.TheVariants as entries;
 ghost use Rattle.script_reader.specs.Entries.{Shows};
 ghost use Rattle.script_reader.specs.Faults.{may_have};
+ghost use Rattle.script_reader.specs.Words.{texts};
 
 use crate::keyword::Keyword;
 use crate::words::{kind, level};
@@ -65,7 +66,7 @@ pub(crate) enum Entry<'w, 'a> {
 /// Tells a line apart, where its words are as many as may stand after its first word, and those that
 /// are given are right.
 pub(crate) fn tell_apart<'w, 'a>(keyword: Keyword, words: &'w [&'a [u8]]) -> Option<Entry<'w, 'a>>
-    ensures { MatchOption result (may_have keyword (map (λ word. word.now) words.now) ≡ false) (λ entry. Shows entry keyword (map (λ word. word.now) words.now)) }
+    ensures { MatchOption result (may_have keyword (texts words.now) ≡ false) (λ entry. Shows entry keyword (texts words.now)) }
 {
     match keyword {
         Keyword::Anna => one_word(words).map(|version| Entry::Header { version }),
@@ -98,7 +99,7 @@ fn bare_entry<'w, 'a>(words: &'w [&'a [u8]], bare: Bare) -> Option<Entry<'w, 'a>
 
 /// The word, where there is one.
 fn one_word<'w, 'a>(words: &'w [&'a [u8]]) -> Option<&'a [u8]>
-    ensures { MatchOption result (length words.now ≢ 1) (λ word. map (λ word. word.now) words.now ≡ word.now ∷ []) }
+    ensures { MatchOption result (length words.now ≢ 1) (λ word. texts words.now ≡ word.now ∷ []) }
 {
     match words {
         [word] => Some(word),
@@ -108,7 +109,7 @@ fn one_word<'w, 'a>(words: &'w [&'a [u8]]) -> Option<&'a [u8]>
 
 /// A key and its kind, and pins where there are any.
 fn key_entry<'w, 'a>(words: &'w [&'a [u8]]) -> Option<Entry<'w, 'a>>
-    ensures { MatchOption result (may_have Keyword.Key (map (λ word. word.now) words.now) ≡ false) (λ entry. Shows entry Keyword.Key (map (λ word. word.now) words.now)) }
+    ensures { MatchOption result (may_have Keyword.Key (texts words.now) ≡ false) (λ entry. Shows entry Keyword.Key (texts words.now)) }
 {
     match words {
         [name, word] => Some(Entry::Key {
@@ -129,7 +130,7 @@ fn key_entry<'w, 'a>(words: &'w [&'a [u8]]) -> Option<Entry<'w, 'a>>
 
 /// A session and its level.
 fn session_entry<'w, 'a>(words: &'w [&'a [u8]]) -> Option<Entry<'w, 'a>>
-    ensures { MatchOption result (may_have Keyword.Session (map (λ word. word.now) words.now) ≡ false) (λ entry. Shows entry Keyword.Session (map (λ word. word.now) words.now)) }
+    ensures { MatchOption result (may_have Keyword.Session (texts words.now) ≡ false) (λ entry. Shows entry Keyword.Session (texts words.now)) }
 {
     match words {
         [name, word] => Some(Entry::Session {
@@ -142,7 +143,7 @@ fn session_entry<'w, 'a>(words: &'w [&'a [u8]]) -> Option<Entry<'w, 'a>>
 
 /// A key, and one or two words of a payload.
 fn put_entry<'w, 'a>(words: &'w [&'a [u8]]) -> Option<Entry<'w, 'a>>
-    ensures { MatchOption result (may_have Keyword.Put (map (λ word. word.now) words.now) ≡ false) (λ entry. Shows entry Keyword.Put (map (λ word. word.now) words.now)) }
+    ensures { MatchOption result (may_have Keyword.Put (texts words.now) ≡ false) (λ entry. Shows entry Keyword.Put (texts words.now)) }
 {
     match words {
         [key, payload @ ..] if payload.len() == 1 || payload.len() == 2 => {
@@ -154,7 +155,7 @@ fn put_entry<'w, 'a>(words: &'w [&'a [u8]]) -> Option<Entry<'w, 'a>>
 
 /// A key, and a worker where one is named.
 fn get_entry<'w, 'a>(words: &'w [&'a [u8]]) -> Option<Entry<'w, 'a>>
-    ensures { MatchOption result (may_have Keyword.Get (map (λ word. word.now) words.now) ≡ false) (λ entry. Shows entry Keyword.Get (map (λ word. word.now) words.now)) }
+    ensures { MatchOption result (may_have Keyword.Get (texts words.now) ≡ false) (λ entry. Shows entry Keyword.Get (texts words.now)) }
 {
     match words {
         [key] => Some(Entry::Get { key }),
@@ -165,7 +166,7 @@ fn get_entry<'w, 'a>(words: &'w [&'a [u8]]) -> Option<Entry<'w, 'a>>
 
 /// A key, a session, and a number of its puts.
 fn await_entry<'w, 'a>(words: &'w [&'a [u8]]) -> Option<Entry<'w, 'a>>
-    ensures { MatchOption result (may_have Keyword.Await (map (λ word. word.now) words.now) ≡ false) (λ entry. Shows entry Keyword.Await (map (λ word. word.now) words.now)) }
+    ensures { MatchOption result (may_have Keyword.Await (texts words.now) ≡ false) (λ entry. Shows entry Keyword.Await (texts words.now)) }
 {
     match words {
         [key, session, count] => Some(Entry::Await {

@@ -11,6 +11,7 @@ ghost use Rattle.script_reader.specs.LineReads.{HasReadLine, IsWhyNoLines, named
 ghost use Rattle.script_reader.specs.Lines.{statement_in, statement_of, statements_of, is_end_line};
 ghost use Rattle.script_reader.specs.Reader.{seen, IsKept, IsFaultOf};
 ghost use Rattle.script_reader.specs.Said.{named_in};
+ghost use Rattle.script_reader.specs.Words.{texts};
 
 use crate::built::Built;
 use crate::code::Code;
@@ -31,8 +32,8 @@ pub const MOST_BYTES: usize = 1_048_576;
 /// none or the line is a comment.
 fn statement<'w, 'a>(words: &'w [&'a [u8]]) -> Option<(Keyword, &'w [&'a [u8]])>
     ensures { MatchOption result
-        (statement_in (map (λ word. word.now) words.now) ≡ None)
-        (λ found. statement_in (map (λ word. word.now) words.now) ≡ Some (record { keyword = found.0; words = map (λ word. word.now) found.1.now })) }
+        (statement_in (texts words.now) ≡ None)
+        (λ found. statement_in (texts words.now) ≡ Some (record { keyword = found.0; words = texts found.1.now })) }
 {
     let [first, rest @ ..] = words else {
         return None;

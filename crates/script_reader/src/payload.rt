@@ -1,6 +1,6 @@
 //! What the words after a put's key say.
-ghost use Rattle.std.specs.Prelude.{◌≡◌, [], ◌∷◌, map};
-ghost use Rattle.script_reader.specs.Words.{word_said, payload_said, is_payload_too_great as says_too_much};
+ghost use Rattle.std.specs.Prelude.{◌≡◌, [], ◌∷◌};
+ghost use Rattle.script_reader.specs.Words.{word_said, payload_said, is_payload_too_great as says_too_much, texts};
 
 use crate::words::{is_too_great, number};
 use basic_lattices::Word;
@@ -8,7 +8,7 @@ use composed_value::{Kind, Payload};
 
 /// The payload that the words say, where they fit the kind.
 pub(crate) fn payload(kind: Kind, words: &[&[u8]]) -> Option<Payload>
-    ensures { result ≡ payload_said kind (map (λ word. word.now) words.now) }
+    ensures { result ≡ payload_said kind (texts words.now) }
 {
     match (kind, words) {
         (Kind::Max, [value]) => number(value).map(Payload::Max),
@@ -38,7 +38,7 @@ fn value_word(bytes: &[u8]) -> Option<Word>
 
 /// Whether the number of the payload says more than a number may.
 pub(crate) fn is_payload_too_great(kind: Kind, words: &[&[u8]]) -> bool
-    ensures { result ≡ says_too_much kind (map (λ word. word.now) words.now) }
+    ensures { result ≡ says_too_much kind (texts words.now) }
 {
     match (kind, words) {
         (Kind::Max, [value]) | (Kind::Map, [_, value]) => is_too_great(value),

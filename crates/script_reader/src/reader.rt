@@ -3,10 +3,11 @@
 mod commands;
 mod declared;
 
-ghost use Rattle.std.specs.Prelude.{◌≡◌, [], map, IfOk, MatchResult};
+ghost use Rattle.std.specs.Prelude.{◌≡◌, [], IfOk, MatchResult};
 ghost use Rattle.script_reader.specs.Entries.{Shows};
 ghost use Rattle.script_reader.specs.Faults.{code_of, context_of, may_follow, level_of, is_header as header_is, suits as level_suits, is_served as served};
-ghost use Rattle.script_reader.specs.Reader.{seen, plans_of, IsKept, IsFaultOf, MayStand, Reads};
+ghost use Rattle.script_reader.specs.Reader.{seen, plans_of, IsKept, IsFaultOf, SuitsPlace, Reads};
+ghost use Rattle.script_reader.specs.Words.{texts};
 
 use crate::built::Built;
 use crate::code::Code;
@@ -129,8 +130,8 @@ impl<'a> Reader<'a> {
     /// Tells a line apart, where it may stand here with its words.
     fn check<'w>(&self, keyword: Keyword, words: &'w [&'a [u8]]) -> Result<Entry<'w, 'a>, LineFault>
         ensures { MatchResult result
-            (λ entry. Shows entry keyword (map (λ word. word.now) words.now) × MayStand (seen self.now) keyword (map (λ word. word.now) words.now))
-            (IsFaultOf (code_of (seen self.now) keyword (map (λ word. word.now) words.now))) }
+            (λ entry. Shows entry keyword (texts words.now) × SuitsPlace (seen self.now) keyword (texts words.now))
+            (IsFaultOf (code_of (seen self.now) keyword (texts words.now))) }
     {
         if !self.has_header && !is_header(keyword, words) {
             return Err(LineFault::Code(Code::Header));
@@ -156,7 +157,7 @@ impl<'a> Reader<'a> {
         words: &[&'a [u8]],
     ) -> Result<(), LineFault>
         requires kept { IsKept self.old }
-        ensures { Reads self.old result self.new keyword (map (λ word. word.now) words.now) }
+        ensures { Reads self.old result self.new keyword (texts words.now) }
     {
         match self.check(keyword, words)? {
             Entry::Header { .. } => {
@@ -247,7 +248,7 @@ fn plans(alloc: Global, sessions: Option<Sessions>) -> Result<Items<SessionPlan>
 
 /// Whether a line is the header.
 fn is_header(keyword: Keyword, words: &[&[u8]]) -> bool
-    ensures { result ≡ header_is keyword (map (λ word. word.now) words.now) }
+    ensures { result ≡ header_is keyword (texts words.now) }
 {
     match (keyword, words) {
         (Keyword::Anna, [version]) => *version == b"1".as_slice(),
@@ -257,7 +258,7 @@ fn is_header(keyword: Keyword, words: &[&[u8]]) -> bool
 
 /// Whether a session of the level may have the line.
 fn suits(level: Level, keyword: Keyword, words: &[&[u8]]) -> bool
-    ensures { result ≡ level_suits level keyword (map (λ word. word.now) words.now) }
+    ensures { result ≡ level_suits level keyword (texts words.now) }
 {
     match keyword {
         Keyword::Await => level == Level::Causal,
@@ -268,7 +269,7 @@ fn suits(level: Level, keyword: Keyword, words: &[&[u8]]) -> bool
 
 /// Whether the line is of a form that is served.
 fn is_served(built: Built, keyword: Keyword, words: &[&[u8]]) -> bool
-    ensures { result ≡ served built keyword (map (λ word. word.now) words.now) }
+    ensures { result ≡ served built keyword (texts words.now) }
 {
     match (keyword, words) {
         (Keyword::Workers, [word, ..]) => {

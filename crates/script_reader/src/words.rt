@@ -1,7 +1,7 @@
 //! What a word of a line can be.
-ghost use Rattle.std.specs.Prelude.{◌≡◌, ◌++◌, map, IfOk};
+ghost use Rattle.std.specs.Prelude.{◌≡◌, ◌++◌, IfOk};
 ghost use Rattle.script_reader.specs.Lines.{words_of as all_words};
-ghost use Rattle.script_reader.specs.Words.{is_spelled, is_numeral as digits_alone, number_said, is_too_great as says_too_much, kind_said, level_said};
+ghost use Rattle.script_reader.specs.Words.{is_spelled, is_numeral as digits_alone, number_said, is_too_great as says_too_much, kind_said, level_said, texts};
 
 use composed_value::Kind;
 use lattice_laws::{NoMemory, test_spelling};
@@ -10,7 +10,7 @@ use std::alloc::Global;
 
 /// The words of a line: what stands between runs of spaces and tabs.
 pub(crate) fn words_of(alloc: Global, line: &[u8]) -> Result<Vec<&[u8]>, NoMemory>
-    ensures { IfOk result (λ words. map (λ word. word.now) words.items ≡ all_words line.now) }
+    ensures { IfOk result (λ words. texts words.items ≡ all_words line.now) }
 {
     let words = line
         .split(|byte| *byte == b' ' || *byte == b'\t')

@@ -107,31 +107,31 @@ learned_at_most key known (entry ∷ clock) rises session =
     (with_old_at_most (find nat_cmp key known) (entry ∷ clock) rises session)
 
 -- the clock that a reply shows is known once it has shown it
-pub shown_is_known : (client : Client) (knows : Knowledge) (key : ℕ) (shown : Shown) → IsTrue (is_sorted nat_cmp shown.clock) → CountsAtMost shown.clock (clock_at key (knows_shown client knows key shown).known)
+pub shown_is_known : (client : Client) (knows : Knowledge) (key : ℕ) (shown : Shown) → IsTrue (is_sorted nat_cmp shown.clock) → CountsAtMost shown.clock (clock_at key (knows_shown client knows key shown).clocks)
 shown_is_known client knows key shown rises session =
-    let first = learned_at_most key knows.known shown.clock rises session in
-    let second = needs_grow key (joined_needs knows.known (one_need key shown.clock)) (needs_learned client.level shown.needs) session in
+    let first = learned_at_most key knows.clocks shown.clock rises session in
+    let second = needs_grow key (joined_needs knows.clocks (one_need key shown.clock)) (needs_learned client.level shown.needs) session in
     omega (arith, first, second)
 
 -- a reply makes nothing less known
-known_at_reply : (client : Client) (knows : Knowledge) (its_key : ℕ) (shown : Shown) (key : ℕ) → CountsAtMost (clock_at key knows.known) (clock_at key (knows_shown client knows its_key shown).known)
+known_at_reply : (client : Client) (knows : Knowledge) (its_key : ℕ) (shown : Shown) (key : ℕ) → CountsAtMost (clock_at key knows.clocks) (clock_at key (knows_shown client knows its_key shown).clocks)
 known_at_reply client knows its_key shown key session =
-    let first = needs_grow key knows.known (one_need its_key shown.clock) session in
-    let second = needs_grow key (joined_needs knows.known (one_need its_key shown.clock)) (needs_learned client.level shown.needs) session in
+    let first = needs_grow key knows.clocks (one_need its_key shown.clock) session in
+    let second = needs_grow key (joined_needs knows.clocks (one_need its_key shown.clock)) (needs_learned client.level shown.needs) session in
     omega (arith, first, second)
 
 -- nor does a commit
-known_at_commit : (client : Client) (knows : Knowledge) (lamport : ℕ) (held : List (ℕ × Payload)) (key : ℕ) → CountsAtMost (clock_at key knows.known) (clock_at key (knows_committed client knows lamport held).known)
+known_at_commit : (client : Client) (knows : Knowledge) (lamport : ℕ) (held : List (ℕ × Payload)) (key : ℕ) → CountsAtMost (clock_at key knows.clocks) (clock_at key (knows_committed client knows lamport held).clocks)
 known_at_commit client knows lamport [] key session = omega arith
 known_at_commit client knows lamport (held ∷ others) key session =
     let number : ℕ = own_count knows held.0 + 1 in
-    let first = needs_grow key knows.known (one_need held.0 (one_count client.session number)) session in
+    let first = needs_grow key knows.clocks (one_need held.0 (one_count client.session number)) session in
     let second = known_at_commit client (knows_put client knows held.0 number lamport) lamport others key session in
     omega (arith, first, second)
 
 -- nor does any line
-pub known_at_line : (client : Client) (state : State) (line : Line) (answer : Answer) (key : ℕ) → CountsAtMost (clock_at key state.knows.known) (clock_at key (after client state line answer).knows.known)
-known_at_line client state (lines.Put its_key payload) (answers.Put number lamport) key = needs_grow key state.knows.known (one_need its_key (one_count client.session number))
+pub known_at_line : (client : Client) (state : State) (line : Line) (answer : Answer) (key : ℕ) → CountsAtMost (clock_at key state.knows.clocks) (clock_at key (after client state line answer).knows.clocks)
+known_at_line client state (lines.Put its_key payload) (answers.Put number lamport) key = needs_grow key state.knows.clocks (one_need its_key (one_count client.session number))
 known_at_line client state (lines.Get its_key named) (answers.Got worker shown) key = known_at_reply client state.knows its_key shown key
 known_at_line client state (lines.Await its_key of_session count) (answers.Got worker shown) key = known_at_reply client state.knows its_key shown key
 known_at_line client state lines.Begin answers.Begun key = λ session. omega arith

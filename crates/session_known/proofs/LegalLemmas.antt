@@ -92,18 +92,18 @@ shown_is_clock script line answer key clock fits (by_get its_key named worker sh
 shown_is_clock script line answer key clock fits (by_await its_key session count worker shown) = fits.clock_is.is_clock
 
 -- it is known once it is shown
-known_once_shown : (client : Client) (state : State) (line : Line) (answer : Answer) (key : ℕ) (clock : List (ℕ × ℕ)) → IsClock clock → ShowsAt line answer key clock → CountsAtMost clock (clock_at key (after client state line answer).knows.known)
+known_once_shown : (client : Client) (state : State) (line : Line) (answer : Answer) (key : ℕ) (clock : List (ℕ × ℕ)) → IsClock clock → ShowsAt line answer key clock → CountsAtMost clock (clock_at key (after client state line answer).knows.clocks)
 known_once_shown client state line answer key clock is (by_get its_key named worker shown) = shown_is_known client state.knows its_key shown is.ascending
 known_once_shown client state line answer key clock is (by_await its_key session count worker shown) = shown_is_known client state.knows its_key shown is.ascending
 
 -- in a causal session a lawful reply counts at least what is known
 counts_what_is_known : (table : List (List ℕ)) (client : Client) (state : State) (before : List (Line × Answer)) (line : Line) (answer : Answer) (key : ℕ) (clock : List (ℕ × ℕ)) → client.level ≡ Causal → IsLawful table client state before line answer → ShowsAt line answer key clock
-    → CountsAtMost (clock_at key state.knows.known) clock
+    → CountsAtMost (clock_at key state.knows.clocks) clock
 counts_what_is_known table client state before line answer key clock causal lawful (by_get its_key named worker shown) =
-    let covered : IsTrue (covers shown.clock (clock_at its_key state.knows.known)) = subst (λ level. IsTrue (covers shown.clock (required_by_get level state.knows its_key))) causal lawful.covers_required in
-    counts_from_covers shown.clock (clock_at its_key state.knows.known) covered
+    let covered : IsTrue (covers shown.clock (clock_at its_key state.knows.clocks)) = subst (λ level. IsTrue (covers shown.clock (required_by_get level state.knows its_key))) causal lawful.covers_required in
+    counts_from_covers shown.clock (clock_at its_key state.knows.clocks) covered
 counts_what_is_known table client state before line answer key clock causal lawful (by_await its_key session count worker shown) = λ of_session.
-    let known : List (ℕ × ℕ) = clock_at its_key state.knows.known in
+    let known : List (ℕ × ℕ) = clock_at its_key state.knows.clocks in
     let raised : List (ℕ × ℕ) = joined_clocks known (one_count session count) in
     let first = first_at_most known (one_count session count) of_session in
     let second = counts_from_covers shown.clock raised lawful.covers_required of_session in
@@ -111,7 +111,7 @@ counts_what_is_known table client state before line answer key clock causal lawf
 
 -- and so does any later one
 counts_what_was_known : (table : List (List ℕ)) (client : Client) (state : State) (before : List (Line × Answer)) (lines : List Line) (answers : List Answer) (place key : ℕ) (clock : List (ℕ × ℕ)) → client.level ≡ Causal → AreLawful table client state before lines answers
-    → place < length lines → IsReplyAt lines answers place key clock → CountsAtMost (clock_at key state.knows.known) clock
+    → place < length lines → IsReplyAt lines answers place key clock → CountsAtMost (clock_at key state.knows.clocks) clock
 counts_what_was_known table client state before [] answers place key clock causal lawful within reply = absurd (omega (arith, within))
 counts_what_was_known table client state before (line ∷ lines) [] place key clock causal lawful within reply = absurd lawful
 counts_what_was_known table client state before (line ∷ lines) (answer ∷ answers) zero key clock causal lawful within reply =

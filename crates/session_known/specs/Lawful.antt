@@ -24,13 +24,13 @@ last_lamport = 2 ^ 64 - 1
 
 -- what a get must cover: in a causal session what is known of the key
 abbrev pub required_by_get : Level → Knowledge → ℕ → List (ℕ × ℕ)
-required_by_get Causal knows key = clock_at key knows.known
+required_by_get Causal knows key = clock_at key knows.clocks
 required_by_get level knows key = []
 
 -- what a reply to the line must cover; at an await what is known of the key, raised to the awaited count
 abbrev pub required : Client → Knowledge → Line → List (ℕ × ℕ)
 required client knows (lines.Get key named) = required_by_get client.level knows key
-required client knows (lines.Await key session count) = joined_clocks (clock_at key knows.known) (one_count session count)
+required client knows (lines.Await key session count) = joined_clocks (clock_at key knows.clocks) (one_count session count)
 required client knows line = []
 
 -- which worker may reply to a get: in a causal session any replica, else the named one or the home

@@ -21,7 +21,7 @@ pub record Client : Type 0 where
 -- what a session knows: of each key a clock (of puts that replies have shown, that it made, or that a shown put depends on), the greatest
 -- Lamport number seen or used, and how many puts it has made on each key
 pub record Knowledge : Type 0 where
-  pub known : List (ℕ × List (ℕ × ℕ))
+  pub clocks : List (ℕ × List (ℕ × ℕ))
   pub lamport : ℕ
   pub own : List (ℕ × ℕ)
 
@@ -46,7 +46,7 @@ known_of session = record { client = session.client; knows = session.state.knows
 
 -- at the start nothing is known, and no transaction is begun
 abbrev pub nothing_known : Knowledge
-nothing_known = record { known = []; lamport = 0; own = [] }
+nothing_known = record { clocks = []; lamport = 0; own = [] }
 
 abbrev pub start : State
 start = record { knows = nothing_known; held = None }
@@ -57,11 +57,11 @@ own_count knows key = count_of key knows.own
 
 -- the clock known at the key, raised at the session to a number
 abbrev pub known_raised : Knowledge → ℕ → ℕ → ℕ → List (ℕ × ℕ)
-known_raised knows key session number = joined_clocks (clock_at key knows.known) (one_count session number)
+known_raised knows key session number = joined_clocks (clock_at key knows.clocks) (one_count session number)
 
 -- the causal dependencies of a put: in a causal session all that is known before it, else none
 abbrev pub needs_by : Level → Knowledge → List (ℕ × List (ℕ × ℕ))
-needs_by Causal knows = knows.known
+needs_by Causal knows = knows.clocks
 needs_by level knows = []
 
 -- the put that a session makes, at a Lamport number and place
@@ -83,7 +83,7 @@ next_put of key payload lamport place = put_made of.client of.knows key payload 
 -- what is known once the put is made
 abbrev pub knows_put : Client → Knowledge → ℕ → ℕ → ℕ → Knowledge
 knows_put client knows key number lamport = record {
-  known = joined_needs knows.known (one_need key (one_count client.session number));
+  clocks = joined_needs knows.clocks (one_need key (one_count client.session number));
   lamport = lamport;
   own = joined_clocks knows.own (one_count key number);
 }
@@ -112,7 +112,7 @@ needs_learned level shown = []
 -- what is known once a clock of the key, a Lamport number, and needs where there are any are learned
 abbrev pub knows_learned : Knowledge → ℕ → List (ℕ × ℕ) → ℕ → Option (List (ℕ × List (ℕ × ℕ))) → Knowledge
 knows_learned knows key clock top learned = record {
-  known = joined_needs (joined_needs knows.known (one_need key clock)) (unwrap_or learned []);
+  clocks = joined_needs (joined_needs knows.clocks (one_need key clock)) (unwrap_or learned []);
   lamport = max knows.lamport top;
   own = knows.own;
 }
@@ -124,7 +124,7 @@ shown_of cell = record { clock = cell.clock; top = cell.top; value = cell.value;
 -- what is known once a reply has shown a cell of the key
 abbrev pub knows_shown : Client → Knowledge → ℕ → Shown → Knowledge
 knows_shown client knows key shown = record {
-  known = joined_needs (joined_needs knows.known (one_need key shown.clock)) (needs_learned client.level shown.needs);
+  clocks = joined_needs (joined_needs knows.clocks (one_need key shown.clock)) (needs_learned client.level shown.needs);
   lamport = max knows.lamport shown.top;
   own = knows.own;
 }

@@ -37,7 +37,7 @@ impl Model for Known {
 
     ghost Value = { Knows };
 
-    ghost view = { λ known. record { client = record { session = known.session; level = known.level }; knows = record { known = known.needs; lamport = known.lamport; own = known.own } } };
+    ghost view = { λ known. record { client = record { session = known.session; level = known.level }; knows = record { clocks = known.needs; lamport = known.lamport; own = known.own } } };
 }
 
 impl Known {
@@ -147,7 +147,7 @@ impl Known {
 
     /// The clock that is known of the key, and nothing where no put on it is known. Takes no memory.
     pub fn clock_for(&self, key: u16) -> Option<&Clock>
-        ensures { option_map (λ clock. clock.now) result ≡ find nat_cmp key self.now.knows.known }
+        ensures { option_map (λ clock. clock.now) result ≡ find nat_cmp key self.now.knows.clocks }
     {
         self.needs.of(key)
     }
@@ -155,7 +155,7 @@ impl Known {
     /// The clocks that are known, key by key: the causal dependencies of a causal session's next put.
     /// Takes no memory.
     pub fn needs(&self) -> &Needs
-        ensures { result.now ≡ self.now.knows.known }
+        ensures { result.now ≡ self.now.knows.clocks }
     {
         &self.needs
     }
@@ -202,7 +202,7 @@ impl Known {
 
     // The clock that is known of the key, empty where no put on it is known.
     fn clock_copy(&self, key: u16) -> Result<Clock, NoMemory>
-        ensures { IfOk result (λ clock. clock ≡ clock_at key self.now.knows.known) }
+        ensures { IfOk result (λ clock. clock ≡ clock_at key self.now.knows.clocks) }
     {
         match self.clock_for(key) {
             Some(clock) => clock.copy(),
@@ -255,7 +255,7 @@ impl Known {
 
     // Whether the clock covers what is known of the key.
     fn covers_known(&self, key: u16, clock: &Clock) -> bool
-        ensures { result ≡ covers clock.now (clock_at key self.now.knows.known) }
+        ensures { result ≡ covers clock.now (clock_at key self.now.knows.clocks) }
     {
         match self.clock_for(key) {
             Some(known) => clock.covers(known),

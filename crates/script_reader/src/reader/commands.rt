@@ -1,12 +1,12 @@
 //! Reads the commands of sessions.
-ghost use Rattle.std.specs.Prelude.{◌≡◌, ◌≤◌, ◌<◌, ◌==◌, ◌∷◌, [], None, false, not, nat_le, length, map, slice_index_or, MatchOption, MatchResult, OnOk};
+ghost use Rattle.std.specs.Prelude.{◌≡◌, ◌≤◌, ◌<◌, ◌==◌, ◌∷◌, [], None, false, not, nat_le, length, slice_index_or, MatchOption, MatchResult, OnOk};
 ghost use Rattle.std.specs.List.{list_any};
 ghost use Rattle.std.specs.Option.{option_map_or};
 ghost use Rattle.placement.specs.Config.{placed};
 ghost use Rattle.script_reader.specs.Faults.{keys_of, commands_of};
-ghost use Rattle.script_reader.specs.Reader.{seen, with_added, IsKept, IsFound, MayStand, Reads, HasRoom, HasAdded, MayBound, IsBoundFault};
+ghost use Rattle.script_reader.specs.Reader.{seen, with_added, IsKept, IsKeyAt, SuitsPlace, Reads, HasRoom, HasAdded, MayBound, IsBoundFault};
 ghost use Rattle.script_reader.specs.Said.{place_of};
-ghost use Rattle.script_reader.specs.Words.{is_payload_too_great as is_too_much};
+ghost use Rattle.script_reader.specs.Words.{is_payload_too_great as is_too_much, texts};
 ghost use Rattle.script_reader.specs.declared.keyword.Keyword.TheVariants as keywords;
 
 use crate::code::Code;
@@ -42,7 +42,7 @@ impl<'a> Reader<'a> {
     /// The place of a key, counted from 0, and its kind.
     fn find_key(&self, key: &[u8]) -> Option<(usize, Kind)>
         requires kept { IsKept self.now }
-        ensures { MatchOption result (place_of (keys_of (seen self.now)) key.now ≡ None) (λ found. IsFound (seen self.now) key.now found.0 found.1) }
+        ensures { MatchOption result (place_of (keys_of (seen self.now)) key.now ≡ None) (λ found. IsKeyAt (seen self.now) key.now found.0 found.1) }
     {
         let place = self.keys.place_of(key)?;
         Some((place, self.kinds[place]))
@@ -89,8 +89,8 @@ impl<'a> Reader<'a> {
     /// Reads a put.
     pub(crate) fn take_put(&mut self, key: &[u8], words: &[&[u8]]) -> Result<(), LineFault>
         requires kept { IsKept self.old }
-        requires stands { MayStand (seen self.old) keywords.Put (key.now ∷ map (λ word. word.now) words.now) }
-        ensures { Reads self.old result self.new keywords.Put (key.now ∷ map (λ word. word.now) words.now) }
+        requires stands { SuitsPlace (seen self.old) keywords.Put (key.now ∷ texts words.now) }
+        ensures { Reads self.old result self.new keywords.Put (key.now ∷ texts words.now) }
     {
         let found = self.find_key(key);
         if says_too_much(found, words) {
@@ -117,7 +117,7 @@ impl<'a> Reader<'a> {
     /// Reads a get.
     pub(crate) fn take_get(&mut self, key: &[u8]) -> Result<(), LineFault>
         requires kept { IsKept self.old }
-        requires stands { MayStand (seen self.old) keywords.Get (key.now ∷ []) }
+        requires stands { SuitsPlace (seen self.old) keywords.Get (key.now ∷ []) }
         ensures { Reads self.old result self.new keywords.Get (key.now ∷ []) }
     {
         if !is_spelling(key, 32) {
@@ -138,7 +138,7 @@ impl<'a> Reader<'a> {
     /// Reads a get from a named worker.
     pub(crate) fn take_get_from(&mut self, key: &[u8], worker: &[u8]) -> Result<(), LineFault>
         requires kept { IsKept self.old }
-        requires stands { MayStand (seen self.old) keywords.Get (key.now ∷ worker.now ∷ []) }
+        requires stands { SuitsPlace (seen self.old) keywords.Get (key.now ∷ worker.now ∷ []) }
         ensures { Reads self.old result self.new keywords.Get (key.now ∷ worker.now ∷ []) }
     {
         let Some(worker) = number(worker) else {
@@ -170,7 +170,7 @@ impl<'a> Reader<'a> {
         count: &[u8],
     ) -> Result<(), LineFault>
         requires kept { IsKept self.old }
-        requires stands { MayStand (seen self.old) keywords.Await (key.now ∷ session.now ∷ count.now ∷ []) }
+        requires stands { SuitsPlace (seen self.old) keywords.Await (key.now ∷ session.now ∷ count.now ∷ []) }
         ensures { Reads self.old result self.new keywords.Await (key.now ∷ session.now ∷ count.now ∷ []) }
     {
         let Some(count) = number(count) else {
@@ -212,7 +212,7 @@ impl<'a> Reader<'a> {
     /// Reads the beginning of a transaction.
     pub(crate) fn take_begin(&mut self) -> Result<(), LineFault>
         requires kept { IsKept self.old }
-        requires stands { MayStand (seen self.old) keywords.Begin [] }
+        requires stands { SuitsPlace (seen self.old) keywords.Begin [] }
         ensures { Reads self.old result self.new keywords.Begin [] }
     {
         self.check_boundary(false)?;
@@ -222,7 +222,7 @@ impl<'a> Reader<'a> {
     /// Reads a commit.
     pub(crate) fn take_commit(&mut self) -> Result<(), LineFault>
         requires kept { IsKept self.old }
-        requires stands { MayStand (seen self.old) keywords.Commit [] }
+        requires stands { SuitsPlace (seen self.old) keywords.Commit [] }
         ensures { Reads self.old result self.new keywords.Commit [] }
     {
         self.check_boundary(true)?;
@@ -232,7 +232,7 @@ impl<'a> Reader<'a> {
     /// Reads an abort.
     pub(crate) fn take_abort(&mut self) -> Result<(), LineFault>
         requires kept { IsKept self.old }
-        requires stands { MayStand (seen self.old) keywords.Abort [] }
+        requires stands { SuitsPlace (seen self.old) keywords.Abort [] }
         ensures { Reads self.old result self.new keywords.Abort [] }
     {
         self.check_boundary(true)?;
@@ -242,7 +242,7 @@ impl<'a> Reader<'a> {
     /// Reads the end.
     pub(crate) fn take_end(&self) -> Result<(), LineFault>
         requires kept { IsKept self.now }
-        requires stands { MayStand (seen self.now) keywords.End [] }
+        requires stands { SuitsPlace (seen self.now) keywords.End [] }
         ensures { Reads self.now result self.now keywords.End [] }
     {
         if self.is_begun() {
@@ -254,7 +254,7 @@ impl<'a> Reader<'a> {
 
 /// Whether the number of a payload says more than a number may, where there is a key of a kind.
 fn says_too_much(found: Option<(usize, Kind)>, words: &[&[u8]]) -> bool
-    ensures { result ≡ option_map_or (λ found. is_too_much found.1 (map (λ word. word.now) words.now)) found false }
+    ensures { result ≡ option_map_or (λ found. is_too_much found.1 (texts words.now)) found false }
 {
     match found {
         Some((_, kind)) => is_payload_too_great(kind, words),

@@ -1,11 +1,11 @@
 //! Reads the lines that declare: workers, options, keys, sessions, and the end.
-ghost use Rattle.std.specs.Prelude.{◌≡◌, ◌<◌, List, ℕ, ◌∷◌, [], true, false, map, length, MatchResult};
+ghost use Rattle.std.specs.Prelude.{◌≡◌, ◌<◌, List, ℕ, ◌∷◌, [], true, false, length, MatchResult};
 ghost use Rattle.std.specs.List.{list_any};
 ghost use Rattle.std.specs.Str.{bytes_eq};
 ghost use Rattle.script_reader.specs.Entries.{AreKeyWords, AreSessionWords};
 ghost use Rattle.script_reader.specs.Faults.{sessions_of};
-ghost use Rattle.script_reader.specs.Reader.{seen, begun_of, IsKept, MayStand, Reads, IsNameFault, HasOpened};
-ghost use Rattle.script_reader.specs.Words.{is_name};
+ghost use Rattle.script_reader.specs.Reader.{seen, begun_of, IsKept, SuitsPlace, Reads, IsNameFault, HasOpened};
+ghost use Rattle.script_reader.specs.Words.{is_name, texts};
 ghost use Rattle.script_reader.specs.declared.keyword.Keyword.TheVariants as keywords;
 
 use crate::code::Code;
@@ -35,7 +35,7 @@ impl<'a> Reader<'a> {
     /// Reads the number of workers.
     pub(crate) fn take_workers(&mut self, word: &[u8]) -> Result<(), LineFault>
         requires kept { IsKept self.old }
-        requires stands { MayStand (seen self.old) keywords.Workers (word.now ∷ []) }
+        requires stands { SuitsPlace (seen self.old) keywords.Workers (word.now ∷ []) }
         ensures { Reads self.old result self.new keywords.Workers (word.now ∷ []) }
     {
         let Some(workers) = number(word) else {
@@ -52,7 +52,7 @@ impl<'a> Reader<'a> {
     /// Reads the replication factor.
     pub(crate) fn take_factor(&mut self, word: &[u8]) -> Result<(), LineFault>
         requires kept { IsKept self.old }
-        requires stands { MayStand (seen self.old) keywords.Factor (word.now ∷ []) }
+        requires stands { SuitsPlace (seen self.old) keywords.Factor (word.now ∷ []) }
         ensures { Reads self.old result self.new keywords.Factor (word.now ∷ []) }
     {
         let Some(factor) = number(word) else {
@@ -72,7 +72,7 @@ impl<'a> Reader<'a> {
     /// Reads the number of requests between rounds of gossip.
     pub(crate) fn take_round(&mut self, word: &[u8]) -> Result<(), LineFault>
         requires kept { IsKept self.old }
-        requires stands { MayStand (seen self.old) keywords.Round (word.now ∷ []) }
+        requires stands { SuitsPlace (seen self.old) keywords.Round (word.now ∷ []) }
         ensures { Reads self.old result self.new keywords.Round (word.now ∷ []) }
     {
         let Some(round) = number(word) else {
@@ -98,7 +98,9 @@ impl<'a> Reader<'a> {
         pin_words: &[&[u8]],
     ) -> Result<(), LineFault>
         requires kept { IsKept self.old }
-        ensures { (words : List (List ℕ)) → AreKeyWords words name.now kind (map (λ word. word.now) pin_words.now) → MayStand (seen self.old) keywords.Key words → Reads self.old result self.new keywords.Key words }
+        ensures { (words : List (List ℕ)) → AreKeyWords words name.now kind (texts pin_words.now)
+            → SuitsPlace (seen self.old) keywords.Key words
+            → Reads self.old result self.new keywords.Key words }
     {
         let Some(numbers) = numbers(alloc, pin_words)? else {
             return Err(LineFault::Code(Code::Number));
@@ -167,7 +169,7 @@ impl<'a> Reader<'a> {
     ) -> Result<(), LineFault>
         requires kept { IsKept self.old }
         requires workers { self.old.has_workers ≡ true }
-        ensures { (words : List (List ℕ)) → AreSessionWords words name.now level → MayStand (seen self.old) keywords.Session words → Reads self.old result self.new keywords.Session words }
+        ensures { (words : List (List ℕ)) → AreSessionWords words name.now level → SuitsPlace (seen self.old) keywords.Session words → Reads self.old result self.new keywords.Session words }
     {
         let session_name = read_name(name)?;
         if self.has_session(name) {

@@ -37,7 +37,7 @@ pub returns-then-puts_made-count : goal.returns-then-puts_made-count
 returns-then-puts_made-count c =
     let clock = c.args.clock.now in
     let at = get_or_from_slice_get clock c.loop-i.i (c.in-Some.session, c.in-Some.count) (0, 0) (sym c.at.ensures ∙ c.in-Some.is) in
-    let counts = subst (λ (entry : ℕ × ℕ). count_of entry.0 clock ≡ entry.1) at (count_at clock c.loop-i.i (0, 0) c.known.ensures.ascending (omega arith)) in
+    let counts = subst (λ (entry : ℕ × ℕ). count_of entry.0 clock ≡ entry.1) at (count_at clock c.loop-i.i (0, 0) c.attest.ensures.ascending (omega arith)) in
     (λ is. absurd (false≢true is), λ all. absurd (omega (arith, counts, all c.in-Some.session)))
 
 pub loop-i-preserved : goal.loop-i-preserved

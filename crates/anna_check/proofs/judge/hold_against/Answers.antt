@@ -7,7 +7,7 @@ use Rattle.session_known.specs.declared.report.Answer.{Answer}
 use Rattle.session_known.specs.declared.report.FinalCell.{FinalCell}
 use Rattle.session_known.specs.declared.script.SessionPlan.{SessionPlan}
 use Rattle.anna_check.specs.Counted.{AreOfTheirPuts}
-use Rattle.anna_check.specs.Stand.{StandFor, CanAllBeHeldAgainst, CanBeFinal}
+use Rattle.anna_check.specs.AgainstPuts.{StandFor, CanAllBeHeldAgainst, CanBeFinal}
 use Rattle.anna_check.specs.Unlawful.{AreTrueOf, IsFirstUntrueFrom, IsFirstUnlawfulFinal}
 use Rattle.anna_check.proofs.judge.hold_against.Goals as goal
 
@@ -16,14 +16,14 @@ find_untrue-requires-clause-held c =
     let kinds = c.args.script.now.kinds in
     let workers = c.args.script.now.config.workers in
     let made = accepted c.args.script.now c.args.report.now in
-    let stand : StandFor kinds workers made c.args.accepted.now c.in_ok-told.told = record {
+    let stand : StandFor kinds workers made c.args.accepted.now c.in_ok-cells.cells = record {
       puts = c.requires.puts;
       numbered = c.requires.numbered;
-      cells_are = subst (λ kinds. AreOfTheirPuts kinds workers made c.in_ok-told.told) c.as_slice.ensures (c.in_ok-told.ensures.of_their_puts made c.requires.numbered);
+      cells_are = subst (λ kinds. AreOfTheirPuts kinds workers made c.in_ok-cells.cells) c.as_slice.ensures (c.in_ok-cells.ensures.of_their_puts made c.requires.numbered);
     } in (
       workers,
       made,
-      subst (λ kinds. StandFor kinds workers made c.args.accepted.now c.in_ok-told.told) (sym c.requires.puts.kinds_are) stand,
+      subst (λ kinds. StandFor kinds workers made c.args.accepted.now c.in_ok-cells.cells) (sym c.requires.puts.kinds_are) stand,
       subst (λ (at : List Kind × List SessionPlan × List (List Answer)). AllZip (λ plan answers. CanAllBeHeldAgainst at.0 workers plan.lines answers) at.1 at.2) (λ j. (sym c.requires.puts.kinds_are j, sym c.as_slice-sessions.ensures j, sym c.as_slice-answers.ensures j)) c.requires.answers,
     )
 
@@ -32,10 +32,10 @@ returns-in-Some c =
     let kinds = c.args.script.now.kinds in
     let workers = c.args.script.now.config.workers in
     let made = accepted c.args.script.now c.args.report.now in
-    let stand : StandFor kinds workers made c.args.accepted.now c.in_ok-told.told = record {
+    let stand : StandFor kinds workers made c.args.accepted.now c.in_ok-cells.cells = record {
       puts = c.requires.puts;
       numbered = c.requires.numbered;
-      cells_are = subst (λ kinds. AreOfTheirPuts kinds workers made c.in_ok-told.told) c.as_slice.ensures (c.in_ok-told.ensures.of_their_puts made c.requires.numbered);
+      cells_are = subst (λ kinds. AreOfTheirPuts kinds workers made c.in_ok-cells.cells) c.as_slice.ensures (c.in_ok-cells.ensures.of_their_puts made c.requires.numbered);
     } in
     let place_is : c.in_ok-session.field-0 ≡ Some (c.in-Some.session, c.in-Some.command) = search rules in
     let untrue = subst (λ (at : Option (ℕ × ℕ) × List SessionPlan × List (List Answer)). MatchOption at.0 (AllZip (AreTrueOf kinds made) at.1 at.2) (λ place. IsFirstUntrueFrom kinds made 1 at.1 at.2 place.0 place.1)) (λ j. (place_is j, c.as_slice-sessions.ensures j, c.as_slice-answers.ensures j)) (c.in_ok-session.ensures.true_of kinds workers made stand) in
@@ -46,14 +46,14 @@ find_unlawful_final-requires c =
     let kinds = c.args.script.now.kinds in
     let workers = c.args.script.now.config.workers in
     let made = accepted c.args.script.now c.args.report.now in
-    let stand : StandFor kinds workers made c.args.accepted.now c.in_ok-told.told = record {
+    let stand : StandFor kinds workers made c.args.accepted.now c.in_ok-cells.cells = record {
       puts = c.requires.puts;
       numbered = c.requires.numbered;
-      cells_are = subst (λ kinds. AreOfTheirPuts kinds workers made c.in_ok-told.told) c.as_slice.ensures (c.in_ok-told.ensures.of_their_puts made c.requires.numbered);
+      cells_are = subst (λ kinds. AreOfTheirPuts kinds workers made c.in_ok-cells.cells) c.as_slice.ensures (c.in_ok-cells.ensures.of_their_puts made c.requires.numbered);
     } in (
       workers,
       made,
-      subst (λ kinds. StandFor kinds workers made c.args.accepted.now c.find_untrue.new.told) (sym c.requires.puts.kinds_are) (c.find_untrue.ensures.stand kinds workers made stand),
+      subst (λ kinds. StandFor kinds workers made c.args.accepted.now c.find_untrue.new.cells) (sym c.requires.puts.kinds_are) (c.find_untrue.ensures.stand kinds workers made stand),
       subst (λ (at : List Kind × List FinalCell). All (CanBeFinal at.0 workers) at.1) (λ j. (sym c.requires.puts.kinds_are j, sym c.as_slice-finals.ensures j)) c.requires.finals,
     )
 
@@ -62,10 +62,10 @@ returns-in-Some-2 c =
     let kinds = c.args.script.now.kinds in
     let workers = c.args.script.now.config.workers in
     let made = accepted c.args.script.now c.args.report.now in
-    let stand : StandFor kinds workers made c.args.accepted.now c.in_ok-told.told = record {
+    let stand : StandFor kinds workers made c.args.accepted.now c.in_ok-cells.cells = record {
       puts = c.requires.puts;
       numbered = c.requires.numbered;
-      cells_are = subst (λ kinds. AreOfTheirPuts kinds workers made c.in_ok-told.told) c.as_slice.ensures (c.in_ok-told.ensures.of_their_puts made c.requires.numbered);
+      cells_are = subst (λ kinds. AreOfTheirPuts kinds workers made c.in_ok-cells.cells) c.as_slice.ensures (c.in_ok-cells.ensures.of_their_puts made c.requires.numbered);
     } in
     let all_true : c.in_ok-session.field-0 ≡ None = search rules in
     let last_is : c.in_ok-key.field-0 ≡ Some (c.in-Some-2.key, c.in-Some-2.worker) = search rules in
@@ -78,10 +78,10 @@ returns c =
     let kinds = c.args.script.now.kinds in
     let workers = c.args.script.now.config.workers in
     let made = accepted c.args.script.now c.args.report.now in
-    let stand : StandFor kinds workers made c.args.accepted.now c.in_ok-told.told = record {
+    let stand : StandFor kinds workers made c.args.accepted.now c.in_ok-cells.cells = record {
       puts = c.requires.puts;
       numbered = c.requires.numbered;
-      cells_are = subst (λ kinds. AreOfTheirPuts kinds workers made c.in_ok-told.told) c.as_slice.ensures (c.in_ok-told.ensures.of_their_puts made c.requires.numbered);
+      cells_are = subst (λ kinds. AreOfTheirPuts kinds workers made c.in_ok-cells.cells) c.as_slice.ensures (c.in_ok-cells.ensures.of_their_puts made c.requires.numbered);
     } in
     let all_true : c.in_ok-session.field-0 ≡ None = search rules in
     let all_lawful : c.in_ok-key.field-0 ≡ None = search rules in

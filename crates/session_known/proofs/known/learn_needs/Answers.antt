@@ -19,5 +19,5 @@ returns-clause-ok c =
     let one = one_need c.args.key c.args.clock.now in
     c.in_ok-raise.ensures.ok
     ∙ ap (λ joined. joined_needs joined one) c.in_ok-joined.ensures
-    ∙ joined_in_turn known needs one c.known.ensures c.known-2.ensures (one_need_is_needs c.args.key c.args.clock.now c.ranges.key.fits c.known-3.ensures)
+    ∙ joined_in_turn known needs one c.attest.ensures c.attest-2.ensures (one_need_is_needs c.args.key c.args.clock.now c.ranges.key.fits c.attest-3.ensures)
     ∙ ap (λ learned. joined_needs (joined_needs known one) (unwrap_or (option_map (λ (needs : Bor Needs). needs.now) learned) [])) (sym c.in-Some.is)

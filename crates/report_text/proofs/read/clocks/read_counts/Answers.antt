@@ -20,4 +20,4 @@ loop-piece-preserved c = piece_read _ c.loop-piece.invariant c.loop-piece-test.t
 
 pub returns : goal.returns
 returns c =
-    all_pieces_read (IsClockIn c.args.script.now) c.loop-piece.invariant c.loop-piece-test.false (clock_formed c.args.script.now c.loop-piece.clock c.known.ensures c.loop-piece.invariant.are_read.are_items)
+    all_pieces_read (IsClockIn c.args.script.now) c.loop-piece.invariant c.loop-piece-test.false (clock_formed c.args.script.now c.loop-piece.clock c.attest.ensures c.loop-piece.invariant.are_read.are_items)

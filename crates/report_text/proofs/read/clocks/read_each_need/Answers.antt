@@ -27,7 +27,7 @@ returns-in-empty c =
     let entry : ℕ × List (ℕ × ℕ) = (c.in-Some-2.key, c.in-Some-2.clock) in
     let none = sym (append-nil (need_text c.args.script.now entry)) ∙ ap (λ rest. need_text c.args.script.now entry ++ rest) (sym (empty_below c.in-Some.behind.now c.in-empty.len_below)) in
     let read = need_read c.args.script.now names c.loop-entry.invariant _ _ entry [] c.in-Some.ensures (rw c.in-Some-2.is at c.in_ok-key.ensures) none (rw c.if-not-branch.false at c.in_ok-push.ensures.pushed) in
-    all_read (AreNeedsIn c.args.script.now) read (needs_formed c.args.script.now c.push.new.self c.known.ensures read.are_items)
+    all_read (AreNeedsIn c.args.script.now) read (needs_formed c.args.script.now c.push.new.self c.attest.ensures read.are_items)
 
 pub loop-entry-preserved : goal.loop-entry-preserved
 loop-entry-preserved c =

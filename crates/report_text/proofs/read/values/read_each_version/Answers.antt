@@ -23,4 +23,4 @@ loop-piece-preserved c = piece_read _ c.loop-piece.invariant c.loop-piece-test.t
 pub returns : goal.returns
 returns c =
     all_pieces_read (AreVersionsIn c.args.script.now) c.loop-piece.invariant c.loop-piece-test.false
-    (c.known.ensures, All-weaker (IsVersionIn c.args.script.now) (λ version. NamesSessions c.args.script.now version.clock) (λ version is. is.1) c.loop-piece.versions (All-from_recursion (IsVersionIn c.args.script.now) c.loop-piece.versions c.loop-piece.invariant.are_read.are_items))
+    (c.attest.ensures, All-weaker (IsVersionIn c.args.script.now) (λ version. NamesSessions c.args.script.now version.clock) (λ version is. is.1) c.loop-piece.versions (All-from_recursion (IsVersionIn c.args.script.now) c.loop-piece.versions c.loop-piece.invariant.are_read.are_items))

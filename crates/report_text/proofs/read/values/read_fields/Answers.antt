@@ -25,4 +25,4 @@ loop-piece-preserved c =
     (plain_pushed (λ entries. IsTrue (is_sorted word_cmp entries)) c.loop-piece.fields (c.in-Some.field, c.in-Some.number) c.push.new.self c.in_ok-push.field-0 c.in_ok-push.ensures.pushed) c.if-not-branch.false
 
 pub returns : goal.returns
-returns c = all_pieces_read IsFields c.loop-piece.invariant c.loop-piece-test.false (subst IsFields (plain_itself c.loop-piece.fields) c.known.ensures)
+returns c = all_pieces_read IsFields c.loop-piece.invariant c.loop-piece-test.false (subst IsFields (plain_itself c.loop-piece.fields) c.attest.ensures)

@@ -20,4 +20,4 @@ pub loop-piece-preserved : goal.loop-piece-preserved
 loop-piece-preserved c = piece_read _ c.loop-piece.invariant c.loop-piece-test.true c.in_ok-word.ensures IsTextSet _ c.in-Some.is c.in_ok-push.ensures.pushed c.if-not-branch.false
 
 pub returns : goal.returns
-returns c = let row = all_pieces_read IsTextSet c.loop-piece.invariant c.loop-piece-test.false c.known.ensures in (row.0, row.1 ∙ ap (join_with_byte 44) (map-id c.loop-piece.words))
+returns c = let row = all_pieces_read IsTextSet c.loop-piece.invariant c.loop-piece-test.false c.attest.ensures in (row.0, row.1 ∙ ap (join_with_byte 44) (map-id c.loop-piece.words))

@@ -3,7 +3,7 @@ use Rattle.session_known.specs.declared.script.Line.TheVariants as lines
 use Rattle.script_reader.proofs.CommandLemmas.{command_read, IsInSession, in_session, holds_not, fails_not, found_number, unknown_worker, replica_few}
 use Rattle.script_reader.specs.Faults.{is_replica}
 use Rattle.script_reader.proofs.FaultsLaws.{code_number, code_name, code_unknown, code_limit, code_none}
-use Rattle.script_reader.specs.Reader.{seen, IsFound}
+use Rattle.script_reader.specs.Reader.{seen, IsKeyAt}
 use Rattle.script_reader.specs.Words.{number_of}
 use Rattle.script_reader.specs.declared.keyword.Keyword.TheVariants.{Get}
 use Rattle.script_reader.proofs.reader.Reader.take_get_from.Goals as goal
@@ -31,7 +31,7 @@ overflow_cast-worker c =
 
 pub returns : goal.returns
 returns c =
-    let found : IsFound (seen c.args.self.now) c.args.key.now c.in-Some-find_key.place c.in-Some-find_key.field-0-1 = c.in-Some-find_key.ensures in
+    let found : IsKeyAt (seen c.args.self.now) c.args.key.now c.in-Some-find_key.place c.in-Some-find_key.field-0-1 = c.in-Some-find_key.ensures in
     let number = found_number (seen c.args.self.now) c.args.key.now _ _ found in
     let worker : number_of c.args.worker.now ≡ c.in-Some.worker = ap (λ number. unwrap_or number 0) (sym c.in-Some.ensures) in
     let known = unknown_worker (seen c.args.self.now) c.args.key.now c.args.worker.now _ _ _ _ found c.in-Some.ensures (sym c.if-not-is_replica.ensures) in

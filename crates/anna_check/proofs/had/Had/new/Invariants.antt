@@ -1,5 +1,0 @@
-use Rattle.std.proofs.Common.{◌≡◌, [], replicate}
-use Rattle.anna_check.proofs.had.Had.new.Given as goal
-
-abbrev pub invariant-loop-worker : goal.invariant-loop-worker
-invariant-loop-worker l = l.by_worker.items ≡ replicate l._worker []

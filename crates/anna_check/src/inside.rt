@@ -1,0 +1,85 @@
+//! The first answer that is not lawful inside its session, and the accepted puts where all are.
+ghost use Rattle.std.specs.Prelude.{◌≡◌, ◌≤◌, ◌++◌, ℕ, List, [], length, IfOk, IfNone, OnOk, MatchOption};
+ghost use Rattle.std.specs.List.{AllZip};
+ghost use Rattle.composed_value.specs.declared.kind.Kind as of_kind;
+ghost use Rattle.composed_value.specs.declared.put.Put as made;
+ghost use Rattle.session_known.specs.Accepted.{accepted_from};
+ghost use Rattle.session_known.specs.Form.{Fits};
+ghost use Rattle.session_known.specs.Lawful.{AreLawful};
+ghost use Rattle.session_known.specs.Legal.{AreLawfulFrom};
+ghost use Rattle.session_known.specs.Script.{IsValidScript};
+ghost use Rattle.session_known.specs.Session.{start, puts_from};
+ghost use Rattle.anna_check.specs.ByKey.{AreByKey, kinds_of};
+ghost use Rattle.anna_check.specs.Judged.{CanBeJudged};
+ghost use Rattle.anna_check.specs.Unlawful.{IsFirstUnlawful, IsFirstUnlawfulFrom};
+
+use crate::accepted::Accepted;
+use crate::answered::take_in;
+use crate::clocks_seen::ClocksSeen;
+use crate::lawful::is_lawful;
+use lattice_laws::{Items, NoMemory};
+use placement::Placement;
+use session_known::{Answer, Level, Line, Script, SessionState};
+use std::alloc::Global;
+
+/// The first command of a session, counted from 1, whose answer is not lawful there. Where all are, there
+/// is none, and the puts that they accept are added to the accepted.
+pub(crate) fn first_unlawful(
+    alloc: Global,
+    placement: &Placement,
+    workers: u16,
+    session: u16,
+    level: Level,
+    lines: &[Line],
+    answers: &[Answer],
+    accepted: &mut Accepted,
+) -> Result<Option<u32>, NoMemory>
+    requires session { 1 ≤ session }
+    requires placed { length placement.now ≡ length (kinds_of accepted.old) }
+    requires judged { CanBeJudged (kinds_of accepted.old) workers lines.now answers.now }
+    ensures lawful { IfOk result (λ found. MatchOption found (AreLawful placement.now (record { session = session; level = level }) start [] lines.now answers.now) (IsFirstUnlawful placement.now (record { session = session; level = level }) start [] lines.now answers.now)) }
+    ensures kinds { OnOk result (kinds_of accepted.new ≡ kinds_of accepted.old) }
+    ensures puts { (kinds : List of_kind.Kind) (puts : List (ℕ × made.Put)) → AreByKey kinds puts accepted.old → IfOk result (λ found. IfNone found (AreByKey kinds (puts ++ puts_from (record { session = session; level = level }) start lines.now answers.now) accepted.new)) }
+{
+    let mut judged = SessionState::new(alloc, session, level);
+    let mut seen = ClocksSeen::new(alloc, workers)?;
+    for (i, line) in lines.iter().enumerate() {
+        let answer = &answers[i];
+        if !is_lawful(placement, &judged, &seen, line, answer) {
+            return Ok(Some(i as u32 + 1));
+        }
+        take_in(accepted, &mut judged, line, answer)?;
+        seen.take_in(line, answer)?;
+    }
+    Ok(None)
+}
+
+/// The first command whose answer is not lawful inside its session: the session and the command, each
+/// counted from 1. Where all are, there is none, and the puts that they accept are added to the accepted.
+pub(crate) fn find_unlawful(
+    alloc: Global,
+    script: &Script,
+    placement: &Placement,
+    answers: &[Items<Answer>],
+    accepted: &mut Accepted,
+) -> Result<Option<(u16, u32)>, NoMemory>
+    requires valid { IsValidScript script.now placement.now }
+    requires form { AllZip (λ plan answers. AllZip (Fits script.now plan.level) plan.lines answers) script.now.sessions answers.now }
+    requires kinds { kinds_of accepted.old ≡ script.now.kinds }
+    ensures lawful { IfOk result (λ found. MatchOption found (AreLawfulFrom placement.now 1 script.now.sessions answers.now) (λ place. IsFirstUnlawfulFrom placement.now 1 script.now.sessions answers.now place.0 place.1)) }
+    ensures puts { (kinds : List of_kind.Kind) (puts : List (ℕ × made.Put)) → AreByKey kinds puts accepted.old → IfOk result (λ found. IfNone found (AreByKey kinds (puts ++ accepted_from 1 script.now.sessions answers.now) accepted.new)) }
+{
+    let workers = script.config.workers;
+    for (i, plan) in script.sessions.as_slice().iter().enumerate() {
+        let session = i as u16 + 1;
+        let lines = plan.lines.as_slice();
+        let theirs = answers[i].as_slice();
+        let found = first_unlawful(
+            alloc, placement, workers, session, plan.level, lines, theirs, accepted,
+        )?;
+        if let Some(command) = found {
+            return Ok(Some((session, command)));
+        }
+    }
+    Ok(None)
+}
