@@ -49,8 +49,10 @@ impl<K: MapKey, L: AllFit> MapOf<K, L> {
     /// Merges the value into what stands at the key, or puts it where the key is new. After
     /// `NoMemory` the map is as before.
     pub fn raise(&mut self, key: K, value: L) -> Result<(), NoMemory>
-        ensures ok { OnOk result (plain_entries L.plain self.new ≡ raised K.cmp L.joined key (L.plain value) (plain_entries L.plain self.old)) }
-        ensures err { OnErr result (plain_entries L.plain self.new ≡ plain_entries L.plain self.old) }
+        ensures ok { OnOk result (plain_entries L.plain self.new
+            ≡ raised K.cmp L.joined key (L.plain value) (plain_entries L.plain self.old)) }
+        ensures err { OnErr result
+            (plain_entries L.plain self.new ≡ plain_entries L.plain self.old) }
     {
         raise_entry(&mut self.entries, key, value)
     }
@@ -58,15 +60,20 @@ impl<K: MapKey, L: AllFit> MapOf<K, L> {
     /// Adds an entry after the others, and answers whether its key comes after theirs; else the map
     /// is left as before, and after `NoMemory` too. Takes constant time on average.
     pub fn push(&mut self, key: K, value: L) -> Result<bool, NoMemory>
-        ensures pushed { IfOk result (IsPushed (λ entries. IsTrue (is_sorted K.cmp entries)) (plain_entries L.plain self.old) (key, L.plain value) (plain_entries L.plain self.new)) }
-        ensures err { OnErr result (plain_entries L.plain self.new ≡ plain_entries L.plain self.old) }
+        ensures pushed { IfOk result (IsPushed (λ entries. IsTrue (is_sorted K.cmp entries))
+            (plain_entries L.plain self.old)
+            (key, L.plain value)
+            (plain_entries L.plain self.new)) }
+        ensures err { OnErr result
+            (plain_entries L.plain self.new ≡ plain_entries L.plain self.old) }
     {
         push_entry(&mut self.entries, key, value)
     }
 
     /// The value at the key, and nothing where the key is not there. Takes no memory.
     pub fn get(&self, key: &K) -> Option<&L>
-        ensures { option_map (λ found. L.plain found.now) result ≡ find K.cmp key.now (plain_entries L.plain self.now) }
+        ensures { option_map (λ found. L.plain found.now) result
+            ≡ find K.cmp key.now (plain_entries L.plain self.now) }
     {
         find_entry(self.entries.as_slice(), key)
     }

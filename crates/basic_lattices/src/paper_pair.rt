@@ -28,7 +28,8 @@ impl PaperPair {
         bytes: &[u8],
     ) -> Result<PaperPair, NoMemory>
         requires { IsWord bytes.now }
-        ensures { IfOk result (λ pair. seen pair ≡ record { clock = (session, count) ∷ []; words = bytes.now ∷ [] }) }
+        ensures { IfOk result (λ pair. seen pair
+            ≡ record { clock = (session, count) ∷ []; words = bytes.now ∷ [] }) }
     {
         let Ok(word) = Word::of(bytes) else {
             unreachable!()
@@ -65,9 +66,14 @@ impl PaperPair {
 /// the greater both halves are joined.
 pub fn paper_join(a: &PaperPair, b: &PaperPair) -> Result<PaperPair, NoMemory>
     ensures join { IfOk result (λ c. IsPaperJoin (seen a.now) (seen b.now) (seen c)) }
-    ensures second { IfOk result (λ c. IsBelow (seen a.now).clock (seen b.now).clock → seen c ≡ seen b.now) }
-    ensures first { IfOk result (λ c. IsBelow (seen b.now).clock (seen a.now).clock → seen c ≡ seen a.now) }
-    ensures both { IfOk result (λ c. (IsBelow (seen a.now).clock (seen b.now).clock → ⊥) → (IsBelow (seen b.now).clock (seen a.now).clock → ⊥) → seen c ≡ both_joined (seen a.now) (seen b.now)) }
+    ensures second { IfOk result
+        (λ c. IsBelow (seen a.now).clock (seen b.now).clock → seen c ≡ seen b.now) }
+    ensures first { IfOk result
+        (λ c. IsBelow (seen b.now).clock (seen a.now).clock → seen c ≡ seen a.now) }
+    ensures both { IfOk result (λ c.
+        (IsBelow (seen a.now).clock (seen b.now).clock → ⊥)
+        → (IsBelow (seen b.now).clock (seen a.now).clock → ⊥)
+        → seen c ≡ both_joined (seen a.now) (seen b.now)) }
 {
     a.clock.attest();
     b.clock.attest();
@@ -109,8 +115,10 @@ pub fn parts_from_order(alloc: Global) -> Result<(PaperPair, PaperPair), NoMemor
 
 /// The join of two pairs is one pair, and which of the two comes first does not matter.
 pub fn paper_join_commutes()
-    ensures turned { (a b c : PlainPair) → IsPair a → IsPair b → IsPaperJoin a b c → IsPaperJoin b a c }
-    ensures single { (a b c d : PlainPair) → IsPair a → IsPair b → IsPaperJoin a b c → IsPaperJoin a b d → c ≡ d }
+    ensures turned { (a b c : PlainPair) → IsPair a → IsPair b
+        → IsPaperJoin a b c → IsPaperJoin b a c }
+    ensures single { (a b c d : PlainPair) → IsPair a → IsPair b
+        → IsPaperJoin a b c → IsPaperJoin a b d → c ≡ d }
 {}
 
 /// A pair joined with itself is the pair.

@@ -141,7 +141,8 @@ impl<'a> IntoIterator for &'a TextSet {
 
 /// A word is in the union of two sets exactly where it is in one of them.
 pub fn union_is_pointwise()
-    ensures { (a b : List (List ℕ)) (q : List ℕ) → IsTextSet a → IsTextSet b → has q (united a b) ≡ (has q a || has q b) }
+    ensures { (a b : List (List ℕ)) (q : List ℕ) → IsTextSet a → IsTextSet b
+        → has q (united a b) ≡ (has q a || has q b) }
 {}
 
 impl Lattice for TextSet {

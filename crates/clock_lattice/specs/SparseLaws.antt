@@ -5,12 +5,12 @@ use Rattle.std.proofs.Common.{refl, sym, ap, ◌∙◌}
 use Rattle.std.proofs.lemmas.Cmp.{tied_itself}
 use Rattle.std.specs.declared.cmp.Ordering.{Ordering}
 use Rattle.std.specs.Ordering.{is_eq, eq_by_cmp}
-use Rattle.std.specs.Cmp.{IsTotalOrder}
+use Rattle.std.specs.Cmp.{IsTotalOrder, Equal-is}
 use Rattle.std.specs.FinMap.{find, is_sorted, IsAntisymmetric}
 use Rattle.lattice_laws.specs.Lattice.{LatticeLaws}
 use Rattle.lattice_laws.specs.Maybe.{IsValue, joined_by}
 use Rattle.lattice_laws.specs.Entries.{IsMap, joined_maps}
-use Rattle.lattice_laws.specs.EntriesLaws.{find-joined_maps, found_is_value, same_from_keys, Equal_from_is_eq}
+use Rattle.lattice_laws.specs.EntriesLaws.{find-joined_maps, found_is_value, same_from_keys}
 use Rattle.lattice_laws.specs.Ascending.{and_left, and_right, and_both, first_below, ascending_tail, find_below, below_tied}
 
 -- a bottom that is none of the values that are kept, and that joins with each of these and itself
@@ -42,7 +42,7 @@ module _ {K P : Type 0} {cmp : K → K → Ordering} (total : IsTotalOrder cmp) 
       where
         at_each_key_as : at_most (value_at cmp bottom key es) (value_at cmp bottom key others) ≡ true → (ties : Bool) → eq_by_cmp cmp key e.0 ≡ ties → at_most (unwrap_or (cond (eq_by_cmp cmp key e.0) (Some e.1) (find cmp key es)) bottom) (value_at cmp bottom key others) ≡ true
         at_each_key_as later true is =
-            let same : key ≡ e.0 = exact key e.0 (Equal_from_is_eq _ is) in
+            let same : key ≡ e.0 = exact key e.0 ((Equal-is _).0 is) in
             ap (λ t. at_most (unwrap_or (cond t (Some e.1) (find cmp key es)) bottom) (value_at cmp bottom key others)) is
             ∙ ap (λ k. at_most e.1 (value_at cmp bottom k others)) same
             ∙ and_left _ _ h
@@ -60,7 +60,7 @@ module _ {K P : Type 0} {cmp : K → K → Ordering} (total : IsTotalOrder cmp) 
       where
         later : (key : K) (ties : Bool) → eq_by_cmp cmp key e.0 ≡ ties → at_most (value_at cmp bottom key es) (value_at cmp bottom key others) ≡ true
         later key true is =
-            let none : find cmp key es ≡ None = find_below cmp key es (below_tied cmp total key e.0 es (Equal_from_is_eq _ is) (first_below cmp e es rises)) in
+            let none : find cmp key es ≡ None = find_below cmp key es (below_tied cmp total key e.0 es ((Equal-is _).0 is) (first_below cmp e es rises)) in
             ap (λ found. at_most (unwrap_or found bottom) (value_at cmp bottom key others)) none ∙ below_all _
         later key false is = ap (λ t. at_most (unwrap_or (cond t (Some e.1) (find cmp key es)) bottom) (value_at cmp bottom key others)) (sym is) ∙ each key
 

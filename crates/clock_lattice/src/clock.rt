@@ -58,8 +58,8 @@ impl Clock {
     }
 
     /// Adds the count `n` of a session after the others, and answers whether the session comes after
-    /// theirs and `n` is not 0; else the clock is left as before, and after `NoMemory` too. Takes constant
-    /// time on average.
+    /// theirs and `n` is not 0; else the clock is left as before, and after `NoMemory` too. Takes
+    /// constant time on average.
     pub fn push(&mut self, session: u16, n: u64) -> Result<bool, NoMemory>
         ensures pushed { IfOk result (IsPushed IsClock self.old (session, n) self.new) }
         ensures err { OnErr result (self.new ≡ self.old) }

@@ -60,9 +60,9 @@ impl Needs {
         raise_entry(&mut self.clocks, key, raised)
     }
 
-    /// Adds the clock of a key after the others, and answers whether the key comes after theirs and the
-    /// clock counts something; else the needs are left as before, and after `NoMemory` too. Takes constant
-    /// time on average.
+    /// Adds the clock of a key after the others, and answers whether the key comes after theirs and
+    /// the clock counts something; else the needs are left as before, and after `NoMemory` too. Takes
+    /// constant time on average.
     pub fn push(&mut self, key: u16, clock: Clock) -> Result<bool, NoMemory>
         ensures pushed { IfOk result (IsPushed IsNeeds self.old (key, clock) self.new) }
         ensures err { OnErr result (self.new ≡ self.old) }

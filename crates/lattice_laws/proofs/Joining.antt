@@ -13,7 +13,7 @@ pub record JoinedSoFar {P : Type 0} (is_value : P → Type 0) (fits : P → P �
   pub fits_first : fits first all
 
 -- one more at the end is joined last
-joined_all-push : {P : Type 0} (joined : P → P → P) (first : P) (done : List P) (next : P) → joined_all joined first (done ++ next ∷ []) ≡ joined (joined_all joined first done) next
+pub joined_all-push : {P : Type 0} (joined : P → P → P) (first : P) (done : List P) (next : P) → joined_all joined first (done ++ next ∷ []) ≡ joined (joined_all joined first done) next
 joined_all-push joined first [] next = refl
 joined_all-push joined first (x ∷ done) next = joined_all-push joined (joined first x) done next
 

@@ -1,4 +1,5 @@
-mod Joining
+pub mod Joining
+pub mod ListLemmas
 mod Merging
 mod Pushing
 mod Search

@@ -41,6 +41,10 @@ abbrev pub joined_maps : {K P : Type 0} → (K → K → Ordering) → (P → P 
 joined_maps cmp joined a [] = a
 joined_maps cmp joined a (entry ∷ b) = joined_maps cmp joined (raised cmp joined entry.0 entry.1 a) b
 
+-- the first map joined into the second would change nothing
+abbrev pub AddsNothing : {K P : Type 0} → (K → K → Ordering) → (P → P → P) → List (K × P) → List (K × P) → Type 0
+AddsNothing cmp joined a b = joined_maps cmp joined a b ≡ b
+
 -- Maps are told by what stands at each key: a join of two has at each key the join of what stands there in both, and two with the same at each key are one.
 pub record JoinsPerKey {K P : Type 0} (cmp : K → K → Ordering) (joined : P → P → P) (is_map : List (K × P) → Type 0) : Type 0 where
   pub is_join : (a b : List (K × P)) → is_map a → is_map b → IsJoin cmp joined a b (joined_maps cmp joined a b)

@@ -2,11 +2,10 @@
 use Rattle.std.specs.Prelude.{◌≡◌, ⊤, Bool, true, false, cond, IsTrue, List, [], ◌∷◌, ◌++◌, Option, Some, None, Result, Ok, Err, IfOk, OnErr, All}
 use Rattle.std.proofs.Common.{refl, sym, ap, subst, ◌∙◌}
 use Rattle.std.proofs.lemmas.List.Elements.{All-nil, All-cons, All-head, All-tail, All-append}
-use mathlib.Core.Bool.{false≢true}
 use Rattle.std.specs.declared.cmp.Ordering.{Ordering}
 use Rattle.std.specs.declared.cmp.Ordering.TheVariants.{Less, Equal, Greater}
-use Rattle.std.specs.Ordering.{is_eq, eq_by_cmp}
-use Rattle.std.specs.Cmp.{IsTotalOrder}
+use Rattle.std.specs.Ordering.{eq_by_cmp}
+use Rattle.std.specs.Cmp.{IsTotalOrder, Equal-is}
 use Rattle.std.specs.FinMap.{find, put, is_sorted, IsAntisymmetric}
 use Rattle.std.specs.FinMap.Entries.{find-put, find_tied, same_entries, by_order}
 use Rattle.lattice_laws.specs.Lattice.{LatticeLaws, Associative}
@@ -14,12 +13,6 @@ use Rattle.lattice_laws.specs.Maybe.{IsValue, joined_by}
 use Rattle.lattice_laws.specs.MaybeLaws.{maybe_laws, maybe_associative}
 use Rattle.lattice_laws.specs.Entries.{plain_entries, IsEntry, IsMap, IsPushed, IsJoin, JoinsPerKey, with_old, raised, joined_maps}
 use Rattle.lattice_laws.specs.Ascending.{pass_from_true, first_below, ascending_tail, find_below, below_tied, joined_ascending}
-
--- the one order that passes the test
-pub Equal_from_is_eq : (r : Ordering) → IsTrue (is_eq r) → r ≡ Equal
-Equal_from_is_eq Less h = absurd (false≢true h)
-Equal_from_is_eq Equal h = refl
-Equal_from_is_eq Greater h = absurd (false≢true h)
 
 -- entries whose values are seen as they are
 pub plain_itself : {K P : Type 0} (entries : List (K × P)) → plain_entries (λ value. value) entries ≡ entries
@@ -57,7 +50,7 @@ module _ {K P : Type 0} {cmp : K → K → Ordering} (joined : P → P → P) (t
   -- a map raised at a key and then joined, seen at one key
   joined_at_key : (q : K) (a b : List (K × P)) (e : K × P) (ties : Bool) → eq_by_cmp cmp q e.0 ≡ ties → IsTrue (is_sorted cmp (e ∷ b)) → joined_by joined (find cmp q (raised cmp joined e.0 e.1 a)) (find cmp q b) ≡ joined_by joined (find cmp q a) (cond ties (Some e.1) (find cmp q b))
   joined_at_key q a b e true is rises =
-      let tied : cmp q e.0 ≡ Equal = Equal_from_is_eq _ is in
+      let tied : cmp q e.0 ≡ Equal = (Equal-is _).0 is in
       let none : find cmp q b ≡ None = find_below cmp q b (below_tied cmp total q e.0 b tied (first_below cmp e b rises)) in
       let same : find cmp e.0 a ≡ find cmp q a = find_tied cmp total q e.0 tied a in
       ap (λ x. joined_by joined (find cmp q (raised cmp joined e.0 e.1 a)) x) none

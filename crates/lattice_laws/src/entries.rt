@@ -5,7 +5,7 @@
 ghost use Rattle.std.specs.Prelude.{◌≡◌, ◌↔◌, ◌≤◌, ◌<◌, ◌+◌, ◌∷◌, ◌++◌, [], length, All, IsTrue, IfOk, IfErr, OnOk, OnErr, MatchOption};
 ghost use Rattle.std.specs.Option.{option_map};
 ghost use Rattle.std.specs.FinMap.{find, is_sorted};
-ghost use Rattle.lattice_laws.specs.Entries.{plain_entries, IsEntry, IsPushed, raised, joined_maps};
+ghost use Rattle.lattice_laws.specs.Entries.{plain_entries, IsEntry, IsPushed, AddsNothing, raised, joined_maps};
 ghost use Rattle.lattice_laws.specs.Places.{IsPlaceOf, IsGapFor};
 ghost use Rattle.lattice_laws.specs.Merging.{first_side, IsJoinStep, NeverAtMost, IsPassed};
 
@@ -16,7 +16,8 @@ use std::cmp::Ordering;
 /// The value at a key, and nothing where the key is not there. Searches by halves.
 pub fn find_entry<'a, K: MapKey, L: AllFit>(entries: &'a [(K, L)], key: &K) -> Option<&'a L>
     requires { IsTrue (is_sorted K.cmp (plain_entries L.plain entries.now)) }
-    ensures { option_map (λ found. L.plain found.now) result ≡ find K.cmp key.now (plain_entries L.plain entries.now) }
+    ensures { option_map (λ found. L.plain found.now) result
+        ≡ find K.cmp key.now (plain_entries L.plain entries.now) }
 {
     match place_of(entries, key) {
         Ok(at) => Some(&entries[at].1),
@@ -32,8 +33,10 @@ pub fn raise_entry<K: MapKey, L: AllFit>(
     value: L,
 ) -> Result<(), NoMemory>
     requires { IsTrue (is_sorted K.cmp (plain_entries L.plain entries.old.items)) }
-    ensures ok { OnOk result (plain_entries L.plain entries.new.items ≡ raised K.cmp L.joined key (L.plain value) (plain_entries L.plain entries.old.items)) }
-    ensures err { OnErr result (plain_entries L.plain entries.new.items ≡ plain_entries L.plain entries.old.items) }
+    ensures ok { OnOk result (plain_entries L.plain entries.new.items
+        ≡ raised K.cmp L.joined key (L.plain value) (plain_entries L.plain entries.old.items)) }
+    ensures err { OnErr result
+        (plain_entries L.plain entries.new.items ≡ plain_entries L.plain entries.old.items) }
     ensures ascending { IsTrue (is_sorted K.cmp (plain_entries L.plain entries.new.items)) }
 {
     match place_of(entries, &key) {
@@ -50,8 +53,12 @@ pub fn push_entry<K: MapKey, L: AllFit>(
     value: L,
 ) -> Result<bool, NoMemory>
     requires { IsTrue (is_sorted K.cmp (plain_entries L.plain entries.old.items)) }
-    ensures pushed { IfOk result (IsPushed (λ entries. IsTrue (is_sorted K.cmp entries)) (plain_entries L.plain entries.old.items) (key, L.plain value) (plain_entries L.plain entries.new.items)) }
-    ensures err { OnErr result (plain_entries L.plain entries.new.items ≡ plain_entries L.plain entries.old.items) }
+    ensures pushed { IfOk result (IsPushed (λ entries. IsTrue (is_sorted K.cmp entries))
+        (plain_entries L.plain entries.old.items)
+        (key, L.plain value)
+        (plain_entries L.plain entries.new.items)) }
+    ensures err { OnErr result
+        (plain_entries L.plain entries.new.items ≡ plain_entries L.plain entries.old.items) }
     ensures ascending { IsTrue (is_sorted K.cmp (plain_entries L.plain entries.new.items)) }
 {
     if !comes_last(entries, &key) {
@@ -69,8 +76,11 @@ pub fn join_entries<K: MapKey, L: AllFit>(
 ) -> Result<Vec<(K, L)>, NoMemory>
     requires mine { IsTrue (is_sorted K.cmp (plain_entries L.plain mine.now)) }
     requires theirs { IsTrue (is_sorted K.cmp (plain_entries L.plain theirs.now)) }
-    ensures joined { IfOk result (λ all. plain_entries L.plain all.items ≡ joined_maps K.cmp L.joined (plain_entries L.plain mine.now) (plain_entries L.plain theirs.now)) }
-    ensures ascending { IfOk result (λ all. IsTrue (is_sorted K.cmp (plain_entries L.plain all.items))) }
+    ensures joined { IfOk result (λ all. plain_entries L.plain all.items
+        ≡ joined_maps K.cmp L.joined
+        (plain_entries L.plain mine.now) (plain_entries L.plain theirs.now)) }
+    ensures ascending { IfOk result
+        (λ all. IsTrue (is_sorted K.cmp (plain_entries L.plain all.items))) }
 {
     let mut all = Vec::new(alloc);
     let mut of_mine = 0;
@@ -88,7 +98,8 @@ pub fn copy_entries<K: MapKey, L: AllFit>(
     alloc: Global,
     entries: &[(K, L)],
 ) -> Result<Vec<(K, L)>, NoMemory>
-    ensures { IfOk result (λ copies. plain_entries L.plain copies.items ≡ plain_entries L.plain entries.now) }
+    ensures { IfOk result
+        (λ copies. plain_entries L.plain copies.items ≡ plain_entries L.plain entries.now) }
 {
     let mut copies = Vec::new(alloc);
     for entry in entries {
@@ -102,7 +113,8 @@ pub fn copy_entries<K: MapKey, L: AllFit>(
 pub fn at_most_entries<K: MapKey, L: AllFit>(mine: &[(K, L)], theirs: &[(K, L)]) -> bool
     requires mine { IsTrue (is_sorted K.cmp (plain_entries L.plain mine.now)) }
     requires theirs { IsTrue (is_sorted K.cmp (plain_entries L.plain theirs.now)) }
-    ensures { IsTrue result ↔ (joined_maps K.cmp L.joined (plain_entries L.plain mine.now) (plain_entries L.plain theirs.now) ≡ plain_entries L.plain theirs.now) }
+    ensures { IsTrue result ↔ AddsNothing K.cmp L.joined
+        (plain_entries L.plain mine.now) (plain_entries L.plain theirs.now) }
 {
     let mut found = 0;
     for entry in theirs {
@@ -141,7 +153,8 @@ fn place_of<K: MapKey, L: AllFit>(entries: &[(K, L)], key: &K) -> Result<usize, 
 // Whether the key comes after those of all entries.
 fn comes_last<K: MapKey, L: AllFit>(entries: &[(K, L)], key: &K) -> bool
     requires { IsTrue (is_sorted K.cmp (plain_entries L.plain entries.now)) }
-    ensures { (value : L.Plain) → result ≡ is_sorted K.cmp (plain_entries L.plain entries.now ++ (key.now, value) ∷ []) }
+    ensures { (value : L.Plain)
+        → result ≡ is_sorted K.cmp (plain_entries L.plain entries.now ++ (key.now, value) ∷ []) }
 {
     match entries.last() {
         Some(last) => last.0.cmp(key).is_lt(),
@@ -159,7 +172,12 @@ fn push_first<K: MapKey, L: AllFit>(
     requires mine { IsTrue (is_sorted K.cmp (plain_entries L.plain mine.now)) }
     requires theirs { IsTrue (is_sorted K.cmp (plain_entries L.plain theirs.now)) }
     requires some { 0 < length mine.now + length theirs.now }
-    ensures { IfOk result (λ taken. IsJoinStep K.cmp L.joined (plain_entries L.plain all.old.items) (plain_entries L.plain mine.now) (plain_entries L.plain theirs.now) (plain_entries L.plain all.new.items) taken.0 taken.1) }
+    ensures { IfOk result (λ taken. IsJoinStep K.cmp L.joined
+        (plain_entries L.plain all.old.items)
+        (plain_entries L.plain mine.now)
+        (plain_entries L.plain theirs.now)
+        (plain_entries L.plain all.new.items)
+        taken.0 taken.1) }
 {
     match side_of_first(mine, theirs) {
         Ordering::Less => {
@@ -179,7 +197,8 @@ fn push_first<K: MapKey, L: AllFit>(
 
 // Which of two maps has the first key of their join: `Less` for the first map, `Equal` for both.
 fn side_of_first<K: MapKey, L: AllFit>(mine: &[(K, L)], theirs: &[(K, L)]) -> Ordering
-    ensures { result ≡ first_side K.cmp (plain_entries L.plain mine.now) (plain_entries L.plain theirs.now) }
+    ensures { result
+        ≡ first_side K.cmp (plain_entries L.plain mine.now) (plain_entries L.plain theirs.now) }
 {
     if theirs.is_empty() {
         Ordering::Less
@@ -201,7 +220,8 @@ fn copy_entry<K: MapKey, L: AllFit>(entry: &(K, L)) -> Result<(K, L), NoMemory>
 // An entry with the key of the first, and the join of the values.
 fn join_entry<K: MapKey, L: AllFit>(mine: &(K, L), theirs: &(K, L)) -> Result<(K, L), NoMemory>
     ensures key { IfOk result (λ both. both.0 ≡ mine.now.0) }
-    ensures value { IfOk result (λ both. L.plain both.1 ≡ L.joined (L.plain mine.now.1) (L.plain theirs.now.1)) }
+    ensures value { IfOk result
+        (λ both. L.plain both.1 ≡ L.joined (L.plain mine.now.1) (L.plain theirs.now.1)) }
 {
     let mut both = copy_entry(mine)?;
     both.1.join(&theirs.1)?;
@@ -211,7 +231,11 @@ fn join_entry<K: MapKey, L: AllFit>(mine: &(K, L), theirs: &(K, L)) -> Result<(K
 // How many of the entries, none or the first, the other map's first entry covers; nothing where the
 // first can no longer be covered.
 fn passed<K: MapKey, L: AllFit>(mine: &[(K, L)], entry: &(K, L)) -> Option<usize>
-    ensures { MatchOption result (NeverAtMost K.cmp L.joined (plain_entries L.plain mine.now) (entry.now.0, L.plain entry.now.1)) (IsPassed K.cmp L.joined (plain_entries L.plain mine.now) (entry.now.0, L.plain entry.now.1)) }
+    ensures { MatchOption result
+        (NeverAtMost K.cmp L.joined
+        (plain_entries L.plain mine.now) (entry.now.0, L.plain entry.now.1))
+        (IsPassed K.cmp L.joined
+        (plain_entries L.plain mine.now) (entry.now.0, L.plain entry.now.1)) }
 {
     let Some(first) = mine.first() else {
         return Some(0);

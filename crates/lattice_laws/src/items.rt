@@ -38,7 +38,9 @@ impl<T> Items<T> {
     pub fn push(&mut self, item: T) -> Result<(), NoMemory>
     where
         T: Drop,
-        ensures { MatchResult result (λ _. self.new ≡ self.old ++ item ∷ []) (λ _. self.new ≡ self.old) }
+        ensures { MatchResult result
+            (λ _. self.new ≡ self.old ++ item ∷ [])
+            (λ _. self.new ≡ self.old) }
     {
         match self.items.push(item) {
             Ok(()) => Ok(()),

@@ -7,7 +7,8 @@ use crate::{Lattice, NoMemory};
 /// The join of an element and others, from the left. All must fit.
 pub fn join_all<L: Lattice>(first: &L, rest: &[L]) -> Result<L, NoMemory>
     requires { All (λ each. L.fits (L.plain first.now) (L.plain each)) rest.now }
-    ensures joined { IfOk result (λ all. L.plain all ≡ joined_all L.joined (L.plain first.now) (map L.plain rest.now)) }
+    ensures joined { IfOk result
+        (λ all. L.plain all ≡ joined_all L.joined (L.plain first.now) (map L.plain rest.now)) }
     ensures values { OnOk result (All L.is_value (L.plain first.now ∷ map L.plain rest.now)) }
 {
     first.attest();

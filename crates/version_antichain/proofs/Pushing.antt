@@ -3,29 +3,18 @@ use Rattle.std.specs.Prelude.{◌≡◌, Bool, true, false, ◌||◌, IsTrue, Li
 use Rattle.std.specs.List.{list_any}
 use Rattle.std.proofs.Common.{refl, sym, ap, subst, ◌∙◌}
 use Rattle.std.proofs.lemmas.Bool.{false≢true, or_parts, or_from}
-use Rattle.std.proofs.lemmas.List.Elements.{All-nil, All-cons, All-head, All-tail, All-append}
+use Rattle.std.proofs.lemmas.List.Elements.{All-nil, All-cons, All-append}
 use Rattle.std.proofs.lemmas.List.Folds.{list_any-append, list_any_none}
 use Rattle.std.proofs.lemmas.Result.{on_err_weaker}
 use Rattle.std.specs.declared.cmp.Ordering.{Ordering}
 use Rattle.std.specs.FinMap.{is_sorted}
 use Rattle.lattice_laws.specs.Entries.{plain_entries, IsPushed}
 use Rattle.lattice_laws.specs.EntriesLaws.{All-last, pushed_narrower, left_by_push}
+use Rattle.lattice_laws.proofs.ListLemmas.{All-front, none_passes}
 use Rattle.lattice_laws.specs.Sets.{keys_of, IsSet}
 use Rattle.lattice_laws.specs.SetsLaws.{pushed_to_set, set_after_push}
 use Rattle.version_antichain.specs.Antichain.{IsStrictOrder, IsAntichain}
 use Rattle.version_antichain.proofs.Overtaken.{keys, list_any-keys, same_keys}
-
--- what holds of each of two lists holds of each of the first
-All-first : {X : Type 0} (P : X → Type 0) (xs ys : List X) → All P (xs ++ ys) → All P xs
-All-first P [] ys all = All-nil P
-All-first P (x ∷ xs) ys all = All-cons P x xs (All-head P x (xs ++ ys) all) (All-first P xs ys (All-tail P x (xs ++ ys) all))
-
--- a test that no member passes fails at each
-none_passes : {X : Type 0} (test : X → Bool) (xs : List X) → list_any test xs ≡ false → All (λ x. test x ≡ false) xs
-none_passes test [] none = All-nil (λ x. test x ≡ false)
-none_passes test (x ∷ xs) none =
-    let parts = or_parts (test x) (list_any test xs) none in
-    All-cons (λ x. test x ≡ false) x xs parts.0 (none_passes test xs parts.1)
 
 module _ {X : Type 0} (below : X → X → Bool) where
   -- the members of a list are below none of a list
@@ -57,7 +46,7 @@ module _ {X : Type 0} (below : X → X → Bool) where
       let good : X → Type 0 = λ y. list_any (below y) (xs ++ x ∷ []) ≡ false in
       let below_x = none_passes (below x) xs (below_none_parts x xs x (All-last good xs x none)).0 in
       list_any_none (λ other. below x other || below other x) xs (λ k d lt.
-      or_from (below x (slice_index_or xs k d)) (below (slice_index_or xs k d) x) (below_x k d lt) (below_none_parts (slice_index_or xs k d) xs x (All-first good xs (x ∷ []) none k d lt)).1)
+      or_from (below x (slice_index_or xs k d)) (below (slice_index_or xs k d) x) (below_x k d lt) (below_none_parts (slice_index_or xs k d) xs x (All-front good xs (x ∷ []) none k d lt)).1)
 
 -- entries as a map to one point
 abbrev points : {K M : Type 0} → List (K × M) → List (K × Unit {0})

@@ -2,7 +2,7 @@
 use Rattle.std.specs.Prelude.{◌≡◌, Bool, true, false, cond, not, ◌&&◌, ◌||◌, ◌⊎◌, ◌↔◌, IsTrue, is_some, List, [], ◌∷◌, Option, Some, None, All, ⊤}
 use Rattle.std.specs.List.{list_any, list_all, filter}
 use Rattle.std.proofs.Common.{refl, sym, ap, ◌∙◌, inl, inr}
-use Rattle.std.proofs.lemmas.Bool.{false≢true, not-true, and_parts, and_from, or_cases, or_left, or_right, or_parts, or_from, false_from_ne_true, not_from_false}
+use Rattle.std.proofs.lemmas.Bool.{false≢true, not-true, and_parts, and_from, or_cases, or_left, or_right, or_parts, or_from, cases_Bool, false_from_ne_true, not_from_false}
 use Rattle.std.proofs.lemmas.Cmp.{tied_itself}
 use Rattle.std.proofs.lemmas.List.Elements.{All-head, All-tail, All-weaker, All-filter, filter_agree, filter_passes}
 use Rattle.std.specs.declared.cmp.Ordering.{Ordering}
@@ -210,11 +210,6 @@ module _ {E : Type 0} {cmp : E → E → Ordering} {below : E → E → Bool} (t
   pub below_maximal : (x : E) (s : List E) → list_any (below x) (maximal below s) ≡ list_any (below x) s
   below_maximal x s = both_ways _ _ (list_any_within total exact (below x) (maximal below s) s (has_before_filter exact (is_maximal below s) s)) (below_some_maximal x s)
 
--- a test passes or not
-bool_cases : (b : Bool) → (b ≡ true) ⊎ (b ≡ false)
-bool_cases true = inl refl
-bool_cases false = inr refl
-
 -- a member of the first is in the second or below one of its members
 abbrev pub is_within : {E : Type 0} → (E → E → Ordering) → (E → E → Bool) → List E → E → Bool
 is_within cmp below others x = has cmp x others || list_any (below x) others
@@ -356,7 +351,7 @@ module _ {E : Type 0} {cmp : E → E → Ordering} (total : IsTotalOrder cmp) (e
             (λ there. none_at exact below b vb.none_below q there)
             (λ there. or_cases (has cmp q b) (list_any (below q) b) (list_all-at exact (is_within cmp below b) a q all there)))),
         (λ same. list_all-from_has total (is_within cmp below b) a (λ q there.
-            elim (bool_cases (list_any (below q) ab)) [
+            elim (cases_Bool (list_any (below q) ab)) [
               | inl below_some ↦ or_right (has cmp q b) (list_any (below q) b) (ap (list_any (below q)) (sym same) ∙ below_some_maximal total exact order q ab below_some)
               | inr below_none ↦ or_left (has cmp q b) (list_any (below q) b) (ap (has cmp q) (sym same) ∙ has-filter exact q (is_maximal below ab) ab ∙ and_from (is_maximal below ab q) (has cmp q ab) (not_from_false (list_any (below q) ab) below_none) (in_ab q ∙ or_left (has cmp q a) (has cmp q b) there))
             ])),

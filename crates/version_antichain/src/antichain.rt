@@ -6,7 +6,7 @@ ghost use Rattle.std.specs.declared.cmp.Ordering.{Ordering};
 ghost use Rattle.version_antichain.specs.Antichain.{IsStrictOrder, MaximalOfMaximal};
 
 /// In any strict partial order: the maximal members of the maximal members of one set and of another
-/// set are those of both sets, whatever the members are and in whichever total order a set lists them.
+/// set are those of both sets, whatever the members are, and whichever total order lists them.
 pub fn maximal_of_maximal_in_any_order<E>()
     ensures { (cmp : E → E → Ordering) (below : E → E → Bool)
         → IsTotalOrder cmp → IsAntisymmetric cmp → IsStrictOrder below

@@ -66,7 +66,8 @@ impl Versions {
     /// versions and no clock is then strictly below another; else the versions are left as before, and
     /// after `NoMemory` too. Compares the version with each of the others.
     pub fn push(&mut self, clock: Clock, word: Word) -> Result<bool, NoMemory>
-        ensures pushed { IfOk result (IsPushed IsVersions self.old (record { clock = clock; word = word }) self.new) }
+        ensures pushed { IfOk result
+            (IsPushed IsVersions self.old (record { clock = clock; word = word }) self.new) }
         ensures err { OnErr result (self.new ≡ self.old) }
     {
         let version = Version { clock, word };
@@ -216,7 +217,9 @@ fn drop_overtaken(all: &mut Vec<(Version, Member)>)
 
 // Whether each of the versions stands among the others, or was overtaken by one of them.
 fn all_within(all: &[(Version, Member)], others: &[(Version, Member)]) -> bool
-    ensures { result ≡ list_all (λ entry. list_any (λ other. eq_by_cmp version_cmp entry.0 other.0) others.now || list_any (λ other. is_below entry.0 other.0) others.now) all.now }
+    ensures { result ≡ list_all (λ entry.
+        list_any (λ other. eq_by_cmp version_cmp entry.0 other.0) others.now
+        || list_any (λ other. is_below entry.0 other.0) others.now) all.now }
 {
     all.iter().all(|entry| stands_among(&entry.0, others) || is_overtaken(&entry.0, others))
 }
@@ -239,7 +242,8 @@ fn is_overtaken(version: &Version, others: &[(Version, Member)]) -> bool
 
 // Whether the version's clock is strictly below that of one of the others, or strictly above it.
 fn is_ordered_with(version: &Version, others: &[(Version, Member)]) -> bool
-    ensures { result ≡ list_any (λ other. is_below version.now other.0 || is_below other.0 version.now) others.now }
+    ensures { result ≡ list_any (λ other.
+        is_below version.now other.0 || is_below other.0 version.now) others.now }
 {
     others.iter().any(|other| {
         is_below(&version.clock, &other.0.clock) || is_below(&other.0.clock, &version.clock)
