@@ -1,33 +1,19 @@
 -- The accepted puts key by key, with one more.
-use Rattle.std.specs.Prelude.{◌≡◌, ◌≢◌, ℕ, ◌-◌, ◌==◌, cond, List, [], ◌∷◌, ◌++◌, length, map, filter, slice_set}
+use Rattle.std.specs.Prelude.{◌≡◌, ℕ, ◌-◌, List, [], ◌∷◌, ◌++◌, length, map, slice_set}
 use Rattle.std.proofs.Common.{refl, sym, ap, ◌∙◌, inl, inr, arith}
 use Rattle.std.proofs.Math.ListN.{get_or-map}
 use Rattle.std.proofs.Math.Seq.{map-set_same}
-use Rattle.std.proofs.lemmas.Bool.{cases_eq, ne_eqb, eq-eqb}
-use Rattle.std.proofs.lemmas.List.{map-append, append-nil, get_or-set_same, get_or-set_other}
-use Rattle.std.proofs.lemmas.List.Elements.{filter-append}
+use Rattle.std.proofs.lemmas.Bool.{cases_eq}
+use Rattle.std.proofs.lemmas.List.{append-nil, get_or-set_same, get_or-set_other}
 use Rattle.composed_value.specs.declared.kind.Kind.{Kind}
 use Rattle.composed_value.specs.declared.kind.Kind.TheVariants.{Max}
 use Rattle.composed_value.specs.declared.put.Put.{Put}
 use Rattle.session_known.specs.Accepted.{puts_on}
+use Rattle.session_known.proofs.AcceptedLemmas.{puts_on-append, on_its_key, on_no_other}
 use Rattle.session_known.specs.Script.{IsOneOf, kind_at}
 use Rattle.anna_check.specs.ByKey.{OfKey, of_key, kinds_of, AreByKey}
 
--- the puts on a key of two lists
-puts_on-append : (key : ℕ) (accepted more : List (ℕ × Put)) → puts_on key (accepted ++ more) ≡ puts_on key accepted ++ puts_on key more
-puts_on-append key accepted more =
-    let on_key = λ (entry : ℕ × Put). entry.0 == key in
-    ap (map (λ entry. entry.1)) (filter-append on_key accepted more) ∙ map-append (λ entry. entry.1) (filter on_key accepted) (filter on_key more)
-
--- a put is on its key
-on_its_key : (its_key key : ℕ) (put : Put) → its_key ≡ key → puts_on key ((its_key, put) ∷ []) ≡ put ∷ []
-on_its_key its_key key put same = ap (λ t. map (λ (entry : ℕ × Put). entry.1) (cond t ((its_key, put) ∷ []) [])) (eq-eqb its_key key same)
-
--- and on no other
-on_no_other : (its_key key : ℕ) (put : Put) → its_key ≢ key → puts_on key ((its_key, put) ∷ []) ≡ []
-on_no_other its_key key put apart = ap (λ t. map (λ (entry : ℕ × Put). entry.1) (cond t ((its_key, put) ∷ []) [])) (ne_eqb its_key key apart)
-
--- the puts on a key with one more behind them
+-- the puts on a key with one more after them
 abbrev pub with_put : OfKey → Put → OfKey
 with_put on put = record { kind = on.kind; puts = on.puts ++ put ∷ [] }
 

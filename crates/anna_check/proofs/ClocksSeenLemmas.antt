@@ -98,11 +98,11 @@ module _ (had : List (List (ℕ × List (ℕ × ℕ)))) (key worker : ℕ) (cloc
       both_where true is_old = (is_old, is)
       both_where false is_old = tt
 
--- a line's clock from a worker stands behind the earlier ones
+-- a line's clock from a worker stands after the earlier ones
 earlier_more : (key worker : ℕ) (earlier : List (Line × Answer)) (answered : Line × Answer) (more : Option (List (ℕ × ℕ))) → had_from key worker answered ≡ more → earlier_from key worker (earlier ++ answered ∷ []) ≡ earlier_from key worker earlier ++ cons_option more []
 earlier_more key worker earlier answered more is = filter_map-append (had_from key worker) earlier (answered ∷ []) ∙ ap (λ found. earlier_from key worker earlier ++ cons_option found []) is
 
--- The clocks had are joined behind one more answer.
+-- The clocks had are joined after one more answer.
 pub joined_more : (workers : ℕ) (earlier : List (Line × Answer)) (line : Line) (answer : Answer) (had : List (List (ℕ × List (ℕ × ℕ)))) (key worker : ℕ) (clock : List (ℕ × ℕ)) → IsOneOf (length had) worker → key < 2 ^ 16 → IsClock clock → IsNeeds (slice_index_or had (worker - 1) [])
     → ((its_key by : ℕ) → had_from its_key by (line, answer) ≡ one_more had key worker clock its_key by) → AreJoined workers earlier had → AreJoined workers (earlier ++ (line, answer) ∷ []) (had_more had key worker clock)
 joined_more workers earlier line answer had key worker clock some_worker fits is are from before = record {

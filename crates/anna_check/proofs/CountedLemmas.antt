@@ -72,7 +72,7 @@ none_counted (put ∷ puts) all =
 pub empty_of_its_puts : (kind : Kind) (puts : List Put) → All (λ put. 0 < put.number) puts → IsOfItsPuts kind puts (empty_cell kind)
 empty_of_its_puts kind puts all = ap (cell_of kind) (sym (none_counted puts all))
 
--- The cell of the puts that are counted newly behind the empty clock is the cell of all that the clock counts.
+-- The cell of the puts that are counted newly after the empty clock is the cell of all that the clock counts.
 pub counted_from_none : (kind : Kind) (puts : List Put) (clock before : List (ℕ × ℕ)) (cell : PlainCell) → All (IsPutOf kind) puts → before ≡ [] → cell ≡ cell_of kind (filter (is_newly_counted before clock) puts) → cell ≡ cell_of kind (counted puts clock)
 counted_from_none kind puts clock before cell all none is =
     let new : List Put = filter (is_newly_counted [] clock) puts in

@@ -1,4 +1,4 @@
--- The held puts of a session, accepted one behind another.
+-- The held puts of a session, accepted one after another.
 use Rattle.std.specs.Prelude.{◌≡◌, ℕ, ◌+◌, ◌<◌, ◌≤◌, List, [], ◌∷◌, ◌++◌, drop, length, get_or}
 use Rattle.std.proofs.Common.{refl, sym, ap, subst, ◌∙◌, append_assoc, append-nil, inl, inr, arith}
 use Rattle.std.proofs.lemmas.Bool.{cases_eq}

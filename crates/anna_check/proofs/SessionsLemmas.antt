@@ -1,4 +1,4 @@
--- The sessions, judged one behind another.
+-- The sessions, judged one after another.
 use Rattle.std.specs.Prelude.{◌≡◌, ℕ, zero, suc, ◌+◌, ◌<◌, ◌≤◌, List, [], ◌∷◌, ◌++◌, All, drop, length, get_or}
 use Rattle.std.specs.List.{AllZip}
 use Rattle.std.proofs.Common.{refl, sym, ap, subst, ◌∙◌, append_assoc, append-nil, inl, inr, arith}
@@ -105,13 +105,13 @@ module _ (table : List (List ℕ)) (sessions : List SessionPlan) (all_answers : 
     theirs_left : drop i all_answers ≡ theirs ∷ drop (i + 1) all_answers
     theirs_left = at_drop_more (λ xs. xs) all_answers i theirs (omega (arith, within, each)) ∙ ap (λ first. first ∷ drop (i + 1) all_answers) (sym theirs_is)
 
-    -- what is said of those that are left, of the session and those behind it
+    -- what is said of those that are left, of the session and those after it
     of_sessions_left : (P : List SessionPlan → List (List Answer) → Type 0) → P (plan ∷ drop (i + 1) sessions) (theirs ∷ drop (i + 1) all_answers) → P (drop i sessions) (drop i all_answers)
     of_sessions_left P is = subst (λ (at : List SessionPlan × List (List Answer)). P at.0 at.1) (λ j. (sym sessions_left j, sym theirs_left j)) is
 
     -- The session has the first answer that is not lawful.
     pub session_unlawful : (command : ℕ) → IsFirstUnlawful table (client_of (i + 1) plan) start [] plan.lines theirs command → IsFirstUnlawfulFrom table 1 sessions all_answers (i + 1) command
-    session_unlawful command first = are.unlawful (i + 1) command (of_sessions_left (λ left behind. IsFirstUnlawfulFrom table (i + 1) left behind (i + 1) command) (inl (refl, first)))
+    session_unlawful command first = are.unlawful (i + 1) command (of_sessions_left (λ left answered. IsFirstUnlawfulFrom table (i + 1) left answered (i + 1) command) (inl (refl, first)))
 
     -- The session is lawful too.
     pub session_lawful : (last : List OfKey) → AreLawful table (client_of (i + 1) plan) start [] plan.lines theirs → kinds_of last ≡ kinds_of more
@@ -120,7 +120,7 @@ module _ (table : List (List ℕ)) (sessions : List SessionPlan) (all_answers : 
         let by = puts_from (client_of (i + 1) plan) start plan.lines theirs in
         record {
           lawful = λ rest. are.lawful (of_sessions_left (AreLawfulFrom table (i + 1)) (lawful, rest));
-          unlawful = λ session command rest. are.unlawful session command (of_sessions_left (λ left behind. IsFirstUnlawfulFrom table (i + 1) left behind session command) (inr (lawful, rest)));
+          unlawful = λ session command rest. are.unlawful session command (of_sessions_left (λ left answered. IsFirstUnlawfulFrom table (i + 1) left answered session command) (inr (lawful, rest)));
           kinds = kinds_are ∙ are.kinds;
           puts = λ kinds made by_key.
               let so_far = are.puts kinds made by_key in (

@@ -1,4 +1,4 @@
--- What a report says, held against the accepted puts, one answer and one final cell behind another.
+-- What a report says, held against the accepted puts, one answer and one final cell after another.
 use Rattle.std.specs.Prelude.{◌≡◌, ℕ, zero, suc, ◌+◌, ◌<◌, ◌≤◌, List, [], ◌∷◌, All, drop, length, get_or}
 use Rattle.std.specs.List.{AllZip}
 use Rattle.std.proofs.Common.{refl, sym, ap, subst, ◌∙◌, inl, inr, arith}
@@ -21,7 +21,7 @@ pub record AreTrueSoFar (kinds : List Kind) (puts : List (ℕ × Put)) (all_line
 
 module _ (kinds : List Kind) (puts : List (ℕ × Put)) (all_lines : List Line) (all_answers : List Answer) (i : ℕ) (are : AreTrueSoFar kinds puts all_lines all_answers i) (each : length all_answers ≡ length all_lines) where
   module _ (line : Line) (answer : Answer) (within : i < length all_lines) (line_is : line ≡ get_or all_lines i line) (answer_is : answer ≡ get_or all_answers i answer) where
-    -- what is said of those that are left, of the line and its answer and those behind them
+    -- what is said of those that are left, of the line and its answer and those after them
     of_left : (P : List Line → List Answer → Type 0) → P (line ∷ drop (i + 1) all_lines) (answer ∷ drop (i + 1) all_answers) → P (drop i all_lines) (drop i all_answers)
     of_left P is =
         let lines_left : drop i all_lines ≡ line ∷ drop (i + 1) all_lines = at_drop_more (λ xs. xs) all_lines i line within ∙ ap (λ first. first ∷ drop (i + 1) all_lines) (sym line_is) in
@@ -30,7 +30,7 @@ module _ (kinds : List Kind) (puts : List (ℕ × Put)) (all_lines : List Line) 
 
     -- The line's answer is the first that is not true.
     pub held_untrue : (IsTrueOf kinds puts line answer → ⊥) → IsFirstUntrue kinds puts all_lines all_answers (i + 1)
-    held_untrue untrue = are.untrue 1 (omega arith) (of_left (λ left behind. IsFirstUntrue kinds puts left behind 1) untrue)
+    held_untrue untrue = are.untrue 1 (omega arith) (of_left (λ left answered. IsFirstUntrue kinds puts left answered 1) untrue)
 
     -- The line's answer is true too.
     pub held_true : IsTrueOf kinds puts line answer → AreTrueSoFar kinds puts all_lines all_answers (i + 1)
@@ -43,7 +43,7 @@ module _ (kinds : List Kind) (puts : List (ℕ × Put)) (all_lines : List Line) 
         later zero some rest = absurd (omega (arith, some))
         later (suc n) some rest =
             let same : i + suc (suc n) ≡ i + 1 + suc n = omega arith in
-            subst (IsFirstUntrue kinds puts all_lines all_answers) same (are.untrue (suc (suc n)) (omega arith) (of_left (λ left behind. IsFirstUntrue kinds puts left behind (suc (suc n))) (is, rest)))
+            subst (IsFirstUntrue kinds puts all_lines all_answers) same (are.untrue (suc (suc n)) (omega arith) (of_left (λ left answered. IsFirstUntrue kinds puts left answered (suc (suc n))) (is, rest)))
 
   -- All answers are true.
   pub held_all : length all_lines ≤ i → AllZip (IsTrueOf kinds puts) all_lines all_answers
@@ -61,7 +61,7 @@ pub record AreSessionsTrueSoFar (kinds : List Kind) (puts : List (ℕ × Put)) (
 
 module _ (kinds : List Kind) (puts : List (ℕ × Put)) (sessions : List SessionPlan) (all_answers : List (List Answer)) (i : ℕ) (are : AreSessionsTrueSoFar kinds puts sessions all_answers i) (each : length all_answers ≡ length sessions) where
   module _ (plan : SessionPlan) (theirs : List Answer) (within : i < length sessions) (plan_is : plan ≡ get_or sessions i plan) (theirs_is : theirs ≡ get_or all_answers i theirs) where
-    -- what is said of those that are left, of the session and its answers and those behind them
+    -- what is said of those that are left, of the session and its answers and those after them
     of_sessions_left : (P : List SessionPlan → List (List Answer) → Type 0) → P (plan ∷ drop (i + 1) sessions) (theirs ∷ drop (i + 1) all_answers) → P (drop i sessions) (drop i all_answers)
     of_sessions_left P is =
         let sessions_left : drop i sessions ≡ plan ∷ drop (i + 1) sessions = at_drop_more (λ xs. xs) sessions i plan within ∙ ap (λ first. first ∷ drop (i + 1) sessions) (sym plan_is) in
@@ -70,13 +70,13 @@ module _ (kinds : List Kind) (puts : List (ℕ × Put)) (sessions : List Session
 
     -- The session has the first answer that is not true.
     pub session_untrue : (command : ℕ) → IsFirstUntrue kinds puts plan.lines theirs command → IsFirstUntrueFrom kinds puts 1 sessions all_answers (i + 1) command
-    session_untrue command first = are.untrue (i + 1) command (of_sessions_left (λ left behind. IsFirstUntrueFrom kinds puts (i + 1) left behind (i + 1) command) (inl (refl, first)))
+    session_untrue command first = are.untrue (i + 1) command (of_sessions_left (λ left answered. IsFirstUntrueFrom kinds puts (i + 1) left answered (i + 1) command) (inl (refl, first)))
 
     -- The session is true too.
     pub session_true : AreTrueOf kinds puts plan theirs → AreSessionsTrueSoFar kinds puts sessions all_answers (i + 1)
     session_true is = record {
       true_of = λ rest. are.true_of (of_sessions_left (AllZip (AreTrueOf kinds puts)) (is, rest));
-      untrue = λ session command rest. are.untrue session command (of_sessions_left (λ left behind. IsFirstUntrueFrom kinds puts (i + 1) left behind session command) (inr (is, rest)));
+      untrue = λ session command rest. are.untrue session command (of_sessions_left (λ left answered. IsFirstUntrueFrom kinds puts (i + 1) left answered session command) (inr (is, rest)));
     }
 
   -- All sessions are true.

@@ -12,18 +12,18 @@ module _ {X Y : Type 0} (gather : X → Option Y) where
   IsGiven xs y = (x : X) × Contains xs x × (gather x ≡ Some y)
 
   -- what the others give is given
-  given_behind : (x : X) (xs : List X) (y : Y) → IsGiven xs y → IsGiven (x ∷ xs) y
-  given_behind x xs y from = (from.0, Contains-append_right (x ∷ []) xs from.0 from.1, from.2)
+  given_later : (x : X) (xs : List X) (y : Y) → IsGiven xs y → IsGiven (x ∷ xs) y
+  given_later x xs y from = (from.0, Contains-append_right (x ∷ []) xs from.0 from.1, from.2)
 
   -- what is gathered is given by some member
   gathered_from : (xs : List X) (y : Y) → Contains (filter_map gather xs) y → IsGiven xs y
   gathered_from [] y has = absurd (omega arith)
   gathered_from (x ∷ xs) y has =
       elim (gather x) as (λ o. gather x ≡ o → Contains (cons_option o (filter_map gather xs)) y → IsGiven (x ∷ xs) y) [
-        | None ↦ λ gives behind. given_behind x xs y (gathered_from xs y behind)
+        | None ↦ λ gives later. given_later x xs y (gathered_from xs y later)
         | Some z ↦ λ gives there. elim (Contains-append_cases (z ∷ []) (filter_map gather xs) y there) [
           | inl here ↦ (x, Contains-append_left (x ∷ []) xs x (Contains-push [] x), gives ∙ in_one (λ w. Some z ≡ Some w) z y refl here)
-          | inr behind ↦ given_behind x xs y (gathered_from xs y behind)
+          | inr later ↦ given_later x xs y (gathered_from xs y later)
         ]
       ] refl has
 

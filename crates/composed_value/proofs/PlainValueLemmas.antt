@@ -7,6 +7,7 @@ use Rattle.std.proofs.lemmas.List.Elements.{All-nil, All-cons, Contains-push, Co
 use Rattle.std.specs.Cmp.{both_ways}
 use Rattle.std.specs.FinMap.{find}
 use Rattle.std.specs.Ordering.{ord_max, is_lt, is_le, eq_by_cmp}
+use Rattle.lattice_laws.specs.Members.{contains_none}
 use Rattle.lattice_laws.specs.Entries.{IsEntry}
 use Rattle.lattice_laws.specs.EntriesLaws.{find-joined_maps, same_from_keys}
 use Rattle.lattice_laws.specs.Greatest.{IsGreatest}
@@ -73,10 +74,6 @@ stamp_is_greater =
       second_below = λ a b. (stamp_is_second b (ord_max stamp_cmp a b)).1 (above_right laws grouped a b tt tt tt);
     }
 
--- the empty list has no members
-none_of_none : {X : Type 0} (x : X) → Contains [] x → ⊥
-none_of_none x has = omega arith
-
 module _ {X : Type 0} {at_most : X → X → Type 0} {greater : X → X → X} (is_greater : IsGreater at_most greater) (gather : Put → Option X) where
   -- the greatest of what is gathered of two lists, where it may be nothing yet
   found_of_both : (xs ys : List Put) (a b : Maybe X) → IsGreatest at_most (filter_map gather xs) (plain_of (λ x. x) a) → IsGreatest at_most (filter_map gather ys) (plain_of (λ x. x) b) → IsGreatest at_most (filter_map gather (xs ++ ys)) (plain_of (λ x. x) (joined_found greater a b))
@@ -91,7 +88,7 @@ module _ {X : Type 0} {at_most : X → X → Type 0} {greater : X → X → X} (
 -- the greatest number at a field of one put, which is of the field or not
 field_of_one : (tied : Bool) (number : ℕ) → IsGreatest ◌≤◌ (cons_option (cond tied (Some number) None) []) (cond tied (Some number) None)
 field_of_one true number = greatest_of_one max_is_greater number
-field_of_one false number = none_of_none
+field_of_one false number = contains_none
 
 -- two lists have a put together where one of them has
 some_of_both : (xs ys : List Put) (a b : Bool) → IsTrue a ↔ (0 < length xs) → IsTrue b ↔ (0 < length ys) → IsTrue (a || b) ↔ (0 < length (xs ++ ys))
@@ -124,11 +121,11 @@ value_has_kind _ puts _ is = absurd is
 
 -- the value of no puts
 pub value_of_none : (kind : Kind) → IsValueOf kind [] (empty_value kind)
-value_of_none kinds.Max = none_of_none
+value_of_none kinds.Max = contains_none
 value_of_none kinds.Or = ((λ on. absurd (false≢true on)), (λ some. absurd (omega arith)))
 value_of_none kinds.Set = set_of_none spelled_total spelled_exact IsWord
-value_of_none kinds.Map = (record { ascending = refl; are_entries = All-nil (IsEntry IsWord (λ number. number < 2 ^ 64)) }, λ field. none_of_none)
-value_of_none kinds.Last = none_of_none
+value_of_none kinds.Map = (record { ascending = refl; are_entries = All-nil (IsEntry IsWord (λ number. number < 2 ^ 64)) }, λ field. contains_none)
+value_of_none kinds.Last = contains_none
 value_of_none kinds.Versions = kept_of_none
 
 -- the value of a put with the payload

@@ -1,5 +1,5 @@
 -- Sound cells stay sound: a join of two is sound, and so is one that takes the next put of a session.
-use Rattle.std.specs.Prelude.{◌≡◌, ◌≢◌, ℕ, ◌+◌, ◌<◌, ◌≤◌, ◌==◌, max, cond, ◌⊎◌, List, [], ◌∷◌, ◌++◌, length, map, slice_index_or, unwrap_or, Some, None, leb, Contains}
+use Rattle.std.specs.Prelude.{◌≡◌, ◌≢◌, ℕ, ◌+◌, ◌<◌, ◌≤◌, ◌==◌, max, cond, ◌⊎◌, List, [], ◌∷◌, ◌++◌, length, map, slice_index_or, unwrap_or, Some, None, Contains}
 use Rattle.std.proofs.Common.{refl, sym, ap, subst, ◌∙◌, inl, inr, arith}
 use Rattle.std.proofs.lemmas.Bool.{leb-true, le-leb, eq-eqb, cases_lt}
 use Rattle.std.proofs.lemmas.Bool.Decides.{eqb_tells}
@@ -122,9 +122,9 @@ same_number puts x y are in_x in_y same =
     elim (cases_lt in_x.0 in_y.0) [
       | inl before ↦ absurd (none_before puts x y are in_x in_y same before)
       | inr not_before ↦ elim (cases_lt in_y.0 in_x.0) [
-        | inl behind ↦ absurd (none_before puts y x are in_y in_x (sym same) behind)
-        | inr not_behind ↦
-            let places : in_x.0 ≡ in_y.0 = omega (arith, not_before, not_behind) in
+        | inl later ↦ absurd (none_before puts y x are in_y in_x (sym same) later)
+        | inr not_later ↦
+            let places : in_x.0 ≡ in_y.0 = omega (arith, not_before, not_later) in
             sym in_x.2 ∙ ap (λ k. slice_index_or puts k x) places ∙ get_or_default puts in_y.0 x y in_y.1 ∙ in_y.2
       ]
     ]

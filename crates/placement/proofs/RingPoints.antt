@@ -48,7 +48,7 @@ points_of_workers (suc workers) most few =
     All-same Known (points_of (suc workers)) (points_of workers ++ last) step
     (All-append Known (points_of workers) last (points_of_workers workers most (omega arith)) (All-map Known (point_of (workers + 1)) (range_with_len 0 16) (λ k d within. (omega arith, omega arith))))
 
--- One more point of the worker stands behind those so far.
+-- One more point of the worker stands after those so far.
 pub point_pushed : (worker index : ℕ) (before points : List Point) (point : Point) → points ≡ before ++ map (point_of worker) (range_with_len 0 index) → point ≡ point_of worker index → points ++ point ∷ [] ≡ before ++ map (point_of worker) (range_with_len 0 (index + 1))
 point_pushed worker index before points point so_far is =
     let front = map (point_of worker) (range_with_len 0 index) in

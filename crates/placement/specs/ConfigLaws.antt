@@ -27,7 +27,7 @@ point_exact a b e =
     let index = nat_cmp-IsAntisymmetric a.index b.index by_worker.1 in
     λ i. record { hash = hash i; worker = worker i; index = index i }
 
--- the points with one more, where that comes behind the first or before it
+-- the points with one more, where that comes after the first or before it
 with_permutes_as : (point first : Point) (points : List Point) (behind : Bool) → IsPermutation (point ∷ points) (with_point point points) → IsPermutation (point ∷ first ∷ points) (cond behind (first ∷ with_point point points) (point ∷ first ∷ points))
 with_permutes_as point first points true rest = IsPermutation-trans _ (first ∷ point ∷ points) _ (IsPermutation-sym _ _ (IsPermutation-middle (first ∷ []) point points)) (IsPermutation-cons first _ _ rest)
 with_permutes_as point first points false rest = IsPermutation-refl (point ∷ first ∷ points)

@@ -1,14 +1,13 @@
 -- The accepted puts of a session on a key are its first, its second and so on, in script order.
-use Rattle.std.specs.Prelude.{◌≡◌, ◌≢◌, ℕ, zero, suc, ◌+◌, ◌<◌, ◌==◌, max, true, false, cond, List, [], ◌∷◌, ◌++◌, length, map, filter, slice_index_or, Option, Some, None, unwrap_or}
+use Rattle.std.specs.Prelude.{◌≡◌, ◌≢◌, ℕ, zero, suc, ◌+◌, ◌<◌, ◌==◌, max, true, false, cond, List, [], ◌∷◌, ◌++◌, length, map, slice_index_or, Option, Some, None, unwrap_or}
 use Rattle.std.specs.Cmp.{nat_cmp_total, unsigned_tied}
 use Rattle.std.specs.FinMap.{find}
 use Rattle.std.specs.FinMap.Entries.{find-put}
 use Rattle.std.specs.Ordering.{nat_cmp, is_eq}
 use Rattle.std.proofs.Common.{refl, sym, ap, subst, ◌∙◌, inl, inr, length-append, arith}
-use Rattle.std.proofs.lemmas.Bool.{eq-eqb}
+use Rattle.std.proofs.lemmas.Bool.{ne_eqb, eq-eqb}
 use Rattle.std.proofs.lemmas.Bool.Decides.{eqb_tells}
 use Rattle.std.proofs.lemmas.Cmp.{tied_itself}
-use Rattle.std.proofs.lemmas.List.{map-append}
 use Rattle.std.proofs.lemmas.List.Elements.{filter-append}
 use Rattle.lattice_laws.specs.Entries.{with_old}
 use Rattle.clock_lattice.specs.Clock.{count_of, joined_clocks, one_count}
@@ -16,6 +15,7 @@ use Rattle.composed_value.specs.PlainValue.{puts_of_session}
 use Rattle.composed_value.specs.Sound.{AreNumbered}
 use Rattle.composed_value.specs.declared.payload.Payload.{Payload}
 use Rattle.composed_value.specs.declared.put.Put as puts
+use Rattle.session_known.proofs.AcceptedLemmas.{puts_on-append, on_its_key, on_no_other}
 use Rattle.session_known.specs.Accepted.{client_of, puts_on, made_on, AreNext, accepted_from}
 use Rattle.session_known.specs.Lawful.{IsLawful, AreLawful}
 use Rattle.session_known.specs.Legal.{AreLawfulFrom}
@@ -34,31 +34,23 @@ record AreNextUpTo (first : ℕ) (made : List puts.Put) (last : ℕ) : Type 0 wh
 -- the puts of two lists on a key
 pub made_on-append : (session key : ℕ) (made more : List (ℕ × puts.Put)) → made_on session key (made ++ more) ≡ made_on session key made ++ made_on session key more
 made_on-append session key made more =
-    let on_key = λ (entry : ℕ × puts.Put). entry.0 == key in
-    ap (λ entries. puts_of_session session (map (λ entry. entry.1) entries)) (filter-append on_key made more)
-    ∙ ap (puts_of_session session) (map-append (λ entry. entry.1) (filter on_key made) (filter on_key more))
-    ∙ filter-append (λ put. session == put.session) (puts_on key made) (puts_on key more)
+    ap (puts_of_session session) (puts_on-append key made more) ∙ filter-append (λ put. session == put.session) (puts_on key made) (puts_on key more)
 
 -- a put of the session on the key is one of its puts there
 pub made_here : (session its_key key : ℕ) (put : puts.Put) → its_key ≡ key → session ≡ put.session → made_on session key ((its_key, put) ∷ []) ≡ put ∷ []
 made_here session its_key key put same_key same_session =
-    ap (λ t. puts_of_session session (map (λ (entry : ℕ × puts.Put). entry.1) (cond t ((its_key, put) ∷ []) []))) (eq-eqb its_key key same_key)
-    ∙ ap (λ t. cond t (put ∷ []) []) (eq-eqb session put.session same_session)
-
--- a test that fails where two numbers differ
-differs : (a b : ℕ) → a ≢ b → (a == b) ≡ false
-differs a b other = elim (eqb_tells a b) [ inl same ↦ absurd (other same.1) | inr apart ↦ apart.0 ]
+    ap (puts_of_session session) (on_its_key its_key key put same_key) ∙ ap (λ t. cond t (put ∷ []) []) (eq-eqb session put.session same_session)
 
 -- a put on another key is not
 pub made_elsewhere : (session its_key key : ℕ) (put : puts.Put) → its_key ≢ key → made_on session key ((its_key, put) ∷ []) ≡ []
 made_elsewhere session its_key key put other =
-    ap (λ t. puts_of_session session (map (λ (entry : ℕ × puts.Put). entry.1) (cond t ((its_key, put) ∷ []) []))) (differs its_key key other)
+    ap (puts_of_session session) (on_no_other its_key key put other)
 
 -- nor is one of another session
 pub made_by_other : (session its_key key : ℕ) (put : puts.Put) → session ≢ put.session → made_on session key ((its_key, put) ∷ []) ≡ []
 made_by_other session its_key key put other =
     elim (its_key == key) as (λ t. puts_of_session session (map (λ (entry : ℕ × puts.Put). entry.1) (cond t ((its_key, put) ∷ []) [])) ≡ []) [
-      | true ↦ ap (λ t. cond t (put ∷ []) []) (differs session put.session other)
+      | true ↦ ap (λ t. cond t (put ∷ []) []) (ne_eqb session put.session other)
       | false ↦ refl
     ]
 
@@ -106,7 +98,7 @@ count_put_elsewhere own its_key key zero other = refl
 count_put_elsewhere own its_key key (suc n) other =
     let value : ℕ = with_old max (find nat_cmp its_key own) (suc n) in
     ap (λ found. unwrap_or found 0) (find-put nat_cmp nat_cmp_total key its_key value own)
-    ∙ ap (λ t. unwrap_or (cond t (Some value) (find nat_cmp key own)) 0) (unsigned_tied key its_key ∙ differs key its_key (λ same. other (sym same)))
+    ∙ ap (λ t. unwrap_or (cond t (Some value) (find nat_cmp key own)) 0) (unsigned_tied key its_key ∙ ne_eqb key its_key (λ same. other (sym same)))
 
 -- no puts follow any number
 next_of_none : (n : ℕ) → AreNextUpTo n [] n
@@ -141,10 +133,10 @@ next_of_commit : (client : Client) (knows : Knowledge) (lamport place : ℕ) (he
 next_of_commit client knows lamport place [] key = next_of_none (own_count knows key)
 next_of_commit client knows lamport place (held ∷ others) key =
     let number : ℕ = own_count knows held.0 + 1 in
-    let behind : Knowledge = knows_put client knows held.0 number lamport in
-    next_of_both client.session key (own_count knows key) (own_count behind key) (own_count (knows_committed client behind lamport others) key)
-    ((held.0, put_made client knows held.0 held.1 number lamport place) ∷ []) (puts_committed client behind lamport (place + 1) others)
-    (next_of_put client knows held.0 held.1 number lamport place key refl) (next_of_commit client behind lamport (place + 1) others key)
+    let reached : Knowledge = knows_put client knows held.0 number lamport in
+    next_of_both client.session key (own_count knows key) (own_count reached key) (own_count (knows_committed client reached lamport others) key)
+    ((held.0, put_made client knows held.0 held.1 number lamport place) ∷ []) (puts_committed client reached lamport (place + 1) others)
+    (next_of_put client knows held.0 held.1 number lamport place key refl) (next_of_commit client reached lamport (place + 1) others key)
 
 -- and those of any line with a lawful answer
 next_of_line : (table : List (List ℕ)) (client : Client) (state : State) (earlier : List (Line × Answer)) (line : Line) (answer : Answer) (key : ℕ) → IsLawful table client state earlier line answer
@@ -161,12 +153,12 @@ next_of_line table client state earlier line answer key lawful = next_of_none (o
 next_of_lines : (table : List (List ℕ)) (client : Client) (state : State) (earlier : List (Line × Answer)) (lines : List Line) (answers : List Answer) (key : ℕ) → AreLawful table client state earlier lines answers
     → AreNext (own_count state.knows key) (made_on client.session key (puts_from client state lines answers))
 next_of_lines table client state earlier (line ∷ lines) (answer ∷ answers) key lawful =
-    let behind : State = after client state line answer in
+    let reached : State = after client state line answer in
     let here = next_of_line table client state earlier line answer key lawful.0 in
-    let later = next_of_lines table client behind (earlier ++ (line, answer) ∷ []) lines answers key lawful.1 in
-    subst (AreNext (own_count state.knows key)) (sym (made_on-append client.session key (puts_by client state line answer) (puts_from client behind lines answers)))
-    (next-append (own_count state.knows key) (made_on client.session key (puts_by client state line answer)) (made_on client.session key (puts_from client behind lines answers)) here.next
-    (subst (λ n. AreNext n (made_on client.session key (puts_from client behind lines answers))) here.last_is later))
+    let later = next_of_lines table client reached (earlier ++ (line, answer) ∷ []) lines answers key lawful.1 in
+    subst (AreNext (own_count state.knows key)) (sym (made_on-append client.session key (puts_by client state line answer) (puts_from client reached lines answers)))
+    (next-append (own_count state.knows key) (made_on client.session key (puts_by client state line answer)) (made_on client.session key (puts_from client reached lines answers)) here.next
+    (subst (λ n. AreNext n (made_on client.session key (puts_from client reached lines answers))) here.last_is later))
 next_of_lines table client state earlier lines answers key lawful = tt
 
 -- a session commits no puts of another
@@ -175,8 +167,8 @@ none_committed client knows lamport place [] session key other = refl
 none_committed client knows lamport place (held ∷ others) session key other =
     let number : ℕ = own_count knows held.0 + 1 in
     let put : puts.Put = put_made client knows held.0 held.1 number lamport place in
-    let behind : Knowledge = knows_put client knows held.0 number lamport in
-    none_in_both session key ((held.0, put) ∷ []) (puts_committed client behind lamport (place + 1) others) (made_by_other session held.0 key put other) (none_committed client behind lamport (place + 1) others session key other)
+    let reached : Knowledge = knows_put client knows held.0 number lamport in
+    none_in_both session key ((held.0, put) ∷ []) (puts_committed client reached lamport (place + 1) others) (made_by_other session held.0 key put other) (none_committed client reached lamport (place + 1) others session key other)
 
 -- nor does it make any in a line
 none_by_line : (client : Client) (state : State) (line : Line) (answer : Answer) (session key : ℕ) → session ≢ client.session → made_on session key (puts_by client state line answer) ≡ []
@@ -187,8 +179,8 @@ none_by_line client state line answer session key other = refl
 -- nor in all its lines
 none_by_lines : (client : Client) (state : State) (lines : List Line) (answers : List Answer) (session key : ℕ) → session ≢ client.session → made_on session key (puts_from client state lines answers) ≡ []
 none_by_lines client state (line ∷ lines) (answer ∷ answers) session key other =
-    let behind : State = after client state line answer in
-    none_in_both session key (puts_by client state line answer) (puts_from client behind lines answers) (none_by_line client state line answer session key other) (none_by_lines client behind lines answers session key other)
+    let reached : State = after client state line answer in
+    none_in_both session key (puts_by client state line answer) (puts_from client reached lines answers) (none_by_line client state line answer session key other) (none_by_lines client reached lines answers session key other)
 none_by_lines client state lines answers session key other = refl
 
 -- later sessions make no puts of an earlier one

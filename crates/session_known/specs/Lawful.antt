@@ -96,7 +96,7 @@ pub record IsLawfulCommit (state : State) (puts lamport : ℕ) : Type 0 where
   pub not_worn : state.knows.lamport ≢ last_lamport
   pub lamport_is : lamport ≡ lamport_of_commit state.knows puts
 
--- Whether the line may get the answer in this state and behind these answers, as far as it is decided inside the session.
+-- Whether the line may get the answer in this state and after these answers, as far as it is decided inside the session.
 abbrev pub IsLawful : List (List ℕ) → Client → State → List (Line × Answer) → Line → Answer → Type 0
 IsLawful table client state earlier (lines.Put key payload) (answers.Put number lamport) = IsLawfulPut state key number lamport
 IsLawful table client state earlier (lines.Put key payload) answers.Held = IsSome state.held

@@ -38,7 +38,7 @@ MayStand script table level Begin = level ≡ Committed
 MayStand script table level Commit = level ≡ Committed
 MayStand script table level Abort = level ≡ Committed
 
--- transactions stand one behind another, and each is ended; `begun` says whether one is begun before the first line
+-- transactions stand one after another, and each is ended; `begun` says whether one is begun before the first line
 abbrev pub AreEnded : Bool → List Line → Type 0
 AreEnded begun [] = IsFalse begun
 AreEnded begun (Begin ∷ lines) = IsFalse begun × AreEnded true lines

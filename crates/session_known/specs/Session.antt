@@ -155,8 +155,3 @@ puts_by client state line answer = []
 abbrev pub puts_from : Client → State → List Line → List Answer → List (ℕ × puts.Put)
 puts_from client state (line ∷ lines) (answer ∷ answers) = puts_by client state line answer ++ puts_from client (after client state line answer) lines answers
 puts_from client state lines answers = []
-
--- the state behind all its lines
-abbrev pub state_behind : Client → State → List Line → List Answer → State
-state_behind client state (line ∷ lines) (answer ∷ answers) = state_behind client (after client state line answer) lines answers
-state_behind client state lines answers = state

@@ -387,7 +387,7 @@ mod tests {
     }
 
     #[test]
-    fn no_number_is_left_behind_the_greatest(rt: HostRuntime) -> Result<(), Fail> {
+    fn no_number_is_left_after_the_greatest(rt: HostRuntime) -> Result<(), Fail> {
         let mut known = Known::new(rt.alloc(), 1, Level::Eventual);
         known.note_reply(1, &shown(rt.alloc(), 18_446_744_073_709_551_614)?)?;
         assert_eq!(rt; known.next_number(), Some(18_446_744_073_709_551_615));

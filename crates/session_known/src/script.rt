@@ -10,7 +10,7 @@ pub enum Level {
     /// Puts go out at once, and a get shows what one replica has.
     Eventual,
     /// The same, and puts between begin and commit are held until the commit, and then share one Lamport
-    /// number. No reply shows them before; gets do not show held puts, and behind the commit another
+    /// number. No reply shows them before; gets do not show held puts, and after the commit another
     /// session may be shown some of them and not yet others.
     Committed,
     /// A reply covers all that the session knows of the key, and each put depends on all that its
