@@ -1,6 +1,7 @@
 pub mod Cell
 pub mod CellLaws
 pub mod Kind
+pub mod Laws
 pub mod PlainValue
 pub mod Put
 pub mod Sound

@@ -18,6 +18,7 @@ use Rattle.session_known.specs.Accepted.{puts_on, made_on, AreNext, accepted, ac
 use Rattle.session_known.specs.Form.{Fits, IsFinalIn}
 use Rattle.session_known.proofs.KnownLemmas.{CountsAtMost, first_at_most, shown_is_known, known_at_line}
 use Rattle.session_known.specs.Lawful.{ShowsAt, by_get, by_await, required_by_get, IsLawful, AreLawful, IsTrueOf, CountsAccepted}
+use Rattle.session_known.specs.Laws.{FinalsAgree, IsReplyAt, LaterRepliesCover}
 use Rattle.session_known.specs.Legal.{AreLawfulFrom, IsLawfulFinal, IsLegalAt}
 use Rattle.session_known.proofs.NumberedLemmas.{number_at, numbered_from_next, accepted_are_next}
 use Rattle.session_known.specs.Script.{kind_at}
@@ -55,7 +56,7 @@ final_counts table script report legal cell lawful session =
     omega (arith, at_least, lawful.sound.counts session)
 
 -- in a legal report the final cells of the replicas of a key have equal clock, top and value
-pub finals_agree : (table : List (List ℕ)) (script : Script) (report : Report) → IsLegalAt table script report → (a b : FinalCell) → Contains report.finals a → Contains report.finals b → a.key ≡ b.key → (a.clock ≡ b.clock) × (a.top ≡ b.top) × (a.value ≡ b.value)
+pub finals_agree : (table : List (List ℕ)) (script : Script) (report : Report) → IsLegalAt table script report → (a b : FinalCell) → Contains report.finals a → Contains report.finals b → a.key ≡ b.key → FinalsAgree a b
 finals_agree table script report legal a b has_a has_b same =
     let all : List (ℕ × puts.Put) = accepted script report in
     let kind : Kind = kind_at script.kinds a.key in
@@ -67,24 +68,16 @@ finals_agree table script report legal a b has_a has_b same =
     final_counts table script report legal a lawful_a session ∙ ap (λ key. length (made_on session key all)) same ∙ sym (final_counts table script report legal b lawful_b session)) in
     let on_key : List puts.Put = puts_on a.key all in
     let sound_b : IsSound kind on_key a.clock b.top b.value =
-    subst (λ clock. IsSound kind on_key clock b.top b.value) (sym clocks) (subst (λ key. IsSound (kind_at script.kinds key) (puts_on key all) b.clock b.top b.value) (sym same) lawful_b.sound) in (
-      clocks,
-      greatest_or_zero_is_single (map (λ put. put.lamport) (counted on_key a.clock)) a.top b.top lawful_a.sound.top_is sound_b.top_is,
-      value_is_single kind (counted on_key a.clock) a.value b.value lawful_a.sound.value_is sound_b.value_is,
-    )
+    subst (λ clock. IsSound kind on_key clock b.top b.value) (sym clocks) (subst (λ key. IsSound (kind_at script.kinds key) (puts_on key all) b.clock b.top b.value) (sym same) lawful_b.sound) in record {
+      clocks = clocks;
+      tops = greatest_or_zero_is_single (map (λ put. put.lamport) (counted on_key a.clock)) a.top b.top lawful_a.sound.top_is sound_b.top_is;
+      values = value_is_single kind (counted on_key a.clock) a.value b.value lawful_a.sound.value_is sound_b.value_is;
+    }
 
 -- a lawful reply's clock counts only accepted puts
 pub reply_counts_accepted : (kinds : List Kind) (accepted : List (ℕ × puts.Put)) (line : Line) (answer : Answer) (key : ℕ) (clock : List (ℕ × ℕ)) → ShowsAt line answer key clock → IsTrueOf kinds accepted line answer → CountsAccepted accepted key clock
 reply_counts_accepted kinds accepted _ _ _ _ (by_get key named worker shown) true_of = true_of.sound.counts
 reply_counts_accepted kinds accepted _ _ _ _ (by_await key session count worker shown) true_of = true_of.sound.counts
-
--- a reply is there at a place of a session's lines: its key, and the clock that it shows
-record IsReplyAt (lines : List Line) (answers : List Answer) (place key : ℕ) (clock : List (ℕ × ℕ)) : Type 0 where
-  line : Line
-  answer : Answer
-  line_is : line ≡ slice_index_or lines place line
-  answer_is : answer ≡ slice_index_or answers place answer
-  shows : ShowsAt line answer key clock
 
 -- a clock that is shown has the form of one
 shown_is_clock : (script : Script) (line : Line) (answer : Answer) (key : ℕ) (clock : List (ℕ × ℕ)) → Fits script Causal line answer → ShowsAt line answer key clock → IsClock clock
@@ -141,10 +134,6 @@ covers_earlier script table client state before (line ∷ lines) (answer ∷ ans
     (record { line = reply_j.line; answer = reply_j.answer; line_is = reply_j.line_is; answer_is = reply_j.answer_is; shows = reply_j.shows })
 
 -- in a causal session a later reply on a key covers the earlier ones
-pub later_covers_earlier : (script : Script) (table : List (List ℕ)) (client : Client) (lines : List Line) (answers : List Answer) → client.level ≡ Causal → AreLawful table client start [] lines answers → AllZip (Fits script Causal) lines answers
-    → (i j key : ℕ) (line_i line_j : Line) (answer_i answer_j : Answer) (earlier later : List (ℕ × ℕ)) → i < j → j < length lines
-    → line_i ≡ slice_index_or lines i line_i → line_j ≡ slice_index_or lines j line_j → answer_i ≡ slice_index_or answers i answer_i → answer_j ≡ slice_index_or answers j answer_j
-    → ShowsAt line_i answer_i key earlier → ShowsAt line_j answer_j key later → IsTrue (covers later earlier)
-later_covers_earlier script table client lines answers causal lawful fits i j key line_i line_j answer_i answer_j earlier later before within is_i is_j of_i of_j shows_i shows_j =
-    covers_earlier script table client start [] lines answers i j key earlier later causal lawful fits before within
-    (record { line = line_i; answer = answer_i; line_is = is_i; answer_is = of_i; shows = shows_i }) (record { line = line_j; answer = answer_j; line_is = is_j; answer_is = of_j; shows = shows_j })
+pub later_covers_earlier : LaterRepliesCover
+later_covers_earlier script table client lines answers causal lawful fits i j key earlier later before within reply_i reply_j =
+    covers_earlier script table client start [] lines answers i j key earlier later causal lawful fits before within reply_i reply_j

@@ -1,14 +1,32 @@
 -- Reports that differ from the worked ones in one thing each.
-use Rattle.std.specs.Prelude.{true, [], ◌∷◌, Some, None, codes}
+use Rattle.std.specs.Prelude.{ℕ, List, true, [], ◌∷◌, Some, None, codes}
 use Rattle.lattice_laws.specs.declared.maybe.Maybe.TheVariants.{Is, Bottom}
 use Rattle.composed_value.specs.declared.payload.Payload.TheVariants as payloads
 use Rattle.composed_value.specs.declared.value.Value.TheVariants as values
-use Rattle.worked_reports.specs.Worked.{first_report, first_cell, first_final, home_script, home_report, home_cell_one, home_cell_both, home_final, commit_script, commit_report, red, commit_cell, commit_final_a, commit_final_l, causal_report, causal_cell_a, causal_cell_b, causal_final_a, causal_final_b}
+use Rattle.worked_reports.specs.Worked.{first_report, first_cell, first_final, home_script, home_report, home_cell_one, home_cell_both, home_final, commit_script, commit_report, red, commit_cell, commit_final_a, commit_final_l, causal_report, causal_cell_a, causal_cell_b, causal_final_a, causal_final_b, first_script, first_table, home_table, commit_table, causal_script, causal_table}
+use Rattle.session_known.specs.Legal.{IsLegalAt}
 use Rattle.session_known.specs.declared.report.Answer.TheVariants as answers
 use Rattle.session_known.specs.declared.report.Report.{Report}
 use Rattle.session_known.specs.declared.script.Level.TheVariants.{Eventual, Committed}
 use Rattle.session_known.specs.declared.script.Line.TheVariants as lines
 use Rattle.session_known.specs.declared.script.Script.{Script}
+
+-- the report is not legal for the script, where its keys live so
+abbrev IsRefused : List (List ℕ) → Script → Report → Type 0
+IsRefused table script report = IsLegalAt table script report → ⊥
+
+-- so for each of the worked scripts
+abbrev pub FirstRefuses : Report → Type 0
+FirstRefuses report = IsRefused first_table first_script report
+
+abbrev pub HomeRefuses : Report → Type 0
+HomeRefuses report = IsRefused home_table home_script report
+
+abbrev pub CommitRefuses : Report → Type 0
+CommitRefuses report = IsRefused commit_table commit_script report
+
+abbrev pub CausalRefuses : Report → Type 0
+CausalRefuses report = IsRefused causal_table causal_script report
 
 -- The puts have the numbers 0 and 1, and the clocks count one.
 abbrev pub put_numbered_zero : Report
@@ -45,6 +63,10 @@ away_script = record home_script {
     lines = lines.Put 1 (payloads.Add (codes "x")) ∷ lines.Get 1 (Some 1) ∷ lines.Put 1 (payloads.Add (codes "y")) ∷ lines.Get 1 (Some 1) ∷ [];
   } ∷ [];
 }
+
+-- it refuses a report
+abbrev pub AwayRefuses : Report → Type 0
+AwayRefuses report = IsRefused home_table away_script report
 
 -- There the first get, away from home, counts the put that its session makes after it.
 abbrev pub get_of_a_later_put_away : Report
@@ -207,6 +229,10 @@ end_by_another_than_the_last = record {
 --     put a 5
 abbrev pub plain_script : Script
 plain_script = record commit_script { sessions = record { name = codes "s"; level = Committed; lines = lines.Put 1 (payloads.Max 5) ∷ [] } ∷ [] }
+
+-- it refuses a report
+abbrev pub PlainRefuses : Report → Type 0
+PlainRefuses report = IsRefused commit_table plain_script report
 
 -- Its put is held.
 abbrev pub held_outside_a_transaction : Report
