@@ -1,5 +1,5 @@
 -- What a session knows, and how its lines and their answers change it.
-use Rattle.std.specs.Prelude.{ℕ, ◌+◌, max, List, [], ◌∷◌, ◌++◌, Option, Some, None, unwrap_or}
+use Rattle.std.specs.Prelude.{◌≡◌, ℕ, ◌+◌, max, List, [], ◌∷◌, ◌++◌, Option, Some, None, unwrap_or}
 use Rattle.clock_lattice.specs.Clock.{count_of, joined_clocks, one_count}
 use Rattle.clock_lattice.specs.Needs.{clock_at, joined_needs, one_need}
 use Rattle.composed_value.specs.Cell.{PlainCell}
@@ -80,6 +80,10 @@ put_made client knows key payload number lamport place = record {
 abbrev pub next_put : Knows → ℕ → Payload → ℕ → ℕ → puts.Put
 next_put of key payload lamport place = put_made of.client of.knows key payload (own_count of.knows key + 1) lamport place
 
+-- the put is that
+abbrev pub IsNextPut : Knows → ℕ → Payload → ℕ → ℕ → puts.Put → Type 0
+IsNextPut of key payload lamport place put = put ≡ next_put of key payload lamport place
+
 -- what is known once the put is made
 abbrev pub knows_put : Client → Knowledge → ℕ → ℕ → ℕ → Knowledge
 knows_put client knows key number lamport = record {
@@ -129,9 +133,25 @@ knows_shown client knows key shown = record {
   own = knows.own;
 }
 
+-- so for a session with what it knows
+abbrev pub knows_reply : Knows → ℕ → Shown → Knowledge
+knows_reply of key shown = knows_shown of.client of.knows key shown
+
 -- the puts that are held, none where no transaction is begun
 abbrev pub held_puts : State → List (ℕ × Payload)
 held_puts state = unwrap_or state.held []
+
+-- the state once the session has made its next put on a key
+abbrev pub state_put : InState → ℕ → ℕ → State
+state_put session key lamport = record { knows = knows_next (known_of session) key lamport; held = session.state.held }
+
+-- once it holds a put on a key
+abbrev pub state_held : InState → ℕ → Payload → State
+state_held session key payload = record { knows = session.state.knows; held = Some (held_puts session.state ++ (key, payload) ∷ []) }
+
+-- and once a reply has shown it a cell of a key
+abbrev pub state_shown : InState → ℕ → Shown → State
+state_shown session key shown = record { knows = knows_reply (known_of session) key shown; held = session.state.held }
 
 -- the state once the line has its answer
 abbrev pub after : Client → State → Line → Answer → State

@@ -8,7 +8,7 @@ ghost use Rattle.clock_lattice.specs.Needs.{clock_at, joined_needs, one_need};
 ghost use Rattle.composed_value.specs.Kind.{kind_of};
 ghost use Rattle.composed_value.specs.PlainValue.{IsPutOf};
 ghost use Rattle.session_known.specs.Lawful.{last_lamport, required};
-ghost use Rattle.session_known.specs.Session.{nothing_known, own_count, known_raised, needs_by, next_put, knows_next, needs_learned, knows_learned, shown_of, knows_shown};
+ghost use Rattle.session_known.specs.Session.{nothing_known, own_count, known_raised, needs_by, IsNextPut, knows_next, needs_learned, knows_learned, shown_of, knows_reply};
 
 use crate::{Level, Line, Shown};
 use clock_lattice::{Clock, Needs};
@@ -74,7 +74,7 @@ impl Known {
     /// causal session, its causal dependencies. After `NoMemory` what is known is as before.
     pub fn note_reply(&mut self, key: u16, cell: &Cell) -> Result<(), NoMemory>
         ensures client { self.new.client ≡ self.old.client }
-        ensures ok { OnOk result (self.new.knows ≡ knows_shown self.old.client self.old.knows key (shown_of cell.now)) }
+        ensures ok { OnOk result (self.new.knows ≡ knows_reply self.old key (shown_of cell.now)) }
         ensures err { OnErr result (self.new.knows ≡ self.old.knows) }
     {
         let learned = learned(self.level, Some(cell.needs()));
@@ -85,7 +85,7 @@ impl Known {
     /// `NoMemory` what is known is as before.
     pub fn note_shown(&mut self, key: u16, shown: &Shown) -> Result<(), NoMemory>
         ensures client { self.new.client ≡ self.old.client }
-        ensures ok { OnOk result (self.new.knows ≡ knows_shown self.old.client self.old.knows key shown.now) }
+        ensures ok { OnOk result (self.new.knows ≡ knows_reply self.old key shown.now) }
         ensures err { OnErr result (self.new.knows ≡ self.old.knows) }
     {
         let learned = learned(self.level, shown.needs.as_ref());
@@ -171,7 +171,7 @@ impl Known {
         place: u32,
     ) -> Result<Put, NoMemory>
         requires { own_count self.now.knows key + 1 < 2 ^ 64 }
-        ensures put { IfOk result (λ put. put ≡ next_put self.now key payload.now lamport place) }
+        ensures put { IfOk result (IsNextPut self.now key payload.now lamport place) }
         ensures kind { IfOk result (IsPutOf (kind_of payload.now)) }
     {
         let session = self.session();

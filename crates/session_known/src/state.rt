@@ -1,9 +1,9 @@
 //! A session between its lines: what it knows, and what it holds.
-ghost use Rattle.std.specs.Prelude.{◌≡◌, ◌↔◌, ◌+◌, ◌<◌, ◌^◌, [], ◌∷◌, ◌++◌, length, IsTrue, IsFalse, IsSome, IfOk, OnOk, OnErr, Some, None};
+ghost use Rattle.std.specs.Prelude.{◌≡◌, ◌↔◌, ◌+◌, ◌<◌, ◌^◌, [], length, IsTrue, IsFalse, IsSome, IfOk, OnOk, OnErr, Some, None};
 ghost use Rattle.composed_value.specs.Kind.{kind_of};
 ghost use Rattle.composed_value.specs.PlainValue.{IsPutOf};
 ghost use Rattle.session_known.specs.Lawful.{IsLawfulPut, IsLawfulCommit, last_lamport};
-ghost use Rattle.session_known.specs.Session.{known_of, held_puts, knows_next, knows_shown, next_put, own_count, shown_of, start};
+ghost use Rattle.session_known.specs.Session.{known_of, held_puts, IsNextPut, own_count, shown_of, start, state_held, state_put, state_shown};
 
 use crate::{Known, Level, Shown};
 use composed_value::{Cell, Payload, Put};
@@ -120,11 +120,10 @@ impl SessionState {
     ) -> Result<Put, NoMemory>
         requires { own_count self.old.state.knows key + 1 < 2 ^ 64 }
         ensures client { self.new.client ≡ self.old.client }
-        ensures held { self.new.state.held ≡ self.old.state.held }
-        ensures put { IfOk result (λ put. put ≡ next_put (known_of self.old) key payload.now lamport place) }
+        ensures put { IfOk result (IsNextPut (known_of self.old) key payload.now lamport place) }
         ensures kind { IfOk result (IsPutOf (kind_of payload.now)) }
-        ensures ok { OnOk result (self.new.state.knows ≡ knows_next (known_of self.old) key lamport) }
-        ensures err { OnErr result (self.new.state.knows ≡ self.old.state.knows) }
+        ensures ok { OnOk result (self.new.state ≡ state_put self.old key lamport) }
+        ensures err { OnErr result (self.new.state ≡ self.old.state) }
     {
         let put = self.known.put_at(key, payload, lamport, place)?;
         self.known.note_put(key, lamport)?;
@@ -143,9 +142,8 @@ impl SessionState {
     pub fn hold(&mut self, key: u16, payload: &Payload) -> Result<(), NoMemory>
         requires { IsSome self.old.state.held }
         ensures client { self.new.client ≡ self.old.client }
-        ensures knows { self.new.state.knows ≡ self.old.state.knows }
-        ensures ok { OnOk result (self.new.state.held ≡ Some (held_puts self.old.state ++ (key, payload.now) ∷ [])) }
-        ensures err { OnErr result (self.new.state.held ≡ self.old.state.held) }
+        ensures ok { OnOk result (self.new.state ≡ state_held self.old key payload.now) }
+        ensures err { OnErr result (self.new.state ≡ self.old.state) }
     {
         let payload = payload.copy()?;
         match &mut self.held {
@@ -170,9 +168,8 @@ impl SessionState {
     /// Takes in the cell of the key that a reply shows. After `NoMemory` the session is as before.
     pub fn note_reply(&mut self, key: u16, cell: &Cell) -> Result<(), NoMemory>
         ensures client { self.new.client ≡ self.old.client }
-        ensures held { self.new.state.held ≡ self.old.state.held }
-        ensures ok { OnOk result (self.new.state.knows ≡ knows_shown self.old.client self.old.state.knows key (shown_of cell.now)) }
-        ensures err { OnErr result (self.new.state.knows ≡ self.old.state.knows) }
+        ensures ok { OnOk result (self.new.state ≡ state_shown self.old key (shown_of cell.now)) }
+        ensures err { OnErr result (self.new.state ≡ self.old.state) }
     {
         self.known.note_reply(key, cell)
     }
@@ -180,9 +177,8 @@ impl SessionState {
     /// Takes in what a reply has shown of the key. After `NoMemory` the session is as before.
     pub fn note_shown(&mut self, key: u16, shown: &Shown) -> Result<(), NoMemory>
         ensures client { self.new.client ≡ self.old.client }
-        ensures held { self.new.state.held ≡ self.old.state.held }
-        ensures ok { OnOk result (self.new.state.knows ≡ knows_shown self.old.client self.old.state.knows key shown.now) }
-        ensures err { OnErr result (self.new.state.knows ≡ self.old.state.knows) }
+        ensures ok { OnOk result (self.new.state ≡ state_shown self.old key shown.now) }
+        ensures err { OnErr result (self.new.state ≡ self.old.state) }
     {
         self.known.note_shown(key, shown)
     }
