@@ -1,5 +1,6 @@
 -- The accepted puts, key by key.
-use Rattle.std.specs.Prelude.{◌≡◌, ℕ, ◌-◌, List, [], length, map, slice_index_or}
+use Rattle.std.specs.Prelude.{◌≡◌, ℕ, ◌-◌, List, [], ◌++◌, length, map, slice_index_or, Option, Result, OnOk, IfOk, IfNone}
+use Rattle.lattice_laws.specs.declared.lattice.NoMemory.{NoMemory}
 use Rattle.composed_value.specs.Kind.{kind_of}
 use Rattle.composed_value.specs.Put.{IsPayload}
 use Rattle.composed_value.specs.declared.kind.Kind.{Kind}
@@ -32,3 +33,14 @@ pub record MayBePut (kinds : List Kind) (key : ℕ) (payload : Payload) : Type 0
   pub key_is : IsOneOf (length kinds) key
   pub payload_is : IsPayload payload
   pub of_kind : kind_of payload ≡ kind_at kinds key
+
+-- where the answer is Ok, the lists of some accepted puts are those of these after them
+abbrev pub HasAdded : {T : Type 0} → Result T NoMemory → List OfKey → List (ℕ × Put) → List OfKey → Type 0
+HasAdded result by_key more after =
+    (kinds : List Kind) (puts : List (ℕ × Put)) → AreByKey kinds puts by_key → OnOk result (AreByKey kinds (puts ++ more) after)
+
+-- so where it has found nothing
+abbrev pub HasAddedAll : {T : Type 0} → Result (Option T) NoMemory → List OfKey → List (ℕ × Put) → List OfKey → Type 0
+HasAddedAll result by_key more after =
+    (kinds : List Kind) (puts : List (ℕ × Put)) → AreByKey kinds puts by_key
+    → IfOk result (λ found. IfNone found (AreByKey kinds (puts ++ more) after))

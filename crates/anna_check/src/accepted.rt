@@ -4,7 +4,7 @@ ghost use Rattle.composed_value.specs.PlainValue.{IsPutOf};
 ghost use Rattle.composed_value.specs.declared.kind.Kind as of_kind;
 ghost use Rattle.composed_value.specs.declared.put.Put as made;
 ghost use Rattle.session_known.specs.Script.{IsOneOf, kind_at};
-ghost use Rattle.anna_check.specs.ByKey.{AreByKey, of_key, kinds_of};
+ghost use Rattle.anna_check.specs.ByKey.{AreByKey, HasAdded, of_key, kinds_of};
 
 use composed_value::{Kind, Put};
 use lattice_laws::{Items, NoMemory};
@@ -95,7 +95,7 @@ impl Accepted {
         requires key { IsOneOf (length self.old) key }
         requires put { IsPutOf (kind_at (kinds_of self.old) key) put }
         ensures kinds { OnOk result (kinds_of self.new ≡ kinds_of self.old) }
-        ensures puts { (kinds : List of_kind.Kind) (accepted : List (ℕ × made.Put)) → AreByKey kinds accepted self.old → OnOk result (AreByKey kinds (accepted ++ (key, put) ∷ []) self.new) }
+        ensures puts { HasAdded result self.old ((key, put) ∷ []) self.new }
     {
         self.by_key[usize::from(key) - 1].add(put)?;
         Ok(())

@@ -1,15 +1,9 @@
 //! The first answer that says something untrue of the accepted puts, and the first final cell that is
 //! not lawful.
-ghost use Rattle.std.specs.Prelude.{◌≡◌, ◌↔◌, ◌≤◌, ℕ, List, All, IsTrue, IfOk, MatchOption, length};
-ghost use Rattle.std.specs.List.{AllZip};
-ghost use Rattle.composed_value.specs.declared.kind.Kind as of_kind;
-ghost use Rattle.composed_value.specs.declared.put.Put as made;
-ghost use Rattle.session_known.specs.Lawful.{IsSoundReply, CountsAccepted, IsTrueOf};
-ghost use Rattle.session_known.specs.Legal.{IsLawfulFinal};
+ghost use Rattle.std.specs.Prelude.{◌≤◌, length};
 ghost use Rattle.session_known.specs.Script.{IsOneOf};
-ghost use Rattle.anna_check.specs.ByKey.{AreByKey, kinds_of};
-ghost use Rattle.anna_check.specs.AgainstPuts.{StandFor, CanBeShown, CanBeHeldAgainst, CanAllBeHeldAgainst, CanBeFinal};
-ghost use Rattle.anna_check.specs.Unlawful.{IsFirstUntrue, IsFirstUntrueFrom, IsFirstUnlawfulFinal, AreTrueOf};
+ghost use Rattle.anna_check.specs.AgainstPuts.{CanHoldReply, CanHoldAnswer, CanHoldAnswers, CanHoldSessions, CanHoldFinal, CanHoldFinals, StandForTheSame, TellsSound, TellsCounted, TellsTrue, TellsFinal, FindsUntrue, FindsUntrueFrom, FindsUnlawfulFinal};
+ghost use Rattle.anna_check.specs.ByKey.{kinds_of};
 
 use crate::accepted::Accepted;
 use crate::cells::counts_only;
@@ -28,9 +22,9 @@ fn is_sound_reply(
     worker: u16,
     shown: &Shown,
 ) -> Result<bool, NoMemory>
-    requires { (workers : ℕ) × (puts : List (ℕ × made.Put)) × StandFor (kinds_of accepted.now) workers puts accepted.now cells.old × CanBeShown (kinds_of accepted.now) workers key worker shown.now }
-    ensures sound { (kinds : List of_kind.Kind) (workers : ℕ) (puts : List (ℕ × made.Put)) → StandFor kinds workers puts accepted.now cells.old → IfOk result (λ sound. IsTrue sound ↔ IsSoundReply kinds puts key shown.now) }
-    ensures stand { (kinds : List of_kind.Kind) (workers : ℕ) (puts : List (ℕ × made.Put)) → StandFor kinds workers puts accepted.now cells.old → StandFor kinds workers puts accepted.now cells.new }
+    requires { CanHoldReply accepted.now cells.old key worker shown.now }
+    ensures sound { TellsSound accepted.now cells.old key shown.now result }
+    ensures stand { StandForTheSame accepted.now cells.old cells.new }
 {
     let on = accepted.on(key);
     cells.is_sound_reply(alloc, on.kind(), on.puts(), key, worker, shown)
@@ -39,7 +33,7 @@ fn is_sound_reply(
 /// Whether the clock of a key counts no more puts of any session than were accepted.
 fn counts_accepted(accepted: &Accepted, key: u16, clock: &Clock) -> bool
     requires { IsOneOf (length (kinds_of accepted.now)) key }
-    ensures { (kinds : List of_kind.Kind) (puts : List (ℕ × made.Put)) → AreByKey kinds puts accepted.now → IsTrue result ↔ CountsAccepted puts key clock.now }
+    ensures { TellsCounted accepted.now key clock.now result }
 {
     counts_only(clock, accepted.on(key).puts())
 }
@@ -52,9 +46,9 @@ fn is_true_of(
     line: &Line,
     answer: &Answer,
 ) -> Result<bool, NoMemory>
-    requires { (workers : ℕ) × (puts : List (ℕ × made.Put)) × StandFor (kinds_of accepted.now) workers puts accepted.now cells.old × CanBeHeldAgainst (kinds_of accepted.now) workers line.now answer.now }
-    ensures true_of { (kinds : List of_kind.Kind) (workers : ℕ) (puts : List (ℕ × made.Put)) → StandFor kinds workers puts accepted.now cells.old → IfOk result (λ yes. IsTrue yes ↔ IsTrueOf kinds puts line.now answer.now) }
-    ensures stand { (kinds : List of_kind.Kind) (workers : ℕ) (puts : List (ℕ × made.Put)) → StandFor kinds workers puts accepted.now cells.old → StandFor kinds workers puts accepted.now cells.new }
+    requires { CanHoldAnswer accepted.now cells.old line.now answer.now }
+    ensures true_of { TellsTrue accepted.now cells.old line.now answer.now result }
+    ensures stand { StandForTheSame accepted.now cells.old cells.new }
 {
     match (line, answer) {
         (Line::Get { key, .. }, Answer::Got { worker, shown }) => {
@@ -82,9 +76,9 @@ fn first_untrue(
     lines: &[Line],
     answers: &[Answer],
 ) -> Result<Option<u32>, NoMemory>
-    requires { (workers : ℕ) × (puts : List (ℕ × made.Put)) × StandFor (kinds_of accepted.now) workers puts accepted.now cells.old × CanAllBeHeldAgainst (kinds_of accepted.now) workers lines.now answers.now }
-    ensures true_of { (kinds : List of_kind.Kind) (workers : ℕ) (puts : List (ℕ × made.Put)) → StandFor kinds workers puts accepted.now cells.old → IfOk result (λ found. MatchOption found (AllZip (IsTrueOf kinds puts) lines.now answers.now) (IsFirstUntrue kinds puts lines.now answers.now)) }
-    ensures stand { (kinds : List of_kind.Kind) (workers : ℕ) (puts : List (ℕ × made.Put)) → StandFor kinds workers puts accepted.now cells.old → StandFor kinds workers puts accepted.now cells.new }
+    requires { CanHoldAnswers accepted.now cells.old lines.now answers.now }
+    ensures true_of { FindsUntrue accepted.now cells.old lines.now answers.now result }
+    ensures stand { StandForTheSame accepted.now cells.old cells.new }
 {
     for (i, line) in lines.iter().enumerate() {
         if !is_true_of(alloc, accepted, cells, line, &answers[i])? {
@@ -104,9 +98,9 @@ pub(crate) fn find_untrue(
     answers: &[Items<Answer>],
 ) -> Result<Option<(u16, u32)>, NoMemory>
     requires few { length sessions.now ≤ 16 }
-    requires held { (workers : ℕ) × (puts : List (ℕ × made.Put)) × StandFor (kinds_of accepted.now) workers puts accepted.now cells.old × AllZip (λ plan answers. CanAllBeHeldAgainst (kinds_of accepted.now) workers plan.lines answers) sessions.now answers.now }
-    ensures true_of { (kinds : List of_kind.Kind) (workers : ℕ) (puts : List (ℕ × made.Put)) → StandFor kinds workers puts accepted.now cells.old → IfOk result (λ found. MatchOption found (AllZip (AreTrueOf kinds puts) sessions.now answers.now) (λ place. IsFirstUntrueFrom kinds puts 1 sessions.now answers.now place.0 place.1)) }
-    ensures stand { (kinds : List of_kind.Kind) (workers : ℕ) (puts : List (ℕ × made.Put)) → StandFor kinds workers puts accepted.now cells.old → StandFor kinds workers puts accepted.now cells.new }
+    requires held { CanHoldSessions accepted.now cells.old sessions.now answers.now }
+    ensures true_of { FindsUntrueFrom accepted.now cells.old sessions.now answers.now result }
+    ensures stand { StandForTheSame accepted.now cells.old cells.new }
 {
     for (i, plan) in sessions.iter().enumerate() {
         let lines = plan.lines.as_slice();
@@ -127,9 +121,9 @@ fn is_lawful_final(
     cells: &mut ComputedCells,
     last: &FinalCell,
 ) -> Result<bool, NoMemory>
-    requires { (workers : ℕ) × (puts : List (ℕ × made.Put)) × StandFor (kinds_of accepted.now) workers puts accepted.now cells.old × CanBeFinal (kinds_of accepted.now) workers last.now }
-    ensures lawful { (kinds : List of_kind.Kind) (workers : ℕ) (puts : List (ℕ × made.Put)) → StandFor kinds workers puts accepted.now cells.old → IfOk result (λ lawful. IsTrue lawful ↔ IsLawfulFinal kinds puts last.now) }
-    ensures stand { (kinds : List of_kind.Kind) (workers : ℕ) (puts : List (ℕ × made.Put)) → StandFor kinds workers puts accepted.now cells.old → StandFor kinds workers puts accepted.now cells.new }
+    requires { CanHoldFinal accepted.now cells.old last.now }
+    ensures lawful { TellsFinal accepted.now cells.old last.now result }
+    ensures stand { StandForTheSame accepted.now cells.old cells.new }
 {
     let on = accepted.on(last.key);
     cells.is_lawful_final(alloc, on.kind(), on.puts(), last)
@@ -142,8 +136,8 @@ pub(crate) fn find_unlawful_final(
     cells: &mut ComputedCells,
     finals: &[FinalCell],
 ) -> Result<Option<(u16, u16)>, NoMemory>
-    requires { (workers : ℕ) × (puts : List (ℕ × made.Put)) × StandFor (kinds_of accepted.now) workers puts accepted.now cells.old × All (CanBeFinal (kinds_of accepted.now) workers) finals.now }
-    ensures { (kinds : List of_kind.Kind) (workers : ℕ) (puts : List (ℕ × made.Put)) → StandFor kinds workers puts accepted.now cells.old → IfOk result (λ found. MatchOption found (All (IsLawfulFinal kinds puts) finals.now) (λ place. IsFirstUnlawfulFinal kinds puts finals.now place.0 place.1)) }
+    requires { CanHoldFinals accepted.now cells.old finals.now }
+    ensures { FindsUnlawfulFinal accepted.now cells.old finals.now result }
 {
     for last in finals {
         if !is_lawful_final(alloc, accepted, cells, last)? {

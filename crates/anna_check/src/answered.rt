@@ -6,7 +6,7 @@ ghost use Rattle.session_known.specs.Lawful.{IsLawful};
 ghost use Rattle.session_known.specs.Session.{held_puts, knows_put, knows_committed, own_count, put_made, puts_committed, after, puts_by};
 ghost use Rattle.session_known.specs.declared.report.Answer as of_answer;
 ghost use Rattle.session_known.specs.declared.script.Line as of_line;
-ghost use Rattle.anna_check.specs.ByKey.{AreByKey, MayBePut, kinds_of};
+ghost use Rattle.anna_check.specs.ByKey.{HasAdded, MayBePut, kinds_of};
 ghost use Rattle.anna_check.specs.Judged.{MayTake};
 
 use crate::accepted::Accepted;
@@ -31,7 +31,7 @@ fn accept(
     ensures held { session.new.state.held ≡ session.old.state.held }
     ensures knows { OnOk result (session.new.state.knows ≡ knows_put session.old.client session.old.state.knows key (own_count session.old.state.knows key + 1) lamport) }
     ensures kinds { OnOk result (kinds_of accepted.new ≡ kinds_of accepted.old) }
-    ensures puts { (kinds : List of_kind.Kind) (puts : List (ℕ × made.Put)) → AreByKey kinds puts accepted.old → OnOk result (AreByKey kinds (puts ++ (key, put_made session.old.client session.old.state.knows key payload.now (own_count session.old.state.knows key + 1) lamport place) ∷ []) accepted.new) }
+    ensures puts { HasAdded result accepted.old ((key, put_made session.old.client session.old.state.knows key payload.now (own_count session.old.state.knows key + 1) lamport place) ∷ []) accepted.new }
 {
     let put = session.put(key, payload, lamport, place)?;
     accepted.add(key, put)
@@ -51,7 +51,7 @@ fn accept_held(
     ensures held { OnOk result (session.new.state.held ≡ session.old.state.held) }
     ensures knows { OnOk result (session.new.state.knows ≡ knows_committed session.old.client session.old.state.knows lamport held.now) }
     ensures kinds { OnOk result (kinds_of accepted.new ≡ kinds_of accepted.old) }
-    ensures puts { (kinds : List of_kind.Kind) (puts : List (ℕ × made.Put)) → AreByKey kinds puts accepted.old → OnOk result (AreByKey kinds (puts ++ puts_committed session.old.client session.old.state.knows lamport 0 held.now) accepted.new) }
+    ensures puts { HasAdded result accepted.old (puts_committed session.old.client session.old.state.knows lamport 0 held.now) accepted.new }
 {
     for (place, (key, payload)) in held.iter().enumerate() {
         accept(accepted, session, *key, payload, lamport, place as u32)?;
@@ -74,7 +74,7 @@ pub(crate) fn take_in(
     ensures client { session.new.client ≡ session.old.client }
     ensures state { OnOk result (session.new.state ≡ after session.old.client session.old.state line.now answer.now) }
     ensures kinds { OnOk result (kinds_of accepted.new ≡ kinds_of accepted.old) }
-    ensures puts { (kinds : List of_kind.Kind) (puts : List (ℕ × made.Put)) → AreByKey kinds puts accepted.old → OnOk result (AreByKey kinds (puts ++ puts_by session.old.client session.old.state line.now answer.now) accepted.new) }
+    ensures puts { HasAdded result accepted.old (puts_by session.old.client session.old.state line.now answer.now) accepted.new }
 {
     match (line, answer) {
         (Line::Put { key, payload }, Answer::Put { lamport, .. }) => {

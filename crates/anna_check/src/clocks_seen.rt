@@ -3,9 +3,7 @@ ghost use Rattle.std.specs.Prelude.{◌≡◌, ◌++◌, ◌∷◌, [], ℕ, ◌
 ghost use Rattle.clock_lattice.specs.Clock.{covers};
 ghost use Rattle.session_known.specs.Lawful.{had_from};
 ghost use Rattle.session_known.specs.Script.{IsOneOf};
-ghost use Rattle.session_known.specs.declared.report.Answer as of_answer;
-ghost use Rattle.session_known.specs.declared.script.Line as of_line;
-ghost use Rattle.anna_check.specs.ClocksSeen.{AreJoined, clock_from};
+ghost use Rattle.anna_check.specs.ClocksSeen.{AreJoined, HasNoted, HasTakenIn, clock_from};
 ghost use Rattle.anna_check.specs.Judged.{NamesWorker};
 
 use clock_lattice::{Clock, Needs};
@@ -55,7 +53,7 @@ impl ClocksSeen {
     /// Takes in a clock of the key from the worker.
     pub(crate) fn note(&mut self, key: u16, worker: u16, clock: &Clock) -> Result<(), NoMemory>
         requires { IsOneOf (length self.old) worker }
-        ensures { (workers : ℕ) (earlier : List (of_line.Line × of_answer.Answer)) (line : of_line.Line) (answer : of_answer.Answer) → ((its_key by : ℕ) → had_from its_key by (line, answer) ≡ cond ((key == its_key) && (worker == by)) (Some clock.now) None) → AreJoined workers earlier self.old → OnOk result (AreJoined workers (earlier ++ (line, answer) ∷ []) self.new) }
+        ensures { HasNoted result self.old key worker clock.now self.new }
     {
         clock.attest();
         let had = &mut self.by_worker[usize::from(worker) - 1];
@@ -67,7 +65,7 @@ impl ClocksSeen {
     /// Takes in the clock that the line's answer had, if it had one.
     pub(crate) fn take_in(&mut self, line: &Line, answer: &Answer) -> Result<(), NoMemory>
         requires { NamesWorker (length self.old) answer.now }
-        ensures { (workers : ℕ) (earlier : List (of_line.Line × of_answer.Answer)) → AreJoined workers earlier self.old → OnOk result (AreJoined workers (earlier ++ (line.now, answer.now) ∷ []) self.new) }
+        ensures { HasTakenIn result self.old line.now answer.now self.new }
     {
         match clock_had(line, answer) {
             Some((key, worker, clock)) => self.note(key, worker, clock),

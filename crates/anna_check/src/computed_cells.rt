@@ -43,7 +43,11 @@ impl Model for ComputedCells {
 
 impl ComputedCells {
     /// The empty cells of keys of these kinds, each at so many workers.
-    pub(crate) fn new(alloc: Global, kinds: &[Kind], workers: u16) -> Result<ComputedCells, NoMemory>
+    pub(crate) fn new(
+        alloc: Global,
+        kinds: &[Kind],
+        workers: u16,
+    ) -> Result<ComputedCells, NoMemory>
         ensures empty { IfOk result (λ cells. cells ≡ map (λ kind. replicate workers (empty_cell kind)) kinds.now) }
         ensures of_their_puts { (accepted : List (ℕ × made.Put)) → ((session key : ℕ) → AreNext 0 (made_on session key accepted)) → IfOk result (AreOfTheirPuts kinds.now workers accepted) }
     {

@@ -9,7 +9,7 @@ ghost use Rattle.session_known.specs.Lawful.{AreLawful};
 ghost use Rattle.session_known.specs.Legal.{AreLawfulFrom};
 ghost use Rattle.session_known.specs.Script.{IsValidScript};
 ghost use Rattle.session_known.specs.Session.{start, puts_from};
-ghost use Rattle.anna_check.specs.ByKey.{AreByKey, kinds_of};
+ghost use Rattle.anna_check.specs.ByKey.{HasAddedAll, kinds_of};
 ghost use Rattle.anna_check.specs.Judged.{CanBeJudged};
 ghost use Rattle.anna_check.specs.Unlawful.{IsFirstUnlawful, IsFirstUnlawfulFrom};
 
@@ -39,7 +39,7 @@ pub(crate) fn first_unlawful(
     requires judged { CanBeJudged (kinds_of accepted.old) workers lines.now answers.now }
     ensures lawful { IfOk result (λ found. MatchOption found (AreLawful placement.now (record { session = session; level = level }) start [] lines.now answers.now) (IsFirstUnlawful placement.now (record { session = session; level = level }) start [] lines.now answers.now)) }
     ensures kinds { OnOk result (kinds_of accepted.new ≡ kinds_of accepted.old) }
-    ensures puts { (kinds : List of_kind.Kind) (puts : List (ℕ × made.Put)) → AreByKey kinds puts accepted.old → IfOk result (λ found. IfNone found (AreByKey kinds (puts ++ puts_from (record { session = session; level = level }) start lines.now answers.now) accepted.new)) }
+    ensures puts { HasAddedAll result accepted.old (puts_from (record { session = session; level = level }) start lines.now answers.now) accepted.new }
 {
     let mut judged = SessionState::new(alloc, session, level);
     let mut seen = ClocksSeen::new(alloc, workers)?;
@@ -67,7 +67,7 @@ pub(crate) fn find_unlawful(
     requires form { AllZip (λ plan answers. AllZip (Fits script.now plan.level) plan.lines answers) script.now.sessions answers.now }
     requires kinds { kinds_of accepted.old ≡ script.now.kinds }
     ensures lawful { IfOk result (λ found. MatchOption found (AreLawfulFrom placement.now 1 script.now.sessions answers.now) (λ place. IsFirstUnlawfulFrom placement.now 1 script.now.sessions answers.now place.0 place.1)) }
-    ensures puts { (kinds : List of_kind.Kind) (puts : List (ℕ × made.Put)) → AreByKey kinds puts accepted.old → IfOk result (λ found. IfNone found (AreByKey kinds (puts ++ accepted_from 1 script.now.sessions answers.now) accepted.new)) }
+    ensures puts { HasAddedAll result accepted.old (accepted_from 1 script.now.sessions answers.now) accepted.new }
 {
     let workers = script.config.workers;
     for (i, plan) in script.sessions.as_slice().iter().enumerate() {

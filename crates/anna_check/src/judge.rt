@@ -10,9 +10,9 @@ ghost use Rattle.anna_check.specs.AgainstPuts.{CanAllBeHeldAgainst, CanBeFinal};
 ghost use Rattle.anna_check.specs.Unlawful.{IsVerdict, IsVerdictOfPuts};
 
 use crate::accepted::Accepted;
-use crate::inside::find_unlawful;
-use crate::computed_cells::ComputedCells;
 use crate::against_puts::{find_unlawful_final, find_untrue};
+use crate::computed_cells::ComputedCells;
+use crate::inside::find_unlawful;
 use lattice_laws::NoMemory;
 use placement::Placement;
 use session_known::{Report, Script};

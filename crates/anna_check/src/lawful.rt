@@ -1,10 +1,8 @@
 //! Whether an answer is lawful, as far as it is decided inside its session.
-ghost use Rattle.std.specs.Prelude.{◌≡◌, ◌↔◌, ◌≤◌, ◌*◌, ℕ, List, IsTrue, length};
-ghost use Rattle.session_known.specs.Lawful.{MayReply, IsClockFrom, IsLawfulReply, IsLawfulAgain, IsLawful};
+ghost use Rattle.std.specs.Prelude.{◌≡◌, ◌↔◌, ◌≤◌, ◌*◌, IsTrue, length};
+ghost use Rattle.session_known.specs.Lawful.{MayReply};
 ghost use Rattle.session_known.specs.Script.{IsOneOf};
-ghost use Rattle.session_known.specs.declared.report.Answer as of_answer;
-ghost use Rattle.session_known.specs.declared.script.Line as of_line;
-ghost use Rattle.anna_check.specs.ClocksSeen.{AreJoined};
+ghost use Rattle.anna_check.specs.ClocksSeen.{TellsClock, TellsReply, TellsAgain, TellsLawful};
 ghost use Rattle.anna_check.specs.Judged.{NamesKey, NamesWorker};
 
 use crate::clocks_seen::ClocksSeen;
@@ -51,7 +49,7 @@ fn is_clock_from(
     requires session { 1 ≤ known.now.client.session }
     requires key { IsOneOf (length placement.now) key }
     requires worker { IsOneOf (length seen.now) worker }
-    ensures { (workers : ℕ) (earlier : List (of_line.Line × of_answer.Answer)) → AreJoined workers earlier seen.now → IsTrue result ↔ IsClockFrom placement.now known.now.client known.now.knows earlier key worker clock.now }
+    ensures { TellsClock seen.now placement.now known.now key worker clock.now result }
 {
     clock.attest();
     let home = placement.home(known.session(), key);
@@ -73,7 +71,7 @@ fn is_lawful_reply(
     requires session { 1 ≤ known.now.client.session }
     requires key { IsOneOf (length placement.now) key }
     requires worker { IsOneOf (length seen.now) worker }
-    ensures { (workers : ℕ) (earlier : List (of_line.Line × of_answer.Answer)) → AreJoined workers earlier seen.now → IsTrue result ↔ IsLawfulReply placement.now known.now.client known.now.knows earlier line.now key named worker clock.now }
+    ensures { TellsReply seen.now placement.now known.now line.now key named worker clock.now result }
 {
     let may_reply = may_reply(placement, known, key, named, worker);
     let is_clock = is_clock_from(placement, known, seen, key, worker, clock);
@@ -104,7 +102,7 @@ fn is_lawful_again(
     requires session { 1 ≤ known.now.client.session }
     requires key { IsOneOf (length placement.now) key }
     requires worker { IsOneOf (length seen.now) worker }
-    ensures { (workers : ℕ) (earlier : List (of_line.Line × of_answer.Answer)) → AreJoined workers earlier seen.now → IsTrue result ↔ IsLawfulAgain placement.now known.now.client known.now.knows earlier line.now key asks worker clock.now }
+    ensures { TellsAgain seen.now placement.now known.now line.now key asks worker clock.now result }
 {
     let is_causal = known.level() == Level::Causal;
     let is_asked = is_asks_of(asks, placement.replicas(key).len());
@@ -125,7 +123,7 @@ pub(crate) fn is_lawful(
     requires client { 1 ≤ session.now.client.session }
     requires line { NamesKey (length placement.now) line.now }
     requires answer { NamesWorker (length seen.now) answer.now }
-    ensures { (workers : ℕ) (earlier : List (of_line.Line × of_answer.Answer)) → AreJoined workers earlier seen.now → IsTrue result ↔ IsLawful placement.now session.now.client session.now.state earlier line.now answer.now }
+    ensures { TellsLawful seen.now placement.now session.now line.now answer.now result }
 {
     let known = session.known();
     match (line, answer) {
