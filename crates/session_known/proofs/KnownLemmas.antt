@@ -70,7 +70,7 @@ pub first_at_most : (a b : List (ℕ × ℕ)) → CountsAtMost a (joined_clocks 
 first_at_most a b session = joined_grows counts_grow session a b
 
 -- and what the second counts
-second_at_most : (a b : List (ℕ × ℕ)) → IsTrue (is_sorted nat_cmp b) → CountsAtMost b (joined_clocks a b)
+pub second_at_most : (a b : List (ℕ × ℕ)) → IsTrue (is_sorted nat_cmp b) → CountsAtMost b (joined_clocks a b)
 second_at_most a b rises session =
     subst (λ found. count_of session b ≤ unwrap_or found 0) (sym (find-joined_maps max nat_cmp_total session a b rises)) (second_found (find nat_cmp session a) (find nat_cmp session b))
   where
@@ -89,7 +89,7 @@ clocks_grow = record {
 }
 
 -- what is known of a key is still known in a join
-needs_grow : (key : ℕ) (known more : List (ℕ × List (ℕ × ℕ))) → CountsAtMost (clock_at key known) (clock_at key (joined_needs known more))
+pub needs_grow : (key : ℕ) (known more : List (ℕ × List (ℕ × ℕ))) → CountsAtMost (clock_at key known) (clock_at key (joined_needs known more))
 needs_grow key known more = joined_grows clocks_grow key known more
 
 -- a clock joined with what stood there counts at least what the clock counts

@@ -26,6 +26,7 @@ use Rattle.session_known.specs.Session.{Client, State, start, after}
 use Rattle.session_known.specs.declared.report.Answer.{Answer}
 use Rattle.session_known.specs.declared.report.FinalCell.{FinalCell}
 use Rattle.session_known.specs.declared.report.Report.{Report}
+use Rattle.session_known.specs.declared.script.Level.{Level}
 use Rattle.session_known.specs.declared.script.Level.TheVariants.{Causal}
 use Rattle.session_known.specs.declared.script.Line.{Line}
 use Rattle.session_known.specs.declared.script.Script.{Script}
@@ -80,9 +81,9 @@ reply_counts_accepted kinds accepted _ _ _ _ (by_get key named worker shown) tru
 reply_counts_accepted kinds accepted _ _ _ _ (by_await key session count worker shown) true_of = true_of.sound.counts
 
 -- a clock that is shown has the form of one
-shown_is_clock : (script : Script) (line : Line) (answer : Answer) (key : ℕ) (clock : List (ℕ × ℕ)) → Fits script Causal line answer → ShowsAt line answer key clock → IsClock clock
-shown_is_clock script line answer key clock fits (by_get its_key named worker shown) = fits.clock_is.is_clock
-shown_is_clock script line answer key clock fits (by_await its_key session count worker shown) = fits.clock_is.is_clock
+pub shown_is_clock : (script : Script) (level : Level) (line : Line) (answer : Answer) (key : ℕ) (clock : List (ℕ × ℕ)) → Fits script level line answer → ShowsAt line answer key clock → IsClock clock
+shown_is_clock script level line answer key clock fits (by_get its_key named worker shown) = fits.clock_is.is_clock
+shown_is_clock script level line answer key clock fits (by_await its_key session count worker shown) = fits.clock_is.is_clock
 
 -- it is known once it is shown
 known_once_shown : (client : Client) (state : State) (line : Line) (answer : Answer) (key : ℕ) (clock : List (ℕ × ℕ)) → IsClock clock → ShowsAt line answer key clock → CountsAtMost clock (clock_at key (after client state line answer).knows.clocks)
@@ -90,7 +91,7 @@ known_once_shown client state line answer key clock is (by_get its_key named wor
 known_once_shown client state line answer key clock is (by_await its_key session count worker shown) = shown_is_known client state.knows its_key shown is.ascending
 
 -- in a causal session a lawful reply counts at least what is known
-counts_what_is_known : (table : List (List ℕ)) (client : Client) (state : State) (before : List (Line × Answer)) (line : Line) (answer : Answer) (key : ℕ) (clock : List (ℕ × ℕ)) → client.level ≡ Causal → IsLawful table client state before line answer → ShowsAt line answer key clock
+pub counts_what_is_known : (table : List (List ℕ)) (client : Client) (state : State) (before : List (Line × Answer)) (line : Line) (answer : Answer) (key : ℕ) (clock : List (ℕ × ℕ)) → client.level ≡ Causal → IsLawful table client state before line answer → ShowsAt line answer key clock
     → CountsAtMost (clock_at key state.knows.clocks) clock
 counts_what_is_known table client state before line answer key clock causal lawful (by_get its_key named worker shown) =
     let covered : IsTrue (covers shown.clock (clock_at its_key state.knows.clocks)) = subst (λ level. IsTrue (covers shown.clock (required_by_get level state.knows its_key))) causal lawful.covers_required in
@@ -123,7 +124,7 @@ covers_earlier script table client state before (line ∷ lines) [] i j key earl
 covers_earlier script table client state before (line ∷ lines) (answer ∷ answers) i zero key earlier later causal lawful fits is_before within reply_i reply_j = absurd (omega (arith, is_before))
 covers_earlier script table client state before (line ∷ lines) (answer ∷ answers) zero (suc j) key earlier later causal lawful fits is_before within reply_i reply_j =
     let shows : ShowsAt line answer key earlier = subst₂ (λ l a. ShowsAt l a key earlier) reply_i.line_is reply_i.answer_is reply_i.shows in
-    let is_clock = shown_is_clock script line answer key earlier fits.0 shows in
+    let is_clock = shown_is_clock script Causal line answer key earlier fits.0 shows in
     let known = known_once_shown client state line answer key earlier is_clock shows in
     let rest : IsReplyAt lines answers j key later = record { line = reply_j.line; answer = reply_j.answer; line_is = reply_j.line_is; answer_is = reply_j.answer_is; shows = reply_j.shows } in
     let counted = counts_what_was_known table client (after client state line answer) (before ++ (line, answer) ∷ []) lines answers j key later causal lawful.1 (omega (arith, within)) rest in

@@ -1,5 +1,6 @@
 pub mod Accepted
 pub mod Form
+pub mod Later
 pub mod Lawful
 pub mod Laws
 pub mod Legal

@@ -1,5 +1,6 @@
 //! What legal reports have in common, as laws: each function does nothing and carries its law.
 ghost use Rattle.session_known.specs.Laws.{AcceptedAreNumbered, FinalsOfKeysAgree, RepliesCountAccepted, LaterRepliesCover};
+ghost use Rattle.session_known.specs.Later.{AnsweredSession, ShownNeedsAreCoveredLater, PutsOvertakeShownClocks, PutsOvertakeCoveredVersions};
 
 /// Where all sessions are answered lawfully, the accepted puts of each session on each key are
 /// numbered 1, 2 and so on, each once.
@@ -21,4 +22,19 @@ pub fn replies_count_accepted_puts()
 /// key is unseen again.
 pub fn causal_replies_cover_earlier_ones()
     ensures { LaterRepliesCover }
+{}
+
+/// In a causal session a later reply on a key covers what the causal dependencies that an earlier reply
+/// shows have of the key: what a shown put depends on is not unseen again.
+pub fn shown_needs_are_covered_later()
+    ensures { (session : AnsweredSession) → ShownNeedsAreCoveredLater session }
+{}
+
+/// In a session of any level a put has seen strictly more than each clock of its key that an earlier
+/// reply shows, and so than each version whose clock that clock covers: of kind versions, it overtakes
+/// them. A version that was shown is not always overtaken, since its own clock may count more than the
+/// clock of the reply does in a session that is not causal.
+pub fn puts_overtake_what_was_shown()
+    ensures clocks { (session : AnsweredSession) → PutsOvertakeShownClocks session }
+    ensures versions { (session : AnsweredSession) → PutsOvertakeCoveredVersions session }
 {}
