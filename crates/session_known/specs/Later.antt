@@ -6,7 +6,7 @@ use Rattle.clock_lattice.specs.Needs.{clock_at}
 use Rattle.composed_value.specs.declared.put.Put as puts
 use Rattle.session_known.specs.Form.{Fits}
 use Rattle.session_known.specs.Lawful.{ShowsAt, AreLawful}
-use Rattle.session_known.specs.Session.{Client, State, start, puts_by, state_behind}
+use Rattle.session_known.specs.Session.{Client, State, start, puts_by, state_after}
 use Rattle.session_known.specs.declared.report.Answer.{Answer}
 use Rattle.session_known.specs.declared.report.Answer.TheVariants as answers
 use Rattle.session_known.specs.declared.report.Shown.{Shown}
@@ -39,7 +39,7 @@ pub data ShowsNeeds : Line → Answer → List (ℕ × List (ℕ × ℕ)) → Ty
 
 -- the state before the line at a place
 abbrev pub state_before : Client → State → List Line → List Answer → ℕ → State
-state_before client state lines answers place = state_behind client state (take place lines) (take place answers)
+state_before client state lines answers place = state_after client state (take place lines) (take place answers)
 
 -- the answer at a place shows these needs
 pub record ShowsNeedsIn (session : AnsweredSession) (place : ℕ) (needs : List (ℕ × List (ℕ × ℕ))) : Type 0 where

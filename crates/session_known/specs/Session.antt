@@ -175,3 +175,8 @@ puts_by client state line answer = []
 abbrev pub puts_from : Client → State → List Line → List Answer → List (ℕ × puts.Put)
 puts_from client state (line ∷ lines) (answer ∷ answers) = puts_by client state line answer ++ puts_from client (after client state line answer) lines answers
 puts_from client state lines answers = []
+
+-- the state after all its lines
+abbrev pub state_after : Client → State → List Line → List Answer → State
+state_after client state (line ∷ lines) (answer ∷ answers) = state_after client (after client state line answer) lines answers
+state_after client state lines answers = state

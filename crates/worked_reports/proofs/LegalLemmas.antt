@@ -1,18 +1,21 @@
 -- The worked reports are legal.
-use Rattle.std.specs.Prelude.{◌≡◌, ◌≢◌, ℕ, ◌<◌, ◌≤◌, ◌^◌, ◌==◌, cond, IsTrue, List, [], ◌∷◌, length, map, All, unwrap_or, Some, None, codes}
+use Rattle.std.specs.Prelude.{◌≡◌, ◌≢◌, ℕ, ◌<◌, ◌≤◌, ◌^◌, ◌==◌, cond, IsTrue, List, [], ◌∷◌, length, map, All, unwrap_or, Some, codes}
 use Rattle.std.specs.Cmp.{unsigned_tied}
+use Rattle.std.specs.FinMap.{find}
 use Rattle.std.specs.List.{AllByRecursion}
+use Rattle.std.specs.Ordering.{nat_cmp}
 use Rattle.std.proofs.Common.{refl, sym, ap, subst, ◌∙◌, inl, inr, arith, lit<, lit≤}
 use Rattle.std.proofs.lemmas.Bool.Decides.{eqb_tells}
 use Rattle.std.proofs.lemmas.List.Elements.{All-from_recursion, All-nil, All-cons}
 use Rattle.std.proofs.lemmas.List.Sums.{AllPass-from_list_all}
+use Rattle.lattice_laws.specs.Entries.{IsEntry}
 use Rattle.lattice_laws.specs.Greatest.{IsGreatestOrZero}
 use Rattle.lattice_laws.specs.Spelling.{is_spelling_byte}
 use Rattle.lattice_laws.specs.declared.maybe.Maybe.TheVariants.{Is}
 use Rattle.basic_lattices.specs.Stamped.{IsStamped}
 use Rattle.basic_lattices.specs.TextSet.{IsTextSet}
 use Rattle.basic_lattices.specs.Word.{IsWord}
-use Rattle.clock_lattice.specs.Clock.{IsClock, count_of, one_count, covers}
+use Rattle.clock_lattice.specs.Clock.{IsCount, IsClock, count_of, one_count, covers}
 use Rattle.clock_lattice.specs.ClockLaws.{one_count_is_clock, one_count_entry}
 use Rattle.clock_lattice.specs.Needs.{IsNeeds}
 use Rattle.clock_lattice.specs.NeedsLaws.{empty_are_needs, needs_laws, one_need_is_needs}
@@ -48,7 +51,17 @@ one_session_in script session n is_one session_fits some fits = record {
   sessions = All-cons (λ entry. IsOneOf (length script.sessions) entry.0) (session, n) [] is_one (All-nil (λ entry. IsOneOf (length script.sessions) entry.0));
 }
 
--- a put whose numbers fit
+-- so is one that counts some of each of the first two sessions
+pub two_sessions_in : (script : Script) (m n : ℕ) → 2 ≤ length script.sessions → 0 < m → m < 2 ^ 64 → 0 < n → n < 2 ^ 64 → IsClockIn script ((1, m) ∷ (2, n) ∷ [])
+two_sessions_in script m n two some_m fits_m some_n fits_n = record {
+  is_clock = record {
+    ascending = refl;
+    are_entries = All-from_recursion (IsEntry (λ session. session < 2 ^ 16) IsCount) ((1, m) ∷ (2, n) ∷ []) ((lit< tt, (some_m, fits_m)), ((lit< tt, (some_n, fits_n)), tt));
+  };
+  sessions = All-from_recursion (λ entry. IsOneOf (length script.sessions) entry.0) ((1, m) ∷ (2, n) ∷ []) ((lit≤ tt, omega (arith, two)), ((lit≤ tt, two), tt));
+}
+
+-- a put whose numbers fit, and that has seen its own session's puts alone
 pub put_of : (kind : Kind) (session number lamport place : ℕ) (needs : List (ℕ × List (ℕ × ℕ))) (payload : Payload) → session < 2 ^ 16 → 0 < number → number < 2 ^ 64 → lamport < 2 ^ 64 → place < 2 ^ 32 → IsNeeds needs → IsPayload payload → kind_of payload ≡ kind
     → IsPutOf kind (record { session = session; number = number; lamport = lamport; place = place; seen = one_count session number; needs = needs; payload = payload })
 put_of kind session number lamport place needs payload session_fits some number_fits lamport_fits place_fits are is of_kind = record {
@@ -65,38 +78,38 @@ put_of kind session number lamport place needs payload session_fits some number_
   of_kind = of_kind;
 }
 
--- a clock of one session counts of no session more puts than there are, where it does not of this one
-pub one_session_counts : (puts : List Put) (session n : ℕ) → n ≤ length (puts_of_session session puts) → (q : ℕ) → count_of q ((session, n) ∷ []) ≤ length (puts_of_session q puts)
-one_session_counts puts session n within q =
-    let count : count_of q ((session, n) ∷ []) ≡ unwrap_or (cond (q == session) (Some n) None) 0 = ap (λ ties. unwrap_or (cond ties (Some n) None) 0) (unsigned_tied q session) in
-    elim (eqb_tells q session) [
+-- a clock counts of no session more puts than there are, where it does not of those that stand in it
+pub counts_within : (puts : List Put) (clock : List (ℕ × ℕ)) → AllByRecursion (λ entry. entry.1 ≤ length (puts_of_session entry.0 puts)) clock → (q : ℕ) → count_of q clock ≤ length (puts_of_session q puts)
+counts_within puts [] within q = omega arith
+counts_within puts (entry ∷ clock) within q =
+    let count : count_of q (entry ∷ clock) ≡ unwrap_or (cond (q == entry.0) (Some entry.1) (find nat_cmp q clock)) 0 = ap (λ ties. unwrap_or (cond ties (Some entry.1) (find nat_cmp q clock)) 0) (unsigned_tied q entry.0) in
+    elim (eqb_tells q entry.0) [
       | inl same ↦
-          let counts : count_of q ((session, n) ∷ []) ≡ n = count ∙ ap (λ ties. unwrap_or (cond ties (Some n) None) 0) same.0 in
-          subst (λ s. count_of q ((session, n) ∷ []) ≤ length (puts_of_session s puts)) (sym same.1) (omega (arith, counts, within))
+          let counts : count_of q (entry ∷ clock) ≡ entry.1 = count ∙ ap (λ ties. unwrap_or (cond ties (Some entry.1) (find nat_cmp q clock)) 0) same.0 in
+          subst (λ s. count_of q (entry ∷ clock) ≤ length (puts_of_session s puts)) (sym same.1) (omega (arith, counts, within.0))
       | inr other ↦
-          let none : count_of q ((session, n) ∷ []) ≡ 0 = count ∙ ap (λ ties. unwrap_or (cond ties (Some n) None) 0) other.0 in
-          omega (arith, none)
+          let counts : count_of q (entry ∷ clock) ≡ count_of q clock = count ∙ ap (λ ties. unwrap_or (cond ties (Some entry.1) (find nat_cmp q clock)) 0) other.0 in
+          omega (arith, counts, counts_within puts clock within.1 q)
     ]
 
--- a clock of one session, a top and a value are sound where the cell of the counted puts has this top and value
-pub sound_by_cell : (kind : Kind) (all : List Put) (session n top : ℕ) (value : Value) → AllByRecursion (IsPutOf kind) (counted all ((session, n) ∷ [])) → n ≤ length (puts_of_session session all)
-    → (cell_of kind (counted all ((session, n) ∷ []))).top ≡ top → (cell_of kind (counted all ((session, n) ∷ []))).value ≡ value → IsSound kind all ((session, n) ∷ []) top value
-sound_by_cell kind all session n top value each within top_is value_is =
-    let puts : List Put = counted all ((session, n) ∷ []) in
+-- a clock, a top and a value are sound where the cell of the counted puts has this top and value
+pub sound_by_cell : (kind : Kind) (all : List Put) (clock : List (ℕ × ℕ)) (top : ℕ) (value : Value) → AllByRecursion (IsPutOf kind) (counted all clock) → AllByRecursion (λ entry. entry.1 ≤ length (puts_of_session entry.0 all)) clock
+    → (cell_of kind (counted all clock)).top ≡ top → (cell_of kind (counted all clock)).value ≡ value → IsSound kind all clock top value
+sound_by_cell kind all clock top value each within top_is value_is =
+    let puts : List Put = counted all clock in
     let of_puts = (cell_of_is_cell kind puts (All-from_recursion (IsPutOf kind) puts each)).1 in
     record {
-      counts = one_session_counts all session n within;
+      counts = counts_within all clock within;
       value_is = subst (IsValueOf kind puts) value_is of_puts.value;
       top_is = subst (IsGreatestOrZero (map (λ put. put.lamport) puts)) top_is of_puts.top;
     }
 
 -- so are its needs, where the cell has these
-pub needs_by_cell : (kind : Kind) (all : List Put) (session n : ℕ) (needs : List (ℕ × List (ℕ × ℕ))) → AllByRecursion (IsPutOf kind) (counted all ((session, n) ∷ []))
-    → (cell_of kind (counted all ((session, n) ∷ []))).needs ≡ needs → AreSoundNeeds all ((session, n) ∷ []) needs
-needs_by_cell kind all session n needs each needs_are =
-    let puts : List Put = counted all ((session, n) ∷ []) in
+pub needs_by_cell : (kind : Kind) (all : List Put) (clock : List (ℕ × ℕ)) (needs : List (ℕ × List (ℕ × ℕ))) → AllByRecursion (IsPutOf kind) (counted all clock) → (cell_of kind (counted all clock)).needs ≡ needs → AreSoundNeeds all clock needs
+needs_by_cell kind all clock needs each needs_are =
+    let puts : List Put = counted all clock in
     let of_puts = (cell_of_is_cell kind puts (All-from_recursion (IsPutOf kind) puts each)).1 in
-    subst (AreSoundNeeds all ((session, n) ∷ [])) needs_are of_puts.needs
+    subst (AreSoundNeeds all clock) needs_are of_puts.needs
 
 -- The first report: its puts.
 first_puts : AllByRecursion (IsPutOf kinds.Max) (counted (puts_on 1 (accepted first_script first_report)) ((1, 2) ∷ []))
@@ -114,7 +127,7 @@ first_clock = one_session_in first_script 1 2 (lit≤ tt, lit≤ tt) (lit< tt) (
 
 -- and what stands beside it
 first_sound : IsSound kinds.Max (puts_on 1 (accepted first_script first_report)) ((1, 2) ∷ []) 2 (values.Max (Is 5))
-first_sound = sound_by_cell kinds.Max (puts_on 1 (accepted first_script first_report)) 1 2 2 (values.Max (Is 5)) first_puts (lit≤ tt) refl refl
+first_sound = sound_by_cell kinds.Max (puts_on 1 (accepted first_script first_report)) ((1, 2) ∷ []) 2 (values.Max (Is 5)) first_puts (lit≤ tt, tt) refl refl
 
 -- the report of the first run is legal
 pub first_is_legal : IsLegalAt first_table first_script first_report
@@ -150,10 +163,10 @@ first_is_legal = record {
 }
 
 -- the words that are put
-x_is_word : IsWord (codes "x")
+pub x_is_word : IsWord (codes "x")
 x_is_word = record { some = lit≤ tt; short = lit≤ tt; allowed = AllPass-from_list_all is_spelling_byte (codes "x") refl }
 
-y_is_word : IsWord (codes "y")
+pub y_is_word : IsWord (codes "y")
 y_is_word = record { some = lit≤ tt; short = lit≤ tt; allowed = AllPass-from_list_all is_spelling_byte (codes "y") refl }
 
 red_is_word : IsWord (codes "red")
@@ -188,10 +201,10 @@ home_set_both = record { ascending = refl; are_members = All-from_recursion IsWo
 
 -- they hold what their clocks count
 home_sound_one : IsSound kinds.Set (puts_on 1 (accepted home_script home_report)) ((1, 1) ∷ []) 1 (values.Set (codes "x" ∷ []))
-home_sound_one = sound_by_cell kinds.Set (puts_on 1 (accepted home_script home_report)) 1 1 1 (values.Set (codes "x" ∷ [])) home_put_one (lit≤ tt) refl refl
+home_sound_one = sound_by_cell kinds.Set (puts_on 1 (accepted home_script home_report)) ((1, 1) ∷ []) 1 (values.Set (codes "x" ∷ [])) home_put_one (lit≤ tt, tt) refl refl
 
 home_sound_both : IsSound kinds.Set (puts_on 1 (accepted home_script home_report)) ((1, 2) ∷ []) 2 (values.Set (codes "x" ∷ codes "y" ∷ []))
-home_sound_both = sound_by_cell kinds.Set (puts_on 1 (accepted home_script home_report)) 1 2 2 (values.Set (codes "x" ∷ codes "y" ∷ [])) home_puts_both (lit≤ tt) refl refl
+home_sound_both = sound_by_cell kinds.Set (puts_on 1 (accepted home_script home_report)) ((1, 2) ∷ []) 2 (values.Set (codes "x" ∷ codes "y" ∷ [])) home_puts_both (lit≤ tt, tt) refl refl
 
 -- the second counts all puts
 home_counts_all : All (λ (put : Put). put.number ≤ count_of put.session ((1, 2) ∷ [])) (puts_on 1 (accepted home_script home_report))
@@ -279,10 +292,10 @@ red_is_stamped = record { number_fits = lit< tt; session_fits = lit< tt; place_f
 
 -- the cells hold what their clocks count
 commit_sound_a : IsSound kinds.Max (puts_on 1 (accepted commit_script commit_report)) ((1, 1) ∷ []) 1 (values.Max (Is 5))
-commit_sound_a = sound_by_cell kinds.Max (puts_on 1 (accepted commit_script commit_report)) 1 1 1 (values.Max (Is 5)) commit_put_a (lit≤ tt) refl refl
+commit_sound_a = sound_by_cell kinds.Max (puts_on 1 (accepted commit_script commit_report)) ((1, 1) ∷ []) 1 (values.Max (Is 5)) commit_put_a (lit≤ tt, tt) refl refl
 
 commit_sound_l : IsSound kinds.Last (puts_on 2 (accepted commit_script commit_report)) ((1, 1) ∷ []) 1 (values.Last (Is red))
-commit_sound_l = sound_by_cell kinds.Last (puts_on 2 (accepted commit_script commit_report)) 1 1 1 (values.Last (Is red)) commit_put_l (lit≤ tt) refl refl
+commit_sound_l = sound_by_cell kinds.Last (puts_on 2 (accepted commit_script commit_report)) ((1, 1) ∷ []) 1 (values.Last (Is red)) commit_put_l (lit≤ tt, tt) refl refl
 
 -- the report of the transactions is legal
 pub commit_is_legal : IsLegalAt commit_table commit_script commit_report
@@ -375,7 +388,7 @@ commit_is_legal = record {
 }
 
 -- The fourth report: what its puts need.
-needs_a : IsNeeds ((1, (1, 1) ∷ []) ∷ [])
+pub needs_a : IsNeeds ((1, (1, 1) ∷ []) ∷ [])
 needs_a = one_need_is_needs 1 ((1, 1) ∷ []) (lit< tt) (one_count_is_clock 1 1 (lit< tt) (lit< tt))
 
 needs_a_and_b : IsNeeds ((1, (1, 1) ∷ []) ∷ (2, (2, 1) ∷ []) ∷ [])
@@ -424,13 +437,13 @@ causal_needs_b = record {
 
 -- they hold what their clocks count
 causal_sound_a : IsSound kinds.Max (puts_on 1 (accepted causal_script causal_report)) ((1, 1) ∷ []) 1 (values.Max (Is 1))
-causal_sound_a = sound_by_cell kinds.Max (puts_on 1 (accepted causal_script causal_report)) 1 1 1 (values.Max (Is 1)) causal_put_a (lit≤ tt) refl refl
+causal_sound_a = sound_by_cell kinds.Max (puts_on 1 (accepted causal_script causal_report)) ((1, 1) ∷ []) 1 (values.Max (Is 1)) causal_put_a (lit≤ tt, tt) refl refl
 
 causal_sound_a_both : IsSound kinds.Max (puts_on 1 (accepted causal_script causal_report)) ((1, 2) ∷ []) 3 (values.Max (Is 2))
-causal_sound_a_both = sound_by_cell kinds.Max (puts_on 1 (accepted causal_script causal_report)) 1 2 3 (values.Max (Is 2)) causal_puts_a (lit≤ tt) refl refl
+causal_sound_a_both = sound_by_cell kinds.Max (puts_on 1 (accepted causal_script causal_report)) ((1, 2) ∷ []) 3 (values.Max (Is 2)) causal_puts_a (lit≤ tt, tt) refl refl
 
 causal_sound_b : IsSound kinds.Max (puts_on 2 (accepted causal_script causal_report)) ((2, 1) ∷ []) 2 (values.Max (Is 7))
-causal_sound_b = sound_by_cell kinds.Max (puts_on 2 (accepted causal_script causal_report)) 2 1 2 (values.Max (Is 7)) causal_put_b (lit≤ tt) refl refl
+causal_sound_b = sound_by_cell kinds.Max (puts_on 2 (accepted causal_script causal_report)) ((2, 1) ∷ []) 2 (values.Max (Is 7)) causal_put_b (lit≤ tt, tt) refl refl
 
 -- the report of the causal sessions is legal
 pub causal_is_legal : IsLegalAt causal_table causal_script causal_report
@@ -494,9 +507,9 @@ causal_is_legal = record {
     ),
   );
   true_of_puts = (
-    (tt, (record { sound = causal_sound_b; needs = needs_by_cell kinds.Max (puts_on 2 (accepted causal_script causal_report)) 2 1 ((1, (1, 1) ∷ []) ∷ []) causal_put_b refl }, (tt, tt))),
+    (tt, (record { sound = causal_sound_b; needs = needs_by_cell kinds.Max (puts_on 2 (accepted causal_script causal_report)) ((2, 1) ∷ []) ((1, (1, 1) ∷ []) ∷ []) causal_put_b refl }, (tt, tt))),
     (
-      (record { sound = causal_sound_a; needs = needs_by_cell kinds.Max (puts_on 1 (accepted causal_script causal_report)) 1 1 [] causal_put_a refl }, (tt, tt)),
+      (record { sound = causal_sound_a; needs = needs_by_cell kinds.Max (puts_on 1 (accepted causal_script causal_report)) ((1, 1) ∷ []) [] causal_put_a refl }, (tt, tt)),
       tt,
     ),
   );

@@ -50,33 +50,33 @@ pub causal_placed : (table : List (List ℕ)) → IsPlacement causal_script.conf
 causal_placed table placed = placed.replicas
 
 -- what holds of each element and each later one, by recursion on the list
-abbrev AllPairsByRecursion : {X : Type 0} → (X → X → Type 0) → List X → Type 0
+abbrev pub AllPairsByRecursion : {X : Type 0} → (X → X → Type 0) → List X → Type 0
 AllPairsByRecursion R [] = ⊤
 AllPairsByRecursion R (x ∷ xs) = AllByRecursion (R x) xs × AllPairsByRecursion R xs
 
 -- is what holds of all pairs
-AllPairs-from_recursion : {X : Type 0} (R : X → X → Type 0) (xs : List X) → AllPairsByRecursion R xs → AllPairs R xs
+pub AllPairs-from_recursion : {X : Type 0} (R : X → X → Type 0) (xs : List X) → AllPairsByRecursion R xs → AllPairs R xs
 AllPairs-from_recursion R [] holds = λ i j d below within. absurd (omega (arith, within))
 AllPairs-from_recursion R (x ∷ xs) holds = AllPairs-cons R x xs (All-from_recursion (R x) xs holds.0) (AllPairs-from_recursion R xs holds.1)
 
 -- different workers are lawful pins
-pins_are : (workers : ℕ) (pins : List ℕ) → AllByRecursion (IsWorker workers) pins → AllPairsByRecursion (λ a b. a ≢ b) pins → ArePins workers pins
+pub pins_are : (workers : ℕ) (pins : List ℕ) → AllByRecursion (IsWorker workers) pins → AllPairsByRecursion (λ a b. a ≢ b) pins → ArePins workers pins
 pins_are workers pins are different = record { are_workers = All-from_recursion (IsWorker workers) pins are; different = AllPairs-from_recursion (λ a b. a ≢ b) pins different }
 
 -- names that differ in their first byte differ
-names_differ : (name other : List ℕ) → slice_index_or name 0 0 ≢ slice_index_or other 0 0 → name ≢ other
+pub names_differ : (name other : List ℕ) → slice_index_or name 0 0 ≢ slice_index_or other 0 0 → name ≢ other
 names_differ name other apart same = apart (ap (λ (bytes : List ℕ). slice_index_or bytes 0 0) same)
 
 -- allowed bytes are a name, where they are few enough
-name : (bytes : List ℕ) → list_all is_spelling_byte bytes ≡ true → 1 ≤ length bytes → length bytes ≤ 32 → IsName bytes
+pub name : (bytes : List ℕ) → list_all is_spelling_byte bytes ≡ true → 1 ≤ length bytes → length bytes ≤ 32 → IsName bytes
 name bytes allowed some few = record { some = some; short = few; allowed = AllPass-from_list_all is_spelling_byte bytes allowed }
 
 -- and so a word
-word : (bytes : List ℕ) → list_all is_spelling_byte bytes ≡ true → 1 ≤ length bytes → length bytes ≤ 64 → IsWord bytes
+pub word : (bytes : List ℕ) → list_all is_spelling_byte bytes ≡ true → 1 ≤ length bytes → length bytes ≤ 64 → IsWord bytes
 word bytes allowed some few = record { some = some; short = few; allowed = AllPass-from_list_all is_spelling_byte bytes allowed }
 
 -- a session whose lines may stand and whose transactions are ended
-session_is_valid : (script : Script) (table : List (List ℕ)) {plan : SessionPlan} → AllByRecursion (MayStand script table plan.level) plan.lines → AreEnded false plan.lines → IsValidSession script table plan
+pub session_is_valid : (script : Script) (table : List (List ℕ)) {plan : SessionPlan} → AllByRecursion (MayStand script table plan.level) plan.lines → AreEnded false plan.lines → IsValidSession script table plan
 session_is_valid script table {plan} stand ended = record { lines = All-from_recursion (MayStand script table plan.level) plan.lines stand; transactions = ended }
 
 -- The first script is valid.

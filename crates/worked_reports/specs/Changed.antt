@@ -1,32 +1,38 @@
 -- Reports that differ from the worked ones in one thing each.
-use Rattle.std.specs.Prelude.{ℕ, List, true, [], ◌∷◌, Some, None, codes}
+use Rattle.std.specs.Prelude.{true, ℕ, List, [], ◌∷◌, Some, None, codes}
 use Rattle.lattice_laws.specs.declared.maybe.Maybe.TheVariants.{Is, Bottom}
 use Rattle.composed_value.specs.declared.payload.Payload.TheVariants as payloads
 use Rattle.composed_value.specs.declared.value.Value.TheVariants as values
-use Rattle.worked_reports.specs.Worked.{first_report, first_cell, first_final, home_script, home_report, home_cell_one, home_cell_both, home_final, commit_script, commit_report, red, commit_cell, commit_final_a, commit_final_l, causal_report, causal_cell_a, causal_cell_b, causal_final_a, causal_final_b, first_script, first_table, home_table, commit_table, causal_script, causal_table}
-use Rattle.session_known.specs.Legal.{IsLegalAt}
+use Rattle.worked_reports.specs.Worked.{first_script, first_table, first_report, first_cell, first_final, home_script, home_table, home_report, home_cell_one, home_cell_both, home_final, commit_script, commit_table, commit_report, red, commit_cell, commit_final_a, commit_final_l, causal_script, causal_table, causal_report, causal_cell_a, causal_cell_b, causal_final_a, causal_final_b, keys_script, keys_report, keys_cell_a, keys_cell_l, keys_final_l, versions_script, versions_report, versions_final, version_x, apart_script, apart_table, apart_report, apart_cell_b}
 use Rattle.session_known.specs.declared.report.Answer.TheVariants as answers
 use Rattle.session_known.specs.declared.report.Report.{Report}
 use Rattle.session_known.specs.declared.script.Level.TheVariants.{Eventual, Committed}
 use Rattle.session_known.specs.declared.script.Line.TheVariants as lines
+use Rattle.session_known.specs.Legal.{IsLegalAt}
+use Rattle.session_known.specs.Script.{IsValidScript}
 use Rattle.session_known.specs.declared.script.Script.{Script}
 
--- the report is not legal for the script, where its keys live so
-abbrev IsRefused : List (List ℕ) → Script → Report → Type 0
-IsRefused table script report = IsLegalAt table script report → ⊥
-
--- so for each of the worked scripts
+-- The report is not legal of the worked script, where the script's keys live.
 abbrev pub FirstRefuses : Report → Type 0
-FirstRefuses report = IsRefused first_table first_script report
+FirstRefuses report = IsLegalAt first_table first_script report → ⊥
 
 abbrev pub HomeRefuses : Report → Type 0
-HomeRefuses report = IsRefused home_table home_script report
+HomeRefuses report = IsLegalAt home_table home_script report → ⊥
 
 abbrev pub CommitRefuses : Report → Type 0
-CommitRefuses report = IsRefused commit_table commit_script report
+CommitRefuses report = IsLegalAt commit_table commit_script report → ⊥
 
 abbrev pub CausalRefuses : Report → Type 0
-CausalRefuses report = IsRefused causal_table causal_script report
+CausalRefuses report = IsLegalAt causal_table causal_script report → ⊥
+
+abbrev pub KeysRefuses : Report → Type 0
+KeysRefuses report = IsLegalAt commit_table keys_script report → ⊥
+
+abbrev pub VersionsRefuses : Report → Type 0
+VersionsRefuses report = IsLegalAt first_table versions_script report → ⊥
+
+abbrev pub ApartRefuses : Report → Type 0
+ApartRefuses report = IsLegalAt apart_table apart_script report → ⊥
 
 -- The puts have the numbers 0 and 1, and the clocks count one.
 abbrev pub put_numbered_zero : Report
@@ -64,9 +70,8 @@ away_script = record home_script {
   } ∷ [];
 }
 
--- it refuses a report
 abbrev pub AwayRefuses : Report → Type 0
-AwayRefuses report = IsRefused home_table away_script report
+AwayRefuses report = IsLegalAt home_table away_script report → ⊥
 
 -- There the first get, away from home, counts the put that its session makes after it.
 abbrev pub get_of_a_later_put_away : Report
@@ -230,9 +235,8 @@ end_by_another_than_the_last = record {
 abbrev pub plain_script : Script
 plain_script = record commit_script { sessions = record { name = codes "s"; level = Committed; lines = lines.Put 1 (payloads.Max 5) ∷ [] } ∷ [] }
 
--- it refuses a report
 abbrev pub PlainRefuses : Report → Type 0
-PlainRefuses report = IsRefused commit_table plain_script report
+PlainRefuses report = IsLegalAt commit_table plain_script report → ⊥
 
 -- Its put is held.
 abbrev pub held_outside_a_transaction : Report
@@ -240,3 +244,67 @@ held_outside_a_transaction = record {
   answers = (answers.Held ∷ []) ∷ [];
   finals = record commit_final_a { clock = []; top = 0; value = values.Max Bottom } ∷ record commit_final_l { clock = []; top = 0; value = values.Last Bottom } ∷ [];
 }
+
+-- The await of t's put shows no needs at all.
+abbrev pub causal_reply_without_needs : Report
+causal_reply_without_needs = record causal_report {
+  answers =
+      (answers.Put 1 1 ∷ answers.Got 2 (record causal_cell_b { needs = None }) ∷ answers.Put 2 3 ∷ [])
+      ∷ (answers.Got 1 causal_cell_a ∷ answers.Put 1 2 ∷ []) ∷ [];
+}
+
+-- The version of t has seen its own put alone, so that the final cell pairs it with the version that t was shown.
+abbrev pub version_of_its_own_put_alone : Report
+version_of_its_own_put_alone = record versions_report {
+  finals = record versions_final { value = values.Versions (version_x ∷ record { clock = (2, 1) ∷ []; word = codes "y" } ∷ []) } ∷ [];
+}
+
+-- The second get of a ends with a clock that counts two puts of s, which made one.
+abbrev pub end_of_more_than_accepted : Report
+end_of_more_than_accepted = record apart_report {
+  answers =
+      (answers.Put 1 1 ∷ answers.Put 1 2 ∷ answers.Again 8 1 ((1, 1) ∷ []) ∷ [])
+      ∷ (answers.Put 1 1 ∷ answers.Got 1 apart_cell_b ∷ answers.Again 16 2 ((1, 1) ∷ []) ∷ answers.Again 16 2 ((1, 2) ∷ []) ∷ []) ∷ [];
+}
+
+-- The second get of a ends with the empty clock of a worker that has shown a put on a before.
+abbrev pub end_below_an_earlier_one : Report
+end_below_an_earlier_one = record apart_report {
+  answers =
+      (answers.Put 1 1 ∷ answers.Put 1 2 ∷ answers.Again 8 1 ((1, 1) ∷ []) ∷ [])
+      ∷ (answers.Put 1 1 ∷ answers.Got 1 apart_cell_b ∷ answers.Again 16 2 ((1, 1) ∷ []) ∷ answers.Again 16 2 [] ∷ []) ∷ [];
+}
+
+-- The await of b ends at the home of s, and does not count the put that s made there.
+abbrev pub end_of_too_few_at_home : Report
+end_of_too_few_at_home = record apart_report {
+  answers =
+      (answers.Put 1 1 ∷ answers.Put 1 2 ∷ answers.Again 8 1 [] ∷ [])
+      ∷ (answers.Put 1 1 ∷ answers.Got 1 apart_cell_b ∷ answers.Again 16 2 ((1, 1) ∷ []) ∷ answers.Again 16 2 ((1, 1) ∷ []) ∷ []) ∷ [];
+}
+
+-- The commit is answered as worn, while its session's Lamport number is 0.
+abbrev pub worn_commit_with_numbers_left : Report
+worn_commit_with_numbers_left = record {
+  answers = (
+      answers.Begun ∷ answers.Held ∷ answers.Held ∷ answers.Aborted 2
+      ∷ answers.Begun ∷ answers.Held ∷ answers.Held ∷ answers.Worn ∷ answers.Got 1 keys_cell_l ∷ []) ∷ [];
+  finals = record commit_final_a { clock = []; top = 0; value = values.Max Bottom } ∷ keys_final_l ∷ [];
+}
+
+-- The commit of nothing is answered as worn, while its session's Lamport number is 1.
+abbrev pub worn_commit_of_nothing : Report
+worn_commit_of_nothing = record keys_report { answers = (answers.Put 1 1 ∷ answers.Got 1 keys_cell_a ∷ answers.Got 1 keys_cell_l ∷ answers.Begun ∷ answers.Worn ∷ []) ∷ [] }
+
+-- The commit of nothing stands at 2.
+abbrev pub commit_of_nothing_at_a_lamport : Report
+commit_of_nothing_at_a_lamport = record keys_report { answers = (answers.Put 1 1 ∷ answers.Got 1 keys_cell_a ∷ answers.Got 1 keys_cell_l ∷ answers.Begun ∷ answers.Committed 0 2 ∷ []) ∷ [] }
+
+-- An eventual session that gets b of worker 1, where b lives at worker 2.
+--     get b @1
+abbrev pub stray_script : Script
+stray_script = record causal_script { sessions = record { name = codes "s"; level = Eventual; lines = lines.Get 2 (Some 1) ∷ [] } ∷ [] }
+
+-- The script is not valid, wherever its keys live.
+abbrev pub IsValidNowhere : Script → Type 0
+IsValidNowhere script = (table : List (List ℕ)) → IsValidScript script table → ⊥

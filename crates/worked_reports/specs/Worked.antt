@@ -1,6 +1,6 @@
--- Four scripts, each with a legal report. Beside each script stands the report, abridged.
+-- Seven scripts, each with a legal report. Beside each script stands the report, abridged.
 use Rattle.std.specs.Prelude.{ℕ, List, [], ◌∷◌, Some, None, codes}
-use Rattle.lattice_laws.specs.declared.maybe.Maybe.TheVariants.{Is}
+use Rattle.lattice_laws.specs.declared.maybe.Maybe.TheVariants.{Is, Bottom}
 use Rattle.basic_lattices.specs.declared.stamped.Stamped.{Stamped}
 use Rattle.composed_value.specs.declared.kind.Kind.TheVariants as kinds
 use Rattle.composed_value.specs.declared.payload.Payload.TheVariants as payloads
@@ -15,6 +15,7 @@ use Rattle.session_known.specs.declared.report.Shown.{Shown}
 use Rattle.session_known.specs.declared.script.Level.TheVariants.{Eventual, Committed, Causal}
 use Rattle.session_known.specs.declared.script.Line.TheVariants as lines
 use Rattle.session_known.specs.declared.script.Script.{Script}
+use Rattle.version_antichain.specs.declared.version.Version.{Version}
 
 -- Where the keys live as any built placement says, the script is valid and the report legal.
 abbrev pub IsLegalWhereverPlaced : Script → Report → Type 0
@@ -215,3 +216,133 @@ causal_report = record {
 -- each key lives at its one pin
 abbrev pub causal_table : List (List ℕ)
 causal_table = (1 ∷ []) ∷ (2 ∷ []) ∷ []
+
+-- Two keys at one worker, and a commit of nothing: a reply owes nothing to what its worker showed of another key.
+--     workers 1                        session s committed
+--     factor 1                         put a 1 at 1
+--     round 4                          get a @1 clock s:1 top 1 value 5
+--     key a max                        get l @1 clock - top 0 value none
+--     key l last                       begin
+--     session s committed              commit 0
+--     put a 5                          final
+--     get a                            a @1 clock s:1 top 1 value 5
+--     get l                            l @1 clock - top 0 value none
+--     begin
+--     commit
+abbrev pub keys_script : Script
+keys_script = record commit_script {
+  sessions = record {
+    name = codes "s";
+    level = Committed;
+    lines = lines.Put 1 (payloads.Max 5) ∷ lines.Get 1 None ∷ lines.Get 2 None ∷ lines.Begin ∷ lines.Commit ∷ [];
+  } ∷ [];
+}
+
+-- the cell of a counts its put
+abbrev pub keys_cell_a : Shown
+keys_cell_a = record { clock = (1, 1) ∷ []; top = 1; value = values.Max (Is 5); needs = None }
+
+-- that of l is empty
+abbrev pub keys_cell_l : Shown
+keys_cell_l = record { clock = []; top = 0; value = values.Last Bottom; needs = None }
+
+-- so it is at the end
+abbrev pub keys_final_l : FinalCell
+keys_final_l = record { key = 2; worker = 1; clock = []; top = 0; value = values.Last Bottom }
+
+-- the report
+abbrev pub keys_report : Report
+keys_report = record {
+  answers = (answers.Put 1 1 ∷ answers.Got 1 keys_cell_a ∷ answers.Got 1 keys_cell_l ∷ answers.Begun ∷ answers.Committed 0 0 ∷ []) ∷ [];
+  finals = commit_final_a ∷ keys_final_l ∷ [];
+}
+
+-- Two sessions, of which the second puts a version once it was shown that of the first, and overtakes it.
+--     workers 1                        session s eventual
+--     factor 1                         put a 1 at 1
+--     round 4                          session t eventual
+--     key a versions                   get a @1 clock s:1 top 1 value x(s:1)
+--     session s eventual               put a 1 at 2
+--     put a x                          final
+--     session t eventual               a @1 clock s:1,t:1 top 2 value y(s:1,t:1)
+--     get a
+--     put a y
+abbrev pub versions_script : Script
+versions_script = record first_script {
+  kinds = kinds.Versions ∷ [];
+  sessions =
+      record { name = codes "s"; level = Eventual; lines = lines.Put 1 (payloads.Version (codes "x")) ∷ [] }
+      ∷ record { name = codes "t"; level = Eventual; lines = lines.Get 1 None ∷ lines.Put 1 (payloads.Version (codes "y")) ∷ [] } ∷ [];
+}
+
+-- the version of s has seen itself alone
+abbrev pub version_x : Version
+version_x = record { clock = (1, 1) ∷ []; word = codes "x" }
+
+-- that of t has seen both
+abbrev pub version_y : Version
+version_y = record { clock = (1, 1) ∷ (2, 1) ∷ []; word = codes "y" }
+
+-- the cell that counts the first
+abbrev pub versions_cell : Shown
+versions_cell = record { clock = (1, 1) ∷ []; top = 1; value = values.Versions (version_x ∷ []); needs = None }
+
+-- the final cell
+abbrev pub versions_final : FinalCell
+versions_final = record { key = 1; worker = 1; clock = (1, 1) ∷ (2, 1) ∷ []; top = 2; value = values.Versions (version_y ∷ []) }
+
+-- the report
+abbrev pub versions_report : Report
+versions_report = record {
+  answers = (answers.Put 1 1 ∷ []) ∷ (answers.Got 1 versions_cell ∷ answers.Put 1 2 ∷ []) ∷ [];
+  finals = versions_final ∷ [];
+}
+
+-- Two replicas that each lack what the other has, so that asking ends without a reply; and an await of a put that is never made.
+--     workers 2                        session s causal
+--     factor 1                         put a 1 at 1
+--     round 64                         put b 1 at 2
+--     key a max at 2 1                 await b t 1 gave up after 8 @1 clock s:1
+--     key b max at 1                   session t causal
+--     session s causal                 put a 1 at 1
+--     put a 5                          get b @1 clock s:1 top 2 value 7 needs a{s:1}
+--     put b 7                          get a after 16 @2 clock s:1
+--     await b t 1                      get a after 16 @2 clock s:1
+--     session t causal                 final
+--     put a 3                          a @1 clock s:1,t:1 top 1 value 5
+--     get b                            a @2 clock s:1,t:1 top 1 value 5
+--     get a                            b @1 clock s:1 top 2 value 7
+--     get a
+abbrev pub apart_script : Script
+apart_script = record {
+  config = record { workers = 2; factor = 1; keys = record { name = codes "a"; pins = 2 ∷ 1 ∷ [] } ∷ record { name = codes "b"; pins = 1 ∷ [] } ∷ [] };
+  round = 64;
+  kinds = kinds.Max ∷ kinds.Max ∷ [];
+  sessions =
+      record { name = codes "s"; level = Causal; lines = lines.Put 1 (payloads.Max 5) ∷ lines.Put 2 (payloads.Max 7) ∷ lines.Await 2 2 1 ∷ [] }
+      ∷ record { name = codes "t"; level = Causal; lines = lines.Put 1 (payloads.Max 3) ∷ lines.Get 2 None ∷ lines.Get 1 None ∷ lines.Get 1 None ∷ [] } ∷ [];
+}
+
+-- the cell of b: its put needs the put of s on a
+abbrev pub apart_cell_b : Shown
+apart_cell_b = record { clock = (1, 1) ∷ []; top = 2; value = values.Max (Is 7); needs = Some ((1, (1, 1) ∷ []) ∷ []) }
+
+-- the final cell of a at a worker, and that of b
+abbrev pub apart_final_a : ℕ → FinalCell
+apart_final_a worker = record { key = 1; worker = worker; clock = (1, 1) ∷ (2, 1) ∷ []; top = 1; value = values.Max (Is 5) }
+
+abbrev pub apart_final_b : FinalCell
+apart_final_b = record { key = 2; worker = 1; clock = (1, 1) ∷ []; top = 2; value = values.Max (Is 7) }
+
+-- the report
+abbrev pub apart_report : Report
+apart_report = record {
+  answers =
+      (answers.Put 1 1 ∷ answers.Put 1 2 ∷ answers.Again 8 1 ((1, 1) ∷ []) ∷ [])
+      ∷ (answers.Put 1 1 ∷ answers.Got 1 apart_cell_b ∷ answers.Again 16 2 ((1, 1) ∷ []) ∷ answers.Again 16 2 ((1, 1) ∷ []) ∷ []) ∷ [];
+  finals = apart_final_a 1 ∷ apart_final_a 2 ∷ apart_final_b ∷ [];
+}
+
+-- the keys live at their pins, in their order
+abbrev pub apart_table : List (List ℕ)
+apart_table = (2 ∷ 1 ∷ []) ∷ (1 ∷ []) ∷ []

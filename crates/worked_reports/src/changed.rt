@@ -1,6 +1,6 @@
-//! Changed reports, each of which one condition refuses.
-ghost use Rattle.worked_reports.specs.Changed.{AwayRefuses, CausalRefuses, CommitRefuses, FirstRefuses, HomeRefuses, PlainRefuses};
+//! Changed reports and a changed script, each of which one condition refuses.
 ghost use Rattle.worked_reports.specs.Changed as changed;
+ghost use Rattle.worked_reports.specs.Changed.{FirstRefuses, HomeRefuses, AwayRefuses, CommitRefuses, PlainRefuses, CausalRefuses, KeysRefuses, VersionsRefuses, ApartRefuses, IsValidNowhere};
 
 /// The changed reports of `specs/Changed.antt` are not legal where their script's keys live; each clause
 /// is named for what was changed, and its proof takes the one condition that refuses it.
@@ -36,4 +36,17 @@ pub fn changed_reports_are_refused()
     ensures await_by_no_replica { CausalRefuses changed.await_by_no_replica }
     ensures end_by_another_than_the_last { CausalRefuses changed.end_by_another_than_the_last }
     ensures held_outside_a_transaction { PlainRefuses changed.held_outside_a_transaction }
+    ensures causal_reply_without_needs { CausalRefuses changed.causal_reply_without_needs }
+    ensures version_of_its_own_put_alone { VersionsRefuses changed.version_of_its_own_put_alone }
+    ensures end_of_more_than_accepted { ApartRefuses changed.end_of_more_than_accepted }
+    ensures end_below_an_earlier_one { ApartRefuses changed.end_below_an_earlier_one }
+    ensures end_of_too_few_at_home { ApartRefuses changed.end_of_too_few_at_home }
+    ensures worn_commit_with_numbers_left { CommitRefuses changed.worn_commit_with_numbers_left }
+    ensures worn_commit_of_nothing { KeysRefuses changed.worn_commit_of_nothing }
+    ensures commit_of_nothing_at_a_lamport { KeysRefuses changed.commit_of_nothing_at_a_lamport }
+{}
+
+/// A script is not valid that has a get which names a worker that is no replica of the key.
+pub fn changed_script_is_refused()
+    ensures get_of_no_replica { IsValidNowhere changed.stray_script }
 {}
