@@ -1,5 +1,5 @@
 //! A flag that stays on.
-ghost use Rattle.std.specs.Prelude.{Bool, ◌||◌, ⊤};
+ghost use Rattle.std.specs.Prelude.{◌≡◌, Bool, ◌||◌, MatchResult, OnOk, OnErr, ⊤};
 ghost use Rattle.basic_lattices.specs.FlagLaws.{or_laws, or_associative};
 
 use lattice_laws::{AllFit, Lattice, NoMemory};
@@ -30,12 +30,17 @@ impl Lattice for Flag {
 
     fn attest(&self) {}
 
-    fn join(&mut self, other: &Flag) -> Result<(), NoMemory> {
+    fn join(&mut self, other: &Flag) -> Result<(), NoMemory>
+        ensures ok { OnOk result (self.new ≡ (self.old || other.now)) }
+        ensures err { OnErr result ⊥ }
+    {
         self.0 = self.0 || other.0;
         Ok(())
     }
 
-    fn copy(&self) -> Result<Flag, NoMemory> {
+    fn copy(&self) -> Result<Flag, NoMemory>
+        ensures { MatchResult result (λ copy. copy ≡ self.now) (λ _. ⊥) }
+    {
         Ok(*self)
     }
 

@@ -1,5 +1,5 @@
 //! The greatest number seen.
-ghost use Rattle.std.specs.Prelude.{◌<◌, ◌^◌, ℕ, max, ⊤};
+ghost use Rattle.std.specs.Prelude.{◌≡◌, ◌<◌, ◌^◌, ℕ, max, MatchResult, OnOk, OnErr, ⊤};
 ghost use Rattle.lattice_laws.specs.GreatestLaws.{max_laws, max_associative};
 
 use lattice_laws::{AllFit, Lattice, NoMemory};
@@ -33,12 +33,17 @@ impl Lattice for MaxNum {
         let _value = self.0;
     }
 
-    fn join(&mut self, other: &MaxNum) -> Result<(), NoMemory> {
+    fn join(&mut self, other: &MaxNum) -> Result<(), NoMemory>
+        ensures ok { OnOk result (self.new ≡ max self.old other.now) }
+        ensures err { OnErr result ⊥ }
+    {
         self.0 = self.0.max(other.0);
         Ok(())
     }
 
-    fn copy(&self) -> Result<MaxNum, NoMemory> {
+    fn copy(&self) -> Result<MaxNum, NoMemory>
+        ensures { MatchResult result (λ copy. copy ≡ self.now) (λ _. ⊥) }
+    {
         Ok(*self)
     }
 

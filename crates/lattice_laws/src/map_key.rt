@@ -1,5 +1,5 @@
 //! What may be the key of a map.
-ghost use Rattle.std.specs.Prelude.{◌≡◌, ◌<◌, ◌^◌, IfOk};
+ghost use Rattle.std.specs.Prelude.{◌≡◌, ◌<◌, ◌^◌, IfOk, MatchResult};
 ghost use Rattle.std.specs.declared.cmp.Ordering.TheVariants.{Equal};
 ghost use Rattle.std.specs.FinMap.{nat_cmp-IsAntisymmetric};
 
@@ -29,7 +29,9 @@ impl MapKey for u16 {
         let _value = *self;
     }
 
-    fn copy(&self) -> Result<u16, NoMemory> {
+    fn copy(&self) -> Result<u16, NoMemory>
+        ensures { MatchResult result (λ copy. copy ≡ self.now) (λ _. ⊥) }
+    {
         Ok(*self)
     }
 
