@@ -14,13 +14,9 @@ use Rattle.session_known.specs.declared.script.Line.{Line}
 use Rattle.session_known.specs.declared.script.Line.TheVariants as lines
 use Rattle.anna_check.specs.ByKey.{OfKey, kinds_of, AreByKey, MayBePut}
 use Rattle.anna_check.specs.ClocksSeen.{AreJoined}
-use Rattle.anna_check.specs.Judged.{MayTake}
+use Rattle.anna_check.specs.Judged.{MayTake, MayAllBePut}
 use Rattle.anna_check.specs.Unlawful.{IsFirstUnlawful}
 use Rattle.anna_check.proofs.HeldLemmas.{count_one_more}
-
--- held puts that may be put to their keys
-abbrev pub MayAllBePut : List Kind → List (ℕ × Payload) → Type 0
-MayAllBePut kinds held = All (λ (held : ℕ × Payload). MayBePut kinds held.0 held.1) held
 
 -- they are still such after a line
 held_after : (kinds : List Kind) (client : Client) (state : State) (line : Line) (answer : Answer) → MayTake kinds line → MayAllBePut kinds (held_puts state) → MayAllBePut kinds (held_puts (after client state line answer))

@@ -15,9 +15,11 @@ use Rattle.session_known.specs.Script.{IsOneOf, kind_at}
 use Rattle.session_known.specs.declared.report.Answer.{Answer}
 use Rattle.session_known.specs.declared.report.Answer.TheVariants as answers
 use Rattle.session_known.specs.declared.report.FinalCell.{FinalCell}
+use Rattle.session_known.specs.declared.report.Report.{Report}
 use Rattle.session_known.specs.declared.report.Shown.{Shown}
 use Rattle.session_known.specs.declared.script.Line.{Line}
 use Rattle.session_known.specs.declared.script.Line.TheVariants as lines
+use Rattle.session_known.specs.declared.script.Script.{Script}
 use Rattle.session_known.specs.declared.script.SessionPlan.{SessionPlan}
 use Rattle.anna_check.specs.ByKey.{OfKey, kinds_of, AreByKey}
 use Rattle.anna_check.specs.Counted.{AreOfTheirPuts}
@@ -56,6 +58,17 @@ pub record CanBeFinal (kinds : List Kind) (workers : ℕ) (last : FinalCell) : T
   pub worker_is : IsOneOf workers last.worker
   pub clock_is : IsClock last.clock
   pub value_is : kind_of_value last.value ≡ kind_at kinds last.key
+
+-- the puts of each session on each key are numbered one by one
+abbrev pub AreAllNext : List (ℕ × Put) → Type 0
+AreAllNext accepted = (session key : ℕ) → AreNext 0 (made_on session key accepted)
+
+-- all that the report's answers say can be held against the accepted puts, and all its final cells
+abbrev pub CanHoldAllAnswers : Script → Report → Type 0
+CanHoldAllAnswers script report = AllZip (λ plan answers. CanAllBeHeldAgainst script.kinds script.config.workers plan.lines answers) script.sessions report.answers
+
+abbrev pub CanHoldAllFinals : Script → Report → Type 0
+CanHoldAllFinals script report = All (CanBeFinal script.kinds script.config.workers) report.finals
 
 -- ---- what a call asks for and answers
 

@@ -5,8 +5,10 @@ use Rattle.std.proofs.Common.{◌⊎◌}
 use Rattle.composed_value.specs.declared.kind.Kind.{Kind}
 use Rattle.composed_value.specs.declared.put.Put as puts
 use Rattle.session_known.specs.Accepted.{accepted, client_of}
+use Rattle.session_known.specs.Form.{HasForm}
 use Rattle.session_known.specs.Lawful.{IsLawful, AreLawful, IsTrueOf}
 use Rattle.session_known.specs.Legal.{AreLawfulFrom, IsLawfulFinal, IsLegalAt}
+use Rattle.session_known.specs.Script.{IsValidScript}
 use Rattle.session_known.specs.Session.{Client, State, start, after}
 use Rattle.session_known.specs.declared.report.Answer.{Answer}
 use Rattle.session_known.specs.declared.report.FinalCell.{FinalCell}
@@ -86,3 +88,13 @@ IsVerdict table script report (Command session command) =
     ⊎ (IsLawfulInside table script report × IsFirstUntrueFrom script.kinds (accepted script report) 1 script.sessions report.answers session command)
 IsVerdict table script report (Final key worker) =
     IsLawfulInside table script report × IsTrueOfPuts script report × IsFirstUnlawfulFinal script.kinds (accepted script report) report.finals key worker
+
+-- ---- wherever the keys live
+
+-- the report has the form of the script, which is valid where its keys live so
+abbrev pub HasFormSomewhere : Script → Report → Type 0
+HasFormSomewhere script report = (table : List (List ℕ)) × IsValidScript script table × HasForm script table report
+
+-- the verdict is that of the report wherever the script is valid
+abbrev pub IsVerdictWherever : Script → Report → Verdict → Type 0
+IsVerdictWherever script report verdict = (table : List (List ℕ)) → IsValidScript script table → IsVerdict table script report verdict

@@ -1,13 +1,8 @@
 //! What an answer does: what its session knows and holds from then on, and the puts that it accepts.
-ghost use Rattle.std.specs.Prelude.{◌≡◌, ℕ, ◌+◌, ◌<◌, ◌≤◌, ◌^◌, List, [], ◌∷◌, ◌++◌, All, length, OnOk};
-ghost use Rattle.composed_value.specs.declared.kind.Kind as of_kind;
-ghost use Rattle.composed_value.specs.declared.put.Put as made;
-ghost use Rattle.session_known.specs.Lawful.{IsLawful};
-ghost use Rattle.session_known.specs.Session.{held_puts, knows_put, knows_committed, own_count, put_made, puts_committed, after, puts_by};
-ghost use Rattle.session_known.specs.declared.report.Answer as of_answer;
-ghost use Rattle.session_known.specs.declared.script.Line as of_line;
+ghost use Rattle.std.specs.Prelude.{◌≡◌, ℕ, ◌+◌, ◌<◌, ◌≤◌, ◌^◌, length, OnOk};
+ghost use Rattle.session_known.specs.Session.{held_puts, own_count};
 ghost use Rattle.anna_check.specs.ByKey.{HasAdded, MayBePut, kinds_of};
-ghost use Rattle.anna_check.specs.Judged.{MayTake};
+ghost use Rattle.anna_check.specs.Judged.{MayTake, MayAllBePut, IsLawfulSomewhere, HasRoom, one_made, knows_one, all_made, knows_all, made_by, state_after};
 
 use crate::accepted::Accepted;
 use composed_value::Payload;
@@ -29,9 +24,9 @@ fn accept(
     requires lamport { session.old.state.knows.lamport ≤ lamport }
     ensures client { session.new.client ≡ session.old.client }
     ensures held { session.new.state.held ≡ session.old.state.held }
-    ensures knows { OnOk result (session.new.state.knows ≡ knows_put session.old.client session.old.state.knows key (own_count session.old.state.knows key + 1) lamport) }
+    ensures knows { OnOk result (session.new.state.knows ≡ knows_one session.old key lamport) }
     ensures kinds { OnOk result (kinds_of accepted.new ≡ kinds_of accepted.old) }
-    ensures puts { HasAdded result accepted.old ((key, put_made session.old.client session.old.state.knows key payload.now (own_count session.old.state.knows key + 1) lamport place) ∷ []) accepted.new }
+    ensures puts { HasAdded result accepted.old (one_made session.old key payload.now lamport place) accepted.new }
 {
     let put = session.put(key, payload, lamport, place)?;
     accepted.add(key, put)
@@ -44,14 +39,14 @@ fn accept_held(
     held: &[(u16, Payload)],
     lamport: u64,
 ) -> Result<(), NoMemory>
-    requires held { All (λ held. MayBePut (kinds_of accepted.old) held.0 held.1) held.now }
+    requires held { MayAllBePut (kinds_of accepted.old) held.now }
     requires counts { (key : ℕ) → own_count session.old.state.knows key + length held.now < 2 ^ 32 }
     requires lamport { 0 < length held.now → session.old.state.knows.lamport ≤ lamport }
     ensures client { session.new.client ≡ session.old.client }
     ensures held { OnOk result (session.new.state.held ≡ session.old.state.held) }
-    ensures knows { OnOk result (session.new.state.knows ≡ knows_committed session.old.client session.old.state.knows lamport held.now) }
+    ensures knows { OnOk result (session.new.state.knows ≡ knows_all session.old lamport held.now) }
     ensures kinds { OnOk result (kinds_of accepted.new ≡ kinds_of accepted.old) }
-    ensures puts { HasAdded result accepted.old (puts_committed session.old.client session.old.state.knows lamport 0 held.now) accepted.new }
+    ensures puts { HasAdded result accepted.old (all_made session.old lamport held.now) accepted.new }
 {
     for (place, (key, payload)) in held.iter().enumerate() {
         accept(accepted, session, *key, payload, lamport, place as u32)?;
@@ -67,14 +62,14 @@ pub(crate) fn take_in(
     line: &Line,
     answer: &Answer,
 ) -> Result<(), NoMemory>
-    requires lawful { (table : List (List ℕ)) × (earlier : List (of_line.Line × of_answer.Answer)) × IsLawful table session.old.client session.old.state earlier line.now answer.now }
+    requires lawful { IsLawfulSomewhere session.old line.now answer.now }
     requires line { MayTake (kinds_of accepted.old) line.now }
-    requires held { All (λ held. MayBePut (kinds_of accepted.old) held.0 held.1) (held_puts session.old.state) }
-    requires counts { (key : ℕ) → own_count session.old.state.knows key + length (held_puts session.old.state) + 1 < 2 ^ 32 }
+    requires held { MayAllBePut (kinds_of accepted.old) (held_puts session.old.state) }
+    requires counts { HasRoom session.old }
     ensures client { session.new.client ≡ session.old.client }
-    ensures state { OnOk result (session.new.state ≡ after session.old.client session.old.state line.now answer.now) }
+    ensures state { OnOk result (session.new.state ≡ state_after session.old line.now answer.now) }
     ensures kinds { OnOk result (kinds_of accepted.new ≡ kinds_of accepted.old) }
-    ensures puts { HasAdded result accepted.old (puts_by session.old.client session.old.state line.now answer.now) accepted.new }
+    ensures puts { HasAdded result accepted.old (made_by session.old line.now answer.now) accepted.new }
 {
     match (line, answer) {
         (Line::Put { key, payload }, Answer::Put { lamport, .. }) => {

@@ -1,17 +1,9 @@
 //! The first answer that is not lawful inside its session, and the accepted puts where all are.
-ghost use Rattle.std.specs.Prelude.{◌≡◌, ◌≤◌, ◌++◌, ℕ, List, [], length, IfOk, IfNone, OnOk, MatchOption};
-ghost use Rattle.std.specs.List.{AllZip};
-ghost use Rattle.composed_value.specs.declared.kind.Kind as of_kind;
-ghost use Rattle.composed_value.specs.declared.put.Put as made;
+ghost use Rattle.std.specs.Prelude.{◌≡◌, ◌≤◌, length, OnOk};
 ghost use Rattle.session_known.specs.Accepted.{accepted_from};
-ghost use Rattle.session_known.specs.Form.{Fits};
-ghost use Rattle.session_known.specs.Lawful.{AreLawful};
-ghost use Rattle.session_known.specs.Legal.{AreLawfulFrom};
 ghost use Rattle.session_known.specs.Script.{IsValidScript};
-ghost use Rattle.session_known.specs.Session.{start, puts_from};
 ghost use Rattle.anna_check.specs.ByKey.{HasAddedAll, kinds_of};
-ghost use Rattle.anna_check.specs.Judged.{CanBeJudged};
-ghost use Rattle.anna_check.specs.Unlawful.{IsFirstUnlawful, IsFirstUnlawfulFrom};
+ghost use Rattle.anna_check.specs.Judged.{CanBeJudged, AnswersFit, made_by_all, FindsUnlawful, FindsUnlawfulFrom};
 
 use crate::accepted::Accepted;
 use crate::answered::take_in;
@@ -37,9 +29,9 @@ pub(crate) fn first_unlawful(
     requires session { 1 ≤ session }
     requires placed { length placement.now ≡ length (kinds_of accepted.old) }
     requires judged { CanBeJudged (kinds_of accepted.old) workers lines.now answers.now }
-    ensures lawful { IfOk result (λ found. MatchOption found (AreLawful placement.now (record { session = session; level = level }) start [] lines.now answers.now) (IsFirstUnlawful placement.now (record { session = session; level = level }) start [] lines.now answers.now)) }
+    ensures lawful { FindsUnlawful placement.now session level lines.now answers.now result }
     ensures kinds { OnOk result (kinds_of accepted.new ≡ kinds_of accepted.old) }
-    ensures puts { HasAddedAll result accepted.old (puts_from (record { session = session; level = level }) start lines.now answers.now) accepted.new }
+    ensures puts { HasAddedAll result accepted.old (made_by_all session level lines.now answers.now) accepted.new }
 {
     let mut judged = SessionState::new(alloc, session, level);
     let mut seen = ClocksSeen::new(alloc, workers)?;
@@ -64,9 +56,9 @@ pub(crate) fn find_unlawful(
     accepted: &mut Accepted,
 ) -> Result<Option<(u16, u32)>, NoMemory>
     requires valid { IsValidScript script.now placement.now }
-    requires form { AllZip (λ plan answers. AllZip (Fits script.now plan.level) plan.lines answers) script.now.sessions answers.now }
+    requires form { AnswersFit script.now answers.now }
     requires kinds { kinds_of accepted.old ≡ script.now.kinds }
-    ensures lawful { IfOk result (λ found. MatchOption found (AreLawfulFrom placement.now 1 script.now.sessions answers.now) (λ place. IsFirstUnlawfulFrom placement.now 1 script.now.sessions answers.now place.0 place.1)) }
+    ensures lawful { FindsUnlawfulFrom placement.now script.now.sessions answers.now result }
     ensures puts { HasAddedAll result accepted.old (accepted_from 1 script.now.sessions answers.now) accepted.new }
 {
     let workers = script.config.workers;

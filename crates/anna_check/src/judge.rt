@@ -1,13 +1,11 @@
 //! The judge.
-ghost use Rattle.std.specs.Prelude.{◌≤◌, List, ℕ, All, IfOk, length};
-ghost use Rattle.std.specs.List.{AllZip};
+ghost use Rattle.std.specs.Prelude.{◌≤◌, IfOk, length};
 ghost use Rattle.session_known.specs.Accepted as made;
 ghost use Rattle.session_known.specs.Form.{HasForm};
-ghost use Rattle.session_known.specs.Accepted.{made_on, AreNext};
 ghost use Rattle.session_known.specs.Script.{IsValidScript};
+ghost use Rattle.anna_check.specs.AgainstPuts.{AreAllNext, CanHoldAllAnswers, CanHoldAllFinals};
 ghost use Rattle.anna_check.specs.ByKey.{AreByKey};
-ghost use Rattle.anna_check.specs.AgainstPuts.{CanAllBeHeldAgainst, CanBeFinal};
-ghost use Rattle.anna_check.specs.Unlawful.{IsVerdict, IsVerdictOfPuts};
+ghost use Rattle.anna_check.specs.Unlawful.{HasFormSomewhere, IsVerdict, IsVerdictWherever, IsVerdictOfPuts};
 
 use crate::accepted::Accepted;
 use crate::against_puts::{find_unlawful_final, find_untrue};
@@ -32,8 +30,8 @@ pub enum Verdict {
 /// Judges a report of the script's form: first what is decided inside the sessions, in script order; where
 /// all of it is lawful, what the answers say of all accepted puts; where that is true, the final cells.
 pub fn check(alloc: Global, script: &Script, report: &Report) -> Result<Verdict, NoMemory>
-    requires form { (table : List (List ℕ)) × IsValidScript script.now table × HasForm script.now table report.now }
-    ensures verdict { IfOk result (λ verdict. (table : List (List ℕ)) → IsValidScript script.now table → IsVerdict table script.now report.now verdict) }
+    requires form { HasFormSomewhere script.now report.now }
+    ensures verdict { IfOk result (IsVerdictWherever script.now report.now) }
 {
     let placement = Placement::build(alloc, &script.config)?;
     judge(alloc, script, &placement, report)
@@ -66,9 +64,9 @@ fn hold_against(
     report: &Report,
 ) -> Result<Verdict, NoMemory>
     requires few { length script.now.sessions ≤ 16 }
-    requires answers { AllZip (λ plan answers. CanAllBeHeldAgainst script.now.kinds script.now.config.workers plan.lines answers) script.now.sessions report.now.answers }
-    requires finals { All (CanBeFinal script.now.kinds script.now.config.workers) report.now.finals }
-    requires numbered { (session key : ℕ) → AreNext 0 (made_on session key (made.accepted script.now report.now)) }
+    requires answers { CanHoldAllAnswers script.now report.now }
+    requires finals { CanHoldAllFinals script.now report.now }
+    requires numbered { AreAllNext (made.accepted script.now report.now) }
     requires puts { AreByKey script.now.kinds (made.accepted script.now report.now) accepted.now }
     ensures { IfOk result (IsVerdictOfPuts script.now report.now) }
 {
