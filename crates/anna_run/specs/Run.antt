@@ -12,8 +12,9 @@ use Rattle.session_known.specs.Form.{HasForm}
 use Rattle.session_known.specs.Legal.{IsLegal}
 use Rattle.session_known.specs.declared.report.Report.{Report}
 use Rattle.session_known.specs.declared.script.Script.{Script}
-use Rattle.report_text.specs.Reads.{IsNoReport, IsFirstOutOfForm}
-use Rattle.report_text.specs.Text.{text_of, session_name, key_name}
+use Rattle.report_reader.specs.Reads.{IsNoReport, IsFirstOutOfForm}
+use Rattle.report_lines.specs.Text.{session_name, key_name}
+use Rattle.report_lines.specs.Text.{text_of}
 use Rattle.anna_check.specs.Unlawful.{IsVerdict}
 use Rattle.anna_check.specs.declared.judge.Verdict.{Verdict}
 use Rattle.anna_check.specs.declared.judge.Verdict.TheVariants as verdicts

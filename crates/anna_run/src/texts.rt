@@ -1,6 +1,6 @@
 //! The lines of text that the program writes beside reports.
 ghost use Rattle.std.specs.Prelude.{◌≡◌, ◌∷◌, [], ◌++◌, IfOk};
-ghost use Rattle.report_text.specs.Text as text_of;
+ghost use Rattle.report_lines.specs.Text as text_of;
 ghost use Rattle.anna_run.specs.Run.{refusal_text, report_refusal_text, verdict_text};
 
 use anna_check::Verdict;

@@ -1,13 +1,16 @@
 -- The texts of a report's parts, and what a report in form names.
-use Rattle.std.proofs.Common.{◌≡◌, ℕ, ◌<◌, min, List, [], ◌∷◌, ◌++◌, map, take, length, get_or, Some, codes, sym, ap, refl, ◌∙◌, append_assoc, arith}
+use Rattle.std.proofs.Common.{◌≡◌, ◌≢◌, ℕ, ◌<◌, min, List, [], ◌∷◌, ◌++◌, map, take, length, get_or, Some, codes, sym, ap, refl, ◌∙◌, append_assoc, arith}
 use Rattle.std.proofs.lemmas.List.{take_all}
 use Rattle.std.proofs.lemmas.List.Concat.{flat_map-append}
 use Rattle.std.proofs.lemmas.List.Elements.{All-nil, All-cons, All-head, All-tail}
+use Rattle.std.proofs.lemmas.Bool.{ne_eqb}
+use Rattle.std.specs.Prelude.{◌==◌, if◌then◌else◌}
+use Rattle.std.specs.Fmt.{decimal}
 use Rattle.std.proofs.lemmas.Option.{slice_get-get_or}
 use Rattle.std.proofs.lemmas.Slice.Zip.{length-zip, get_or-zip}
 use Rattle.std.specs.List.{All, AllZip, flat_map, slice_get, zip}
 use Rattle.session_known.specs.Form.{Fits, HasForm}
-use Rattle.session_known.specs.FormLaws.{finals_known}
+use Rattle.session_known.proofs.FormLemmas.{finals_known}
 use Rattle.session_known.specs.Script.{IsOneOf, IsValidScript, IsValidSession, MayStand}
 use Rattle.session_known.specs.declared.report.Answer.{Answer}
 use Rattle.session_known.specs.declared.report.FinalCell.{FinalCell}
@@ -16,9 +19,8 @@ use Rattle.session_known.specs.declared.script.Level.{Level}
 use Rattle.session_known.specs.declared.script.Line.{Line}
 use Rattle.session_known.specs.declared.script.Script.{Script}
 use Rattle.session_known.specs.declared.script.SessionPlan.{SessionPlan}
-use Rattle.report_text.specs.Text.{level_word, answer_words, answers_lines, sessions_lines, final_words, line_text, text_of}
-use Rattle.report_text.specs.Writes.{MayAnswer, session_text, line_of}
-use Rattle.report_text.proofs.WritesLemmas.{line_text_is}
+use Rattle.report_lines.specs.Text.{level_word, answer_words, answers_lines, sessions_lines, final_words, line_text, text_of}
+use Rattle.report_text.specs.Writes.{MayAnswer, session_text}
 
 -- ---- pairs of two lists
 
@@ -72,9 +74,13 @@ report_text script report =
     ∙ ap (λ rest. codes "anna report 1\n" ++ (flat_map line_text (sessions_lines script script.sessions report.answers) ++ (codes "final\n" ++ rest))) (finals_text script report.finals ((codes "end" ∷ []) ∷ []))
 
 -- the line of an answer, of the line and the answer that are there
-pub answer_line : (script : Script) (line line' : Line) (answer answer' : Answer) → line ≡ line' → answer ≡ answer' → line_text (answer_words script line answer) ≡ line_of (answer_words script line' answer')
+pub answer_line : (script : Script) (line line' : Line) (answer answer' : Answer) → line ≡ line' → answer ≡ answer' → line_text (answer_words script line' answer') ≡ line_text (answer_words script line answer)
 answer_line script line line' answer answer' line_is answer_is =
-    ap (λ line. line_text (answer_words script line answer)) line_is ∙ ap (λ answer. line_text (answer_words script line' answer)) answer_is ∙ line_text_is (answer_words script line' answer')
+    ap (λ line. line_text (answer_words script line answer')) (sym line_is) ∙ ap (λ answer. line_text (answer_words script line answer)) (sym answer_is)
+
+-- the line of a commit that put something
+pub commit_line : (puts lamport : ℕ) → puts ≢ 0 → line_text (codes "commit" ∷ decimal puts ∷ codes "at" ∷ decimal lamport ∷ []) ≡ line_text (if puts == 0 then (codes "commit" ∷ codes "0" ∷ []) else (codes "commit" ∷ decimal puts ∷ codes "at" ∷ decimal lamport ∷ []))
+commit_line puts lamport some = rw (ne_eqb puts 0 some) refl
 
 -- ---- what a report in form names
 

@@ -1,226 +1,207 @@
-//! Lines of answers, written into a sink.
+//! Lines of answers, written to a text.
 ghost use Rattle.std.specs.Prelude.{ℕ, [], ◌∷◌, ◌==◌, codes, decimal, length, if◌then◌else◌};
 ghost use Rattle.session_known.specs.Form.{NamesSessions, IsShownIn};
 ghost use Rattle.session_known.specs.Script.{IsOneOf};
 ghost use Rattle.session_known.specs.declared.script.Level.{Level};
-ghost use Rattle.report_text.specs.Text.{key_name, shown_words, needs_words, again_words, answer_words, line_text};
-ghost use Rattle.report_text.specs.Writes.{Adds, MayAnswer, line_end, line_of, await_text};
+ghost use Rattle.outside.specs.Gathering.{Adds};
+ghost use Rattle.report_lines.specs.Text.{key_name, session_name, worker_word, shown_words, needs_words, again_words, answer_words, line_text};
+ghost use Rattle.report_text.specs.Writes.{MayAnswer, IsShown, spaced};
 
-use crate::cells::{write_cell, write_clock, write_key, write_needs, write_session};
-use crate::pieces::{write_number, write_piece};
+use crate::cells::{
+    write_cell, write_clock_words, write_needs, write_spaced_key, write_spaced_session,
+    write_spaced_worker,
+};
+use crate::pieces::{write_spaced, write_spaced_number};
 use clock_lattice::Clock;
-use script_reader::outside::{Failed, Sink};
+use itoa::Integer;
+use script_reader::outside::{Out, Sink};
 use session_known::{Answer, Line, Script, Shown};
 
-/// Ends the line of a shown cell: with its needs, where there are any, and a line feed.
-fn write_shown_end<K: Sink>(sink: &mut K, script: &Script, shown: &Shown) -> Result<(), Failed>
-    requires { (level : Level) × (key : ℕ) × (worker : ℕ) × IsShownIn script.now level key worker shown.now }
-    ensures { Adds K.written K.faults sink.old sink.new (line_end (needs_words script.now shown.now.needs)) result }
+// ---- what answers end with
+
+/// Writes the needs of a shown cell, where there are any.
+#[tactic(auto, using(crate::proofs::WritesLemmas::words))]
+fn write_shown_needs<K: Sink>(out: &mut Out<'_, K>, script: &Script, shown: &Shown)
+    requires { IsShown script.now shown.now }
+    ensures { Adds K.written K.faults out.old out.new (spaced (needs_words script.now shown.now.needs)) }
 {
-    match &shown.needs {
-        None => write_piece(sink, b"\n"),
-        Some(needs) => {
-            write_piece(sink, b" needs ")?;
-            write_needs(sink, script, needs)?;
-            write_piece(sink, b"\n")
-        }
+    if let Some(needs) = &shown.needs {
+        write_spaced(out, b"needs");
+        out.write(b" ");
+        write_needs(out, script, needs);
     }
 }
 
-/// Writes what a worker showed, behind the first words of a line, and ends the line.
-fn write_shown<K: Sink>(
-    sink: &mut K,
-    script: &Script,
-    worker: u16,
-    shown: &Shown,
-) -> Result<(), Failed>
-    requires { (level : Level) × (key : ℕ) × (worker : ℕ) × IsShownIn script.now level key worker shown.now }
-    ensures { Adds K.written K.faults sink.old sink.new (line_end (shown_words script.now worker shown.now)) result }
+/// Writes what a worker showed.
+fn write_shown<K: Sink>(out: &mut Out<'_, K>, script: &Script, worker: u16, shown: &Shown)
+    requires { IsShown script.now shown.now }
+    ensures { Adds K.written K.faults out.old out.new (spaced (shown_words script.now worker shown.now)) }
 {
-    write_piece(sink, b" @")?;
-    write_number(sink, worker)?;
-    write_cell(sink, script, &shown.clock, shown.top, &shown.value)?;
-    write_shown_end(sink, script, shown)
+    write_spaced_worker(out, worker);
+    write_cell(out, script, &shown.clock, shown.top, &shown.value);
+    write_shown_needs(out, script, shown);
 }
 
-/// Writes how asking ended, behind the first words of a line, and ends the line.
+/// Writes how asking ended.
+#[tactic(auto, using(crate::proofs::WritesLemmas::words))]
 fn write_again<K: Sink>(
-    sink: &mut K,
+    out: &mut Out<'_, K>,
     script: &Script,
     asks: u32,
     worker: u16,
     clock: &Clock,
-) -> Result<(), Failed>
+)
     requires { NamesSessions script.now clock.now }
-    ensures { Adds K.written K.faults sink.old sink.new (line_end (again_words script.now asks worker clock.now)) result }
+    ensures { Adds K.written K.faults out.old out.new (spaced (again_words script.now asks worker clock.now)) }
 {
-    write_piece(sink, b" after ")?;
-    write_number(sink, asks)?;
-    write_piece(sink, b" @")?;
-    write_number(sink, worker)?;
-    write_piece(sink, b" clock ")?;
-    write_clock(sink, script, clock)?;
-    write_piece(sink, b"\n")
+    write_spaced(out, b"after");
+    write_spaced_number(out, asks);
+    write_spaced_worker(out, worker);
+    write_clock_words(out, script, clock);
+}
+
+/// Writes a number and the Lamport number of a put or of a commit.
+#[tactic(auto, using(crate::proofs::WritesLemmas::words))]
+fn write_stamp<K: Sink, N: Integer>(out: &mut Out<'_, K>, number: N, lamport: u64)
+    ensures { Adds K.written K.faults out.old out.new (spaced (N.text number ∷ codes "at" ∷ decimal lamport ∷ [])) }
+{
+    write_spaced_number(out, number);
+    write_spaced(out, b"at");
+    write_spaced_number(out, lamport);
 }
 
 // ---- puts
 
 /// Writes the line of a put that was accepted.
-fn write_put<K: Sink>(
-    sink: &mut K,
-    script: &Script,
-    key: u16,
-    number: u64,
-    lamport: u64,
-) -> Result<(), Failed>
+fn write_put<K: Sink>(out: &mut Out<'_, K>, script: &Script, key: u16, number: u64, lamport: u64)
     requires { IsOneOf (length script.now.config.keys) key }
-    ensures { Adds K.written K.faults sink.old sink.new (line_of (codes "put" ∷ key_name script.now key ∷ decimal number ∷ codes "at" ∷ decimal lamport ∷ [])) result }
+    ensures { Adds K.written K.faults out.old out.new (line_text (codes "put" ∷ key_name script.now key ∷ decimal number ∷ codes "at" ∷ decimal lamport ∷ [])) }
 {
-    write_piece(sink, b"put ")?;
-    write_key(sink, script, key)?;
-    write_piece(sink, b" ")?;
-    write_number(sink, number)?;
-    write_piece(sink, b" at ")?;
-    write_number(sink, lamport)?;
-    write_piece(sink, b"\n")
+    out.write(b"put");
+    write_spaced_key(out, script, key);
+    write_stamp(out, number, lamport);
+    out.write(b"\n");
 }
 
 /// Writes the line of a put that was not accepted yet, or not at all, with the word that says so.
-fn write_other_put<K: Sink>(
-    sink: &mut K,
-    script: &Script,
-    key: u16,
-    word: &[u8],
-) -> Result<(), Failed>
+fn write_other_put<K: Sink>(out: &mut Out<'_, K>, script: &Script, key: u16, word: &[u8])
     requires { IsOneOf (length script.now.config.keys) key }
-    ensures { Adds K.written K.faults sink.old sink.new (line_of (codes "put" ∷ key_name script.now key ∷ word.now ∷ [])) result }
+    ensures { Adds K.written K.faults out.old out.new (line_text (codes "put" ∷ key_name script.now key ∷ word.now ∷ [])) }
 {
-    write_piece(sink, b"put ")?;
-    write_key(sink, script, key)?;
-    write_piece(sink, b" ")?;
-    write_piece(sink, word)?;
-    write_piece(sink, b"\n")
+    out.write(b"put");
+    write_spaced_key(out, script, key);
+    write_spaced(out, word);
+    out.write(b"\n");
 }
 
 // ---- gets
 
 /// Writes the line of a get that was shown a cell.
-fn write_got<K: Sink>(
-    sink: &mut K,
-    script: &Script,
-    key: u16,
-    worker: u16,
-    shown: &Shown,
-) -> Result<(), Failed>
+fn write_got<K: Sink>(out: &mut Out<'_, K>, script: &Script, key: u16, worker: u16, shown: &Shown)
     requires key { IsOneOf (length script.now.config.keys) key }
-    requires shown { (level : Level) × (key : ℕ) × (worker : ℕ) × IsShownIn script.now level key worker shown.now }
-    ensures { Adds K.written K.faults sink.old sink.new (line_of (codes "get" ∷ key_name script.now key ∷ shown_words script.now worker shown.now)) result }
+    requires shown { IsShown script.now shown.now }
+    ensures { Adds K.written K.faults out.old out.new (line_text (codes "get" ∷ key_name script.now key ∷ shown_words script.now worker shown.now)) }
 {
-    write_piece(sink, b"get ")?;
-    write_key(sink, script, key)?;
-    write_shown(sink, script, worker, shown)
+    out.write(b"get");
+    write_spaced_key(out, script, key);
+    write_shown(out, script, worker, shown);
+    out.write(b"\n");
 }
 
 /// Writes the line of a get that is to ask again.
 fn write_get_again<K: Sink>(
-    sink: &mut K,
+    out: &mut Out<'_, K>,
     script: &Script,
     key: u16,
     asks: u32,
     worker: u16,
     clock: &Clock,
-) -> Result<(), Failed>
+)
     requires key { IsOneOf (length script.now.config.keys) key }
     requires clock { NamesSessions script.now clock.now }
-    ensures { Adds K.written K.faults sink.old sink.new (line_of (codes "again" ∷ key_name script.now key ∷ again_words script.now asks worker clock.now)) result }
+    ensures { Adds K.written K.faults out.old out.new (line_text (codes "again" ∷ key_name script.now key ∷ again_words script.now asks worker clock.now)) }
 {
-    write_piece(sink, b"again ")?;
-    write_key(sink, script, key)?;
-    write_again(sink, script, asks, worker, clock)
+    out.write(b"again");
+    write_spaced_key(out, script, key);
+    write_again(out, script, asks, worker, clock);
+    out.write(b"\n");
 }
 
 // ---- awaits
 
-/// Writes what the line of an await begins with.
-fn write_await<K: Sink>(
-    sink: &mut K,
-    script: &Script,
-    key: u16,
-    session: u16,
-    count: u64,
-) -> Result<(), Failed>
+/// Writes what is awaited: puts of a session on a key, so many.
+#[tactic(auto, using(crate::proofs::WritesLemmas::words))]
+fn write_awaited<K: Sink>(out: &mut Out<'_, K>, script: &Script, key: u16, session: u16, count: u64)
     requires key { IsOneOf (length script.now.config.keys) key }
     requires session { IsOneOf (length script.now.sessions) session }
-    ensures { Adds K.written K.faults sink.old sink.new (await_text script.now key session count) result }
+    ensures { Adds K.written K.faults out.old out.new (spaced (key_name script.now key ∷ session_name script.now session ∷ decimal count ∷ [])) }
 {
-    write_piece(sink, b"await ")?;
-    write_key(sink, script, key)?;
-    write_piece(sink, b" ")?;
-    write_session(sink, script, session)?;
-    write_piece(sink, b" ")?;
-    write_number(sink, count)
+    write_spaced_key(out, script, key);
+    write_spaced_session(out, script, session);
+    write_spaced_number(out, count);
 }
 
-/// Ends the line of an await that gave up.
+/// Writes that an await gave up.
+#[tactic(auto, using(crate::proofs::WritesLemmas::words))]
 fn write_gave_up<K: Sink>(
-    sink: &mut K,
+    out: &mut Out<'_, K>,
     script: &Script,
     asks: u32,
     worker: u16,
     clock: &Clock,
-) -> Result<(), Failed>
+)
     requires { NamesSessions script.now clock.now }
-    ensures { Adds K.written K.faults sink.old sink.new (line_end (codes "gave" ∷ codes "up" ∷ again_words script.now asks worker clock.now)) result }
+    ensures { Adds K.written K.faults out.old out.new (spaced (codes "gave" ∷ codes "up" ∷ again_words script.now asks worker clock.now)) }
 {
-    write_piece(sink, b" gave up")?;
-    write_again(sink, script, asks, worker, clock)
+    write_spaced(out, b"gave");
+    write_spaced(out, b"up");
+    write_again(out, script, asks, worker, clock);
 }
 
 // ---- transactions
 
 /// Writes the line of a commit.
-fn write_commit<K: Sink>(sink: &mut K, puts: u32, lamport: u64) -> Result<(), Failed>
-    ensures { Adds K.written K.faults sink.old sink.new (line_of (if puts == 0 then (codes "commit" ∷ codes "0" ∷ []) else (codes "commit" ∷ decimal puts ∷ codes "at" ∷ decimal lamport ∷ []))) result }
+fn write_commit<K: Sink>(out: &mut Out<'_, K>, puts: u32, lamport: u64)
+    ensures { Adds K.written K.faults out.old out.new (line_text (if puts == 0 then (codes "commit" ∷ codes "0" ∷ []) else (codes "commit" ∷ decimal puts ∷ codes "at" ∷ decimal lamport ∷ []))) }
 {
     if puts == 0 {
-        return write_piece(sink, b"commit 0\n");
+        out.write(b"commit 0\n");
+    } else {
+        out.write(b"commit");
+        write_stamp(out, puts, lamport);
+        out.write(b"\n");
     }
-    write_piece(sink, b"commit ")?;
-    write_number(sink, puts)?;
-    write_piece(sink, b" at ")?;
-    write_number(sink, lamport)?;
-    write_piece(sink, b"\n")
 }
 
 /// Writes the line of an abort.
-fn write_abort<K: Sink>(sink: &mut K, puts: u32) -> Result<(), Failed>
-    ensures { Adds K.written K.faults sink.old sink.new (line_of (codes "abort" ∷ decimal puts ∷ [])) result }
+fn write_abort<K: Sink>(out: &mut Out<'_, K>, puts: u32)
+    ensures { Adds K.written K.faults out.old out.new (line_text (codes "abort" ∷ decimal puts ∷ [])) }
 {
-    write_piece(sink, b"abort ")?;
-    write_number(sink, puts)?;
-    write_piece(sink, b"\n")
+    out.write(b"abort");
+    write_spaced_number(out, puts);
+    out.write(b"\n");
 }
 
 // ---- all
 
 /// Writes the line of an answer.
 pub(crate) fn write_answer<K: Sink>(
-    sink: &mut K,
+    out: &mut Out<'_, K>,
     script: &Script,
     line: &Line,
     answer: &Answer,
-) -> Result<(), Failed>
+)
     requires { MayAnswer script.now line.now answer.now }
-    ensures { Adds K.written K.faults sink.old sink.new (line_text (answer_words script.now line.now answer.now)) result }
+    ensures { Adds K.written K.faults out.old out.new (line_text (answer_words script.now line.now answer.now)) }
 {
     match (line, answer) {
         (Line::Put { key, .. }, Answer::Put { number, lamport }) => {
-            write_put(sink, script, *key, *number, *lamport)
+            write_put(out, script, *key, *number, *lamport)
         }
-        (Line::Put { key, .. }, Answer::Held) => write_other_put(sink, script, *key, b"held"),
-        (Line::Put { key, .. }, Answer::Worn) => write_other_put(sink, script, *key, b"worn"),
+        (Line::Put { key, .. }, Answer::Held) => write_other_put(out, script, *key, b"held"),
+        (Line::Put { key, .. }, Answer::Worn) => write_other_put(out, script, *key, b"worn"),
         (Line::Get { key, .. }, Answer::Got { worker, shown }) => {
-            write_got(sink, script, *key, *worker, shown)
+            write_got(out, script, *key, *worker, shown)
         }
         (
             Line::Get { key, .. },
@@ -229,7 +210,7 @@ pub(crate) fn write_answer<K: Sink>(
                 worker,
                 clock,
             },
-        ) => { write_get_again(sink, script, *key, *asks, *worker, clock) }
+        ) => { write_get_again(out, script, *key, *asks, *worker, clock) }
         (
             Line::Await {
                 key,
@@ -238,8 +219,10 @@ pub(crate) fn write_answer<K: Sink>(
             },
             Answer::Got { worker, shown },
         ) => {
-            write_await(sink, script, *key, *session, *count)?;
-            write_shown(sink, script, *worker, shown)
+            out.write(b"await");
+            write_awaited(out, script, *key, *session, *count);
+            write_shown(out, script, *worker, shown);
+            out.write(b"\n");
         }
         (
             Line::Await {
@@ -253,13 +236,15 @@ pub(crate) fn write_answer<K: Sink>(
                 clock,
             },
         ) => {
-            write_await(sink, script, *key, *session, *count)?;
-            write_gave_up(sink, script, *asks, *worker, clock)
+            out.write(b"await");
+            write_awaited(out, script, *key, *session, *count);
+            write_gave_up(out, script, *asks, *worker, clock);
+            out.write(b"\n");
         }
-        (Line::Begin, Answer::Begun) => write_piece(sink, b"begin\n"),
-        (Line::Commit, Answer::Committed { puts, lamport }) => write_commit(sink, *puts, *lamport),
-        (Line::Commit, Answer::Worn) => write_piece(sink, b"commit worn\n"),
-        (Line::Abort, Answer::Aborted { puts }) => write_abort(sink, *puts),
+        (Line::Begin, Answer::Begun) => out.write(b"begin\n"),
+        (Line::Commit, Answer::Committed { puts, lamport }) => write_commit(out, *puts, *lamport),
+        (Line::Commit, Answer::Worn) => out.write(b"commit worn\n"),
+        (Line::Abort, Answer::Aborted { puts }) => write_abort(out, *puts),
         _ => unreachable!(),
     }
 }

@@ -1,35 +1,43 @@
-//! Pieces of text, written into a sink.
-ghost use Rattle.report_text.specs.Writes.{Adds, between};
+//! Pieces of text, words and separators, written to a text on its way to a sink.
+ghost use Rattle.std.specs.Prelude.{[], ◌∷◌};
+ghost use Rattle.outside.specs.Gathering.{Adds};
+ghost use Rattle.report_text.specs.Writes.{between, spaced};
 
 use itoa::{Buffer, Integer};
-use script_reader::outside::{Failed, Sink, write_all};
-
-/// Writes a piece of text whole.
-pub(crate) fn write_piece<K: Sink>(sink: &mut K, piece: &[u8]) -> Result<(), Failed>
-    ensures { Adds K.written K.faults sink.old sink.new piece.now result }
-{
-    write_all(sink, piece)
-}
+use script_reader::outside::{Out, Sink};
 
 /// Writes a number in decimal digits.
-pub(crate) fn write_number<K: Sink, N: Integer>(sink: &mut K, number: N) -> Result<(), Failed>
-    ensures { Adds K.written K.faults sink.old sink.new (N.text number) result }
+pub(crate) fn write_number<K: Sink, N: Integer>(out: &mut Out<'_, K>, number: N)
+    ensures { Adds K.written K.faults out.old out.new (N.text number) }
 {
     let mut buffer = Buffer::new();
-    write_all(sink, buffer.format(number).as_bytes())
+    out.write(buffer.format(number).as_bytes());
+}
+
+/// Writes a word after a space.
+#[tactic(auto, using(crate::proofs::WritesLemmas::words))]
+pub(crate) fn write_spaced<K: Sink>(out: &mut Out<'_, K>, word: &[u8])
+    ensures { Adds K.written K.faults out.old out.new (spaced (word.now ∷ [])) }
+{
+    out.write(b" ");
+    out.write(word);
+}
+
+/// Writes a number after a space.
+#[tactic(auto, using(crate::proofs::WritesLemmas::words))]
+pub(crate) fn write_spaced_number<K: Sink, N: Integer>(out: &mut Out<'_, K>, number: N)
+    ensures { Adds K.written K.faults out.old out.new (spaced (N.text number ∷ [])) }
+{
+    out.write(b" ");
+    write_number(out, number);
 }
 
 /// Writes what stands before the item at a place of a list, counted from 0: the separator, but
 /// nothing before the first.
-pub(crate) fn write_separator<K: Sink>(
-    sink: &mut K,
-    place: usize,
-    separator: u8,
-) -> Result<(), Failed>
-    ensures { Adds K.written K.faults sink.old sink.new (between separator place) result }
+pub(crate) fn write_separator<K: Sink>(out: &mut Out<'_, K>, place: usize, separator: u8)
+    ensures { Adds K.written K.faults out.old out.new (between separator place) }
 {
-    if place == 0 {
-        return Ok(());
+    if place > 0 {
+        out.write(&[separator]);
     }
-    write_piece(sink, &[separator])
 }

@@ -3,15 +3,17 @@ ghost use Rattle.std.specs.Prelude.{List, ℕ, [], ◌∷◌, All, codes, length
 ghost use Rattle.std.specs.List.{AllZip, flat_map};
 ghost use Rattle.session_known.specs.Form.{HasForm, IsFinalIn};
 ghost use Rattle.session_known.specs.Script.{IsValidScript, IsOneOf};
-ghost use Rattle.script_reader.specs.Outside.{HasCause};
-ghost use Rattle.report_text.specs.Text.{level_word, answers_lines, sessions_lines, text_of, line_text, final_words, short_words};
-ghost use Rattle.report_text.specs.Writes.{Adds, MayAnswer, Wrote, session_text};
+ghost use Rattle.outside.specs.Gathering.{Adds, Wrote};
+ghost use Rattle.outside.specs.Outside.{HasCause};
+ghost use Rattle.report_lines.specs.Text.{level_word, answers_lines, sessions_lines, text_of, line_text, final_words, short_words};
+ghost use Rattle.report_text.specs.Writes.{MayAnswer, session_text};
 
 use crate::answers::write_answer;
-use crate::cells::{write_cell, write_clock, write_key, write_name, write_value};
-use crate::pieces::{write_number, write_piece};
+use crate::cells::{
+    write_cell, write_clock_words, write_key, write_name, write_spaced_worker, write_value_words,
+};
 use lattice_laws::Items;
-use script_reader::outside::{Failed, Sink};
+use script_reader::outside::{Failed, Out, Sink};
 use session_known::{Answer, FinalCell, Level, Line, Report, Script, SessionPlan};
 
 /// Writes the text of a report of the script's form. `Failed` comes only where the sink's count of
@@ -21,11 +23,13 @@ pub fn write_report<K: Sink>(script: &Script, report: &Report, sink: &mut K) -> 
     ensures wrote { Wrote (K.written sink.old) (K.written sink.new) (text_of script.now report.now) result }
     ensures cause { HasCause (K.faults sink.old) (K.faults sink.new) result }
 {
-    write_piece(sink, b"anna report 1\n")?;
-    write_sessions(sink, script, report.answers.as_slice())?;
-    write_piece(sink, b"final\n")?;
-    write_finals(sink, script, report.finals.as_slice())?;
-    write_piece(sink, b"end\n")
+    let mut out = Out::new(sink);
+    out.write(b"anna report 1\n");
+    write_sessions(&mut out, script, report.answers.as_slice());
+    out.write(b"final\n");
+    write_finals(&mut out, script, report.finals.as_slice());
+    out.write(b"end\n");
+    out.finish()
 }
 
 /// Writes the line of a final cell, `K @W CELL` and a line feed. The cell's key, worker and sessions
@@ -39,7 +43,9 @@ pub fn write_final<K: Sink>(script: &Script, cell: &FinalCell, sink: &mut K) -> 
     ensures wrote { Wrote (K.written sink.old) (K.written sink.new) (line_text (final_words script.now cell.now)) result }
     ensures cause { HasCause (K.faults sink.old) (K.faults sink.new) result }
 {
-    write_final_line(sink, script, cell)
+    let mut out = Out::new(sink);
+    write_final_line(&mut out, script, cell);
+    out.finish()
 }
 
 /// Writes the short line of a cell, `K clock CLOCK value VALUE` and a line feed, for a summary. The
@@ -53,117 +59,105 @@ pub fn write_short<K: Sink>(script: &Script, cell: &FinalCell, sink: &mut K) -> 
     ensures wrote { Wrote (K.written sink.old) (K.written sink.new) (line_text (short_words script.now cell.now)) result }
     ensures cause { HasCause (K.faults sink.old) (K.faults sink.new) result }
 {
-    write_short_line(sink, script, cell)
+    let mut out = Out::new(sink);
+    write_short_line(&mut out, script, cell);
+    out.finish()
 }
 
 // ---- sessions
 
 /// Writes the word of a level.
-fn write_level<K: Sink>(sink: &mut K, level: Level) -> Result<(), Failed>
-    ensures { Adds K.written K.faults sink.old sink.new (level_word level) result }
+fn write_level<K: Sink>(out: &mut Out<'_, K>, level: Level)
+    ensures { Adds K.written K.faults out.old out.new (level_word level) }
 {
     match level {
-        Level::Eventual => write_piece(sink, b"eventual"),
-        Level::Committed => write_piece(sink, b"committed"),
-        Level::Causal => write_piece(sink, b"causal"),
+        Level::Eventual => out.write(b"eventual"),
+        Level::Committed => out.write(b"committed"),
+        Level::Causal => out.write(b"causal"),
     }
 }
 
 /// Writes the line that a session begins with.
-fn write_session_line<K: Sink>(sink: &mut K, plan: &SessionPlan) -> Result<(), Failed>
-    ensures { Adds K.written K.faults sink.old sink.new (line_text (codes "session" ∷ plan.now.name ∷ level_word plan.now.level ∷ [])) result }
+fn write_session_line<K: Sink>(out: &mut Out<'_, K>, plan: &SessionPlan)
+    ensures { Adds K.written K.faults out.old out.new (line_text (codes "session" ∷ plan.now.name ∷ level_word plan.now.level ∷ [])) }
 {
-    write_piece(sink, b"session ")?;
-    write_name(sink, &plan.name)?;
-    write_piece(sink, b" ")?;
-    write_level(sink, plan.level)?;
-    write_piece(sink, b"\n")
+    out.write(b"session");
+    out.write(b" ");
+    write_name(out, &plan.name);
+    out.write(b" ");
+    write_level(out, plan.level);
+    out.write(b"\n");
 }
 
 /// Writes the lines of a session's answers.
-fn write_answers<K: Sink>(
-    sink: &mut K,
-    script: &Script,
-    lines: &[Line],
-    answers: &[Answer],
-) -> Result<(), Failed>
+fn write_answers<K: Sink>(out: &mut Out<'_, K>, script: &Script, lines: &[Line], answers: &[Answer])
     requires { AllZip (MayAnswer script.now) lines.now answers.now }
-    ensures { Adds K.written K.faults sink.old sink.new (flat_map line_text (answers_lines script.now lines.now answers.now)) result }
+    ensures { Adds K.written K.faults out.old out.new (flat_map line_text (answers_lines script.now lines.now answers.now)) }
 {
     for (line, answer) in lines.iter().zip(answers) {
-        write_answer(sink, script, line, answer)?;
+        write_answer(out, script, line, answer);
     }
-    Ok(())
 }
 
 /// Writes the lines of a session.
 fn write_session_part<K: Sink>(
-    sink: &mut K,
+    out: &mut Out<'_, K>,
     script: &Script,
     plan: &SessionPlan,
     answers: &[Answer],
-) -> Result<(), Failed>
+)
     requires { AllZip (MayAnswer script.now) plan.now.lines answers.now }
-    ensures { Adds K.written K.faults sink.old sink.new (session_text script.now plan.now answers.now) result }
+    ensures { Adds K.written K.faults out.old out.new (session_text script.now plan.now answers.now) }
 {
-    write_session_line(sink, plan)?;
-    write_answers(sink, script, plan.lines.as_slice(), answers)
+    write_session_line(out, plan);
+    write_answers(out, script, plan.lines.as_slice(), answers);
 }
 
 /// Writes the lines of the sessions.
-fn write_sessions<K: Sink>(
-    sink: &mut K,
-    script: &Script,
-    answers: &[Items<Answer>],
-) -> Result<(), Failed>
+fn write_sessions<K: Sink>(out: &mut Out<'_, K>, script: &Script, answers: &[Items<Answer>])
     requires { AllZip (λ plan answers. AllZip (MayAnswer script.now) plan.lines answers) script.now.sessions answers.now }
-    ensures { Adds K.written K.faults sink.old sink.new (flat_map line_text (sessions_lines script.now script.now.sessions answers.now)) result }
+    ensures { Adds K.written K.faults out.old out.new (flat_map line_text (sessions_lines script.now script.now.sessions answers.now)) }
 {
     for (plan, answers) in script.sessions.as_slice().iter().zip(answers) {
-        write_session_part(sink, script, plan, answers.as_slice())?;
+        write_session_part(out, script, plan, answers.as_slice());
     }
-    Ok(())
 }
 
 // ---- final cells
 
 /// Writes the line of a final cell.
-fn write_final_line<K: Sink>(sink: &mut K, script: &Script, cell: &FinalCell) -> Result<(), Failed>
+fn write_final_line<K: Sink>(out: &mut Out<'_, K>, script: &Script, cell: &FinalCell)
     requires key { IsOneOf (length script.now.config.keys) cell.now.key }
     requires cell { IsFinalIn script.now cell.now }
-    ensures { Adds K.written K.faults sink.old sink.new (line_text (final_words script.now cell.now)) result }
+    ensures { Adds K.written K.faults out.old out.new (line_text (final_words script.now cell.now)) }
 {
-    write_key(sink, script, cell.key)?;
-    write_piece(sink, b" @")?;
-    write_number(sink, cell.worker)?;
-    write_cell(sink, script, &cell.clock, cell.top, &cell.value)?;
-    write_piece(sink, b"\n")
+    write_key(out, script, cell.key);
+    write_spaced_worker(out, cell.worker);
+    write_cell(out, script, &cell.clock, cell.top, &cell.value);
+    out.write(b"\n");
 }
 
 /// Writes the short line of a cell.
-fn write_short_line<K: Sink>(sink: &mut K, script: &Script, cell: &FinalCell) -> Result<(), Failed>
+fn write_short_line<K: Sink>(out: &mut Out<'_, K>, script: &Script, cell: &FinalCell)
     requires key { IsOneOf (length script.now.config.keys) cell.now.key }
     requires cell { IsFinalIn script.now cell.now }
-    ensures { Adds K.written K.faults sink.old sink.new (line_text (short_words script.now cell.now)) result }
+    ensures { Adds K.written K.faults out.old out.new (line_text (short_words script.now cell.now)) }
 {
-    write_key(sink, script, cell.key)?;
-    write_piece(sink, b" clock ")?;
-    write_clock(sink, script, &cell.clock)?;
-    write_piece(sink, b" value ")?;
-    write_value(sink, script, &cell.value)?;
-    write_piece(sink, b"\n")
+    write_key(out, script, cell.key);
+    write_clock_words(out, script, &cell.clock);
+    write_value_words(out, script, &cell.value);
+    out.write(b"\n");
 }
 
 /// Writes the lines of the final cells.
-fn write_finals<K: Sink>(sink: &mut K, script: &Script, finals: &[FinalCell]) -> Result<(), Failed>
+fn write_finals<K: Sink>(out: &mut Out<'_, K>, script: &Script, finals: &[FinalCell])
     requires keys { All (λ cell. IsOneOf (length script.now.config.keys) cell.key) finals.now }
     requires cells { All (IsFinalIn script.now) finals.now }
-    ensures { Adds K.written K.faults sink.old sink.new (flat_map (λ cell. line_text (final_words script.now cell)) finals.now) result }
+    ensures { Adds K.written K.faults out.old out.new (flat_map (λ cell. line_text (final_words script.now cell)) finals.now) }
 {
     for cell in finals {
-        write_final_line(sink, script, cell)?;
+        write_final_line(out, script, cell);
     }
-    Ok(())
 }
 
 #[cfg(test)]

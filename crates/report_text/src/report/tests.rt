@@ -1,18 +1,16 @@
-//! Reports as they are written.
+//! Lines of cells as they are written.
 ghost use Rattle.std.specs.Prelude.{◌≡◌, [], ◌∷◌, IfOk, codes};
 ghost use Rattle.clock_lattice.specs.Clock.{IsClock};
 ghost use Rattle.composed_value.specs.Value.{IsValue};
 ghost use Rattle.composed_value.specs.declared.value.Value.TheVariants as values;
-ghost use Rattle.session_known.specs.Worked as worked;
 
 use super::*;
-use basic_lattices::{MaxNum, Word};
+use basic_lattices::Word;
 use clock_lattice::Clock;
 use composed_value::Value;
-use lattice_laws::{Lattice, Maybe};
+use lattice_laws::Lattice;
 use script_reader::outside::SureSink;
 use script_reader::read_script;
-use session_known::Shown;
 use std::alloc::Global;
 use std::test::Fail;
 use version_antichain::Versions;
@@ -24,78 +22,6 @@ fn two_puts(alloc: Global) -> Result<Clock, Fail>
     let mut clock = Clock::new(alloc);
     clock.raise(1, 2)?;
     Ok(clock)
-}
-
-/// What the session is shown.
-fn shown(alloc: Global) -> Result<Shown, Fail>
-    ensures { IfOk result (λ shown. shown ≡ worked.first_cell) }
-{
-    Ok(Shown {
-        clock: two_puts(alloc)?,
-        top: 2,
-        value: Value::Max(Maybe::Is(MaxNum(5))),
-        needs: None,
-    })
-}
-
-/// What the worker has at the end.
-fn final_cell(alloc: Global) -> Result<FinalCell, Fail>
-    ensures { IfOk result (λ cell. cell ≡ worked.first_final) }
-{
-    Ok(FinalCell {
-        key: 1,
-        worker: 1,
-        clock: two_puts(alloc)?,
-        top: 2,
-        value: Value::Max(Maybe::Is(MaxNum(5))),
-    })
-}
-
-/// The answers of the session.
-fn answers(alloc: Global) -> Result<Items<Answer>, Fail>
-    ensures { IfOk result (λ answers. answers ∷ [] ≡ worked.first_report.answers) }
-{
-    let mut answers = Vec::new(alloc);
-    answers.push(Answer::Put {
-        number: 1,
-        lamport: 1,
-    })?;
-    answers.push(Answer::Put {
-        number: 2,
-        lamport: 2,
-    })?;
-    answers.push(Answer::Got {
-        worker: 1,
-        shown: shown(alloc)?,
-    })?;
-    Ok(Items::new(answers))
-}
-
-/// The whole report.
-fn report(alloc: Global) -> Result<Report, Fail>
-    ensures { IfOk result (λ report. report ≡ worked.first_report) }
-{
-    let mut sessions = Vec::new(alloc);
-    sessions.push(answers(alloc)?)?;
-    let mut finals = Vec::new(alloc);
-    finals.push(final_cell(alloc)?)?;
-    Ok(Report {
-        answers: Items::new(sessions),
-        finals: Items::new(finals),
-    })
-}
-
-#[test]
-fn writes_a_report(rt: HostRuntime) -> Result<(), Fail> {
-    let text = b"anna 1\nworkers 1\nkey a max\nsession s eventual\nput a 5\nput a 3\nget a\nend\n";
-    let script = read_script(rt.alloc(), text)?;
-    let report = report(rt.alloc())?;
-    let mut sink = SureSink::new(rt.alloc(), 256)?;
-    assert_eq!(rt; write_report(&script, &report, &mut sink), Ok(()));
-    let want =
-        b"anna report 1\nsession s eventual\nput a 1 at 1\nput a 2 at 2\nget a @1 clock s:2 top 2 value 5\nfinal\na @1 clock s:2 top 2 value 5\nend\n";
-    assert_eq!(rt; sink.written(), want.as_slice());
-    Ok(())
 }
 
 /// A cell of versions: one of two puts of the first session, and one of a put of the second.

@@ -6,8 +6,8 @@ use Rattle.script_reader.specs.Split.{split_place}
 use Rattle.session_known.specs.Form.{HasForm}
 use Rattle.session_known.specs.declared.report.Report.{Report}
 use Rattle.session_known.specs.declared.script.Script.{Script}
-use Rattle.report_text.specs.Reads.{IsReading}
-use Rattle.report_text.specs.Text.{text_of}
+use Rattle.report_reader.specs.Reads.{IsReading}
+use Rattle.report_lines.specs.Text.{text_of}
 use Rattle.report_text.specs.declared.read.ReportFault.{ReportFault}
 use Rattle.report_text.specs.declared.read.ReportFault.TheVariants.{Form}
 use Rattle.anna_run.specs.Outcomes.{TellsOf}

@@ -6,7 +6,7 @@ use Rattle.session_known.specs.Form.{HasForm}
 use Rattle.session_known.specs.Script.{IsValidScript}
 use Rattle.session_known.specs.declared.report.Report.{Report}
 use Rattle.session_known.specs.declared.script.Script.{Script}
-use Rattle.report_text.specs.Text.{text_of}
+use Rattle.report_lines.specs.Text.{text_of}
 use Rattle.anna_run.specs.Outcomes.{IsOwed}
 use Rattle.anna_run.specs.Run.{SourceUse, HasServed, Owed, served_forms}
 use Rattle.anna_run.specs.declared.run.Outcome.{Outcome}

@@ -1,11 +1,5 @@
-use Rattle.report_text.proofs.WritesLemmas.{Adds-then, Adds-failed}
+use Rattle.report_text.proofs.WritesLemmas.{Adds-line}
 use Rattle.report_text.proofs.answers.write_abort.Goals as goal
 
-pub returns-in_err-write_piece : goal.returns-in_err-write_piece
-returns-in_err-write_piece g c = Adds-failed _ _ c.in_err-write_piece.ensures c.from_residual.ensures.0
-
-pub returns-in_err-write_number : goal.returns-in_err-write_number
-returns-in_err-write_number g c = Adds-then c.in_ok-write_piece.ensures (Adds-failed _ _ c.in_err-write_number.ensures c.from_residual-in_err-write_number.ensures.0)
-
 pub returns : goal.returns
-returns g c = Adds-then c.in_ok-write_piece.ensures (Adds-then c.in_ok-write_number.ensures c.write_piece-2.ensures)
+returns g c = Adds-line _ _ c.write.ensures c.write_spaced_number.ensures c.write-2.ensures

@@ -1,17 +1,7 @@
-use Rattle.report_text.proofs.WritesLemmas.{commit_line, Adds-then, Adds-failed, Adds-as}
+use Rattle.outside.proofs.GatheringLemmas.{Adds-as}
+use Rattle.report_text.proofs.ReportLemmas.{commit_line}
+use Rattle.report_text.proofs.WritesLemmas.{Adds-line}
 use Rattle.report_text.proofs.answers.write_commit.Goals as goal
 
-pub returns-in_err-write_piece : goal.returns-in_err-write_piece
-returns-in_err-write_piece g c = Adds-as (commit_line c.args.puts c.args.lamport c.if-puts-eq0.false) (Adds-failed _ _ c.in_err-write_piece.ensures c.from_residual.ensures.0)
-
-pub returns-in_err-write_number : goal.returns-in_err-write_number
-returns-in_err-write_number g c = Adds-as (commit_line c.args.puts c.args.lamport c.if-puts-eq0.false) (Adds-then c.in_ok-write_piece.ensures (Adds-failed _ _ c.in_err-write_number.ensures c.from_residual-in_err-write_number.ensures.0))
-
-pub returns-in_err-write_piece-2 : goal.returns-in_err-write_piece-2
-returns-in_err-write_piece-2 g c = Adds-as (commit_line c.args.puts c.args.lamport c.if-puts-eq0.false) (Adds-then c.in_ok-write_piece.ensures (Adds-then c.in_ok-write_number.ensures (Adds-failed _ _ c.in_err-write_piece-2.ensures c.from_residual-in_err-write_piece-2.ensures.0)))
-
-pub returns-in_err-write_number-2 : goal.returns-in_err-write_number-2
-returns-in_err-write_number-2 g c = Adds-as (commit_line c.args.puts c.args.lamport c.if-puts-eq0.false) (Adds-then c.in_ok-write_piece.ensures (Adds-then c.in_ok-write_number.ensures (Adds-then c.in_ok-write_piece-2.ensures (Adds-failed _ _ c.in_err-write_number-2.ensures c.from_residual-in_err-write_number-2.ensures.0))))
-
-pub returns : goal.returns
-returns g c = Adds-as (commit_line c.args.puts c.args.lamport c.if-puts-eq0.false) (Adds-then c.in_ok-write_piece.ensures (Adds-then c.in_ok-write_number.ensures (Adds-then c.in_ok-write_piece-2.ensures (Adds-then c.in_ok-write_number-2.ensures c.write_piece-4.ensures))))
+pub returns-else-puts-eq0 : goal.returns-else-puts-eq0
+returns-else-puts-eq0 g c = Adds-as (commit_line c.args.puts c.args.lamport c.if-puts-eq0.false) (Adds-line _ _ c.write-else-puts-eq0.ensures c.write_stamp.ensures c.write-else-puts-eq0-2.ensures)

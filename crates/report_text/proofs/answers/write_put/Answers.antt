@@ -1,23 +1,5 @@
-use Rattle.report_text.proofs.WritesLemmas.{Adds-then, Adds-failed}
+use Rattle.report_text.proofs.WritesLemmas.{Adds-line, Adds-word}
 use Rattle.report_text.proofs.answers.write_put.Goals as goal
 
-pub returns-in_err-write_piece : goal.returns-in_err-write_piece
-returns-in_err-write_piece g c = Adds-failed _ _ c.in_err-write_piece.ensures c.from_residual.ensures.0
-
-pub returns-in_err-write_key : goal.returns-in_err-write_key
-returns-in_err-write_key g c = Adds-then c.in_ok-write_piece.ensures (Adds-failed _ _ c.in_err-write_key.ensures c.from_residual-in_err-write_key.ensures.0)
-
-pub returns-in_err-write_piece-2 : goal.returns-in_err-write_piece-2
-returns-in_err-write_piece-2 g c = Adds-then c.in_ok-write_piece.ensures (Adds-then c.in_ok-write_key.ensures (Adds-failed _ _ c.in_err-write_piece-2.ensures c.from_residual-in_err-write_piece-2.ensures.0))
-
-pub returns-in_err-write_number : goal.returns-in_err-write_number
-returns-in_err-write_number g c = Adds-then c.in_ok-write_piece.ensures (Adds-then c.in_ok-write_key.ensures (Adds-then c.in_ok-write_piece-2.ensures (Adds-failed _ _ c.in_err-write_number.ensures c.from_residual-in_err-write_number.ensures.0)))
-
-pub returns-in_err-write_piece-3 : goal.returns-in_err-write_piece-3
-returns-in_err-write_piece-3 g c = Adds-then c.in_ok-write_piece.ensures (Adds-then c.in_ok-write_key.ensures (Adds-then c.in_ok-write_piece-2.ensures (Adds-then c.in_ok-write_number.ensures (Adds-failed _ _ c.in_err-write_piece-3.ensures c.from_residual-in_err-write_piece-3.ensures.0))))
-
-pub returns-in_err-write_number-2 : goal.returns-in_err-write_number-2
-returns-in_err-write_number-2 g c = Adds-then c.in_ok-write_piece.ensures (Adds-then c.in_ok-write_key.ensures (Adds-then c.in_ok-write_piece-2.ensures (Adds-then c.in_ok-write_number.ensures (Adds-then c.in_ok-write_piece-3.ensures (Adds-failed _ _ c.in_err-write_number-2.ensures c.from_residual-in_err-write_number-2.ensures.0)))))
-
 pub returns : goal.returns
-returns g c = Adds-then c.in_ok-write_piece.ensures (Adds-then c.in_ok-write_key.ensures (Adds-then c.in_ok-write_piece-2.ensures (Adds-then c.in_ok-write_number.ensures (Adds-then c.in_ok-write_piece-3.ensures (Adds-then c.in_ok-write_number-2.ensures c.write_piece-4.ensures)))))
+returns g c = Adds-line _ _ c.write.ensures (Adds-word _ _ c.write_spaced_key.ensures c.write_stamp.ensures) c.write-2.ensures

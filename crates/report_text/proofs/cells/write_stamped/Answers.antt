@@ -1,20 +1,5 @@
-use Rattle.report_text.proofs.WritesLemmas.{Adds-then, Adds-failed}
+use Rattle.outside.proofs.GatheringLemmas.{Adds-then}
 use Rattle.report_text.proofs.cells.write_stamped.Goals as goal
 
-pub returns-in_err-write_piece : goal.returns-in_err-write_piece
-returns-in_err-write_piece g c = Adds-then c.in_ok-write_word.ensures (Adds-failed _ _ c.in_err-write_piece.ensures c.from_residual-in_err-write_piece.ensures.0)
-
-pub returns-in_err-write_number : goal.returns-in_err-write_number
-returns-in_err-write_number g c = Adds-then c.in_ok-write_word.ensures (Adds-then c.in_ok-write_piece.ensures (Adds-failed _ _ c.in_err-write_number.ensures c.from_residual-in_err-write_number.ensures.0))
-
-pub returns-in_err-write_piece-2 : goal.returns-in_err-write_piece-2
-returns-in_err-write_piece-2 g c = Adds-then c.in_ok-write_word.ensures (Adds-then c.in_ok-write_piece.ensures (Adds-then c.in_ok-write_number.ensures (Adds-failed _ _ c.in_err-write_piece-2.ensures c.from_residual-in_err-write_piece-2.ensures.0)))
-
-pub returns-in_err-write_session : goal.returns-in_err-write_session
-returns-in_err-write_session g c = Adds-then c.in_ok-write_word.ensures (Adds-then c.in_ok-write_piece.ensures (Adds-then c.in_ok-write_number.ensures (Adds-then c.in_ok-write_piece-2.ensures (Adds-failed _ _ c.in_err-write_session.ensures c.from_residual-in_err-write_session.ensures.0))))
-
-pub returns-in_err-write_piece-3 : goal.returns-in_err-write_piece-3
-returns-in_err-write_piece-3 g c = Adds-then c.in_ok-write_word.ensures (Adds-then c.in_ok-write_piece.ensures (Adds-then c.in_ok-write_number.ensures (Adds-then c.in_ok-write_piece-2.ensures (Adds-then c.in_ok-write_session.ensures (Adds-failed _ _ c.in_err-write_piece-3.ensures c.from_residual-in_err-write_piece-3.ensures.0)))))
-
 pub returns : goal.returns
-returns g c = Adds-then c.in_ok-write_word.ensures (Adds-then c.in_ok-write_piece.ensures (Adds-then c.in_ok-write_number.ensures (Adds-then c.in_ok-write_piece-2.ensures (Adds-then c.in_ok-write_session.ensures (Adds-then c.in_ok-write_piece-3.ensures c.write_number-2.ensures)))))
+returns g c = Adds-then c.write_word.ensures (Adds-then c.write.ensures (Adds-then c.write_number.ensures (Adds-then c.write-2.ensures (Adds-then c.write_session.ensures (Adds-then c.write-3.ensures c.write_number-2.ensures)))))

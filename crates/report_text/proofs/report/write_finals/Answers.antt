@@ -1,15 +1,10 @@
 use Rattle.std.proofs.Common.{length, refl, arith}
 use Rattle.std.proofs.lemmas.Option.{slice_get_read}
-use Rattle.report_text.specs.Text.{final_words, line_text}
-use Rattle.report_text.proofs.WritesLemmas.{Adds-next, Adds-next_failed}
+use Rattle.report_lines.specs.Text.{final_words, line_text}
+use Rattle.report_text.proofs.WritesLemmas.{Adds-next}
 use Rattle.report_text.proofs.report.write_finals.Goals as goal
 
 pub loop-cell-preserved : goal.loop-cell-preserved
 loop-cell-preserved g c =
     let got = slice_get_read c.args.finals.now (length c.args.finals.now) c.loop-cell.cell-index c.cell-item.result refl (omega arith) c.cell-item.is in
-    Adds-next (λ cell. line_text (final_words c.args.script.now cell)) c.args.finals.now c.loop-cell.cell-index c.cell-item.result got c.loop-cell.invariant c.in_ok-write_final_line.ensures
-
-pub returns-in_err-write_final_line : goal.returns-in_err-write_final_line
-returns-in_err-write_final_line g c =
-    let got = slice_get_read c.args.finals.now (length c.args.finals.now) c.loop-cell.cell-index c.cell-item.result refl (omega arith) c.cell-item.is in
-    Adds-next_failed (λ cell. line_text (final_words c.args.script.now cell)) c.args.finals.now c.loop-cell.cell-index c.cell-item.result _ got c.loop-cell.invariant c.in_err-write_final_line.ensures c.from_residual.ensures.0
+    Adds-next (λ cell. line_text (final_words c.args.script.now cell)) c.args.finals.now c.loop-cell.cell-index c.cell-item.result got c.loop-cell.invariant c.write_final_line.ensures

@@ -1,10 +1,10 @@
-use Rattle.std.proofs.Common.{length, ap, sym, subst}
+use Rattle.std.proofs.Common.{length, ap, sym, subst, rules}
 use Rattle.std.specs.List.{All, AllZip, flat_map}
 use Rattle.session_known.specs.Script.{IsOneOf}
-use Rattle.report_text.specs.Text.{sessions_lines, line_text, final_words}
+use Rattle.outside.proofs.GatheringLemmas.{Adds-as, Adds-then, Adds-wrote, Adds-cause}
+use Rattle.report_lines.specs.Text.{sessions_lines, line_text, final_words}
 use Rattle.report_text.specs.Writes.{MayAnswer}
 use Rattle.report_text.proofs.ReportLemmas.{report_text, report_may, finals_keys}
-use Rattle.report_text.proofs.WritesLemmas.{Adds-as, Adds-then, Adds-failed}
 use Rattle.report_text.proofs.report.write_report.Goals as goal
 
 pub write_sessions-requires : goal.write_sessions-requires
@@ -17,17 +17,14 @@ write_finals-requires-clause-keys g c =
     let script = c.args.script.now in
     subst (All (λ cell. IsOneOf (length script.config.keys) cell.key)) (sym c.as_slice-2.ensures) (finals_keys script c.requires.valid.0 c.args.report.now c.requires.valid.2)
 
-pub returns-in_err-write_piece-clause-wrote : goal.returns-in_err-write_piece-clause-wrote
-returns-in_err-write_piece-clause-wrote g c = (Adds-as (report_text c.args.script.now c.args.report.now) (Adds-failed _ _ c.in_err-write_piece.ensures c.from_residual.ensures.0)).wrote
-
-pub returns-in_err-write_sessions-clause-wrote : goal.returns-in_err-write_sessions-clause-wrote
-returns-in_err-write_sessions-clause-wrote g c = (Adds-as (report_text c.args.script.now c.args.report.now) (Adds-then c.in_ok-write_piece.ensures (Adds-failed _ _ (Adds-as (ap (λ answers. flat_map line_text (sessions_lines c.args.script.now c.args.script.now.sessions answers)) (sym c.as_slice.ensures)) c.in_err-write_sessions.ensures) c.from_residual-in_err-write_sessions.ensures.0))).wrote
-
-pub returns-in_err-write_piece-2-clause-wrote : goal.returns-in_err-write_piece-2-clause-wrote
-returns-in_err-write_piece-2-clause-wrote g c = (Adds-as (report_text c.args.script.now c.args.report.now) (Adds-then c.in_ok-write_piece.ensures (Adds-then (Adds-as (ap (λ answers. flat_map line_text (sessions_lines c.args.script.now c.args.script.now.sessions answers)) (sym c.as_slice.ensures)) c.in_ok-write_sessions.ensures) (Adds-failed _ _ c.in_err-write_piece-2.ensures c.from_residual-in_err-write_piece-2.ensures.0)))).wrote
-
-pub returns-in_err-write_finals-clause-wrote : goal.returns-in_err-write_finals-clause-wrote
-returns-in_err-write_finals-clause-wrote g c = (Adds-as (report_text c.args.script.now c.args.report.now) (Adds-then c.in_ok-write_piece.ensures (Adds-then (Adds-as (ap (λ answers. flat_map line_text (sessions_lines c.args.script.now c.args.script.now.sessions answers)) (sym c.as_slice.ensures)) c.in_ok-write_sessions.ensures) (Adds-then c.in_ok-write_piece-2.ensures (Adds-failed _ _ (Adds-as (ap (flat_map (λ cell. line_text (final_words c.args.script.now cell))) (sym c.as_slice-2.ensures)) c.in_err-write_finals.ensures) c.from_residual-in_err-write_finals.ensures.0))))).wrote
-
 pub returns-clause-wrote : goal.returns-clause-wrote
-returns-clause-wrote g c = (Adds-as (report_text c.args.script.now c.args.report.now) (Adds-then c.in_ok-write_piece.ensures (Adds-then (Adds-as (ap (λ answers. flat_map line_text (sessions_lines c.args.script.now c.args.script.now.sessions answers)) (sym c.as_slice.ensures)) c.in_ok-write_sessions.ensures) (Adds-then c.in_ok-write_piece-2.ensures (Adds-then (Adds-as (ap (flat_map (λ cell. line_text (final_words c.args.script.now cell))) (sym c.as_slice-2.ensures)) c.in_ok-write_finals.ensures) c.write_piece-3.ensures))))).wrote
+returns-clause-wrote g c =
+    let script = c.args.script.now in
+    let sessions = Adds-as (ap (λ answers. flat_map line_text (sessions_lines script script.sessions answers)) c.as_slice.ensures) c.write_sessions.ensures in
+    let finals = Adds-as (ap (flat_map (λ cell. line_text (final_words script cell))) c.as_slice-2.ensures) c.write_finals.ensures in
+    let whole = Adds-as (sym (report_text script c.args.report.now)) (Adds-then c.write.ensures (Adds-then sessions (Adds-then c.write-2.ensures (Adds-then finals c.write-3.ensures)))) in
+    Adds-wrote c.finish.result (search rules) c.new-out.ensures.begins whole c.finish.ensures.adds c.finish.ensures.ends
+
+pub returns-clause-cause : goal.returns-clause-cause
+returns-clause-cause g c =
+    Adds-cause c.finish.result (search rules) c.new-out.ensures.begins (Adds-then c.write.ensures (Adds-then c.write_sessions.ensures (Adds-then c.write-2.ensures (Adds-then c.write_finals.ensures c.write-3.ensures)))) c.finish.ensures.adds c.finish.ensures.ends

@@ -21,7 +21,7 @@ returns-clause-ok c = elim c.match-self.branch [
 pub returns-clause-err : goal.returns-clause-err
 returns-clause-err c = elim c.match-self.branch [
   | in-Max-Max w ↦ err_of_parts _ w.join.result _ _ _ _ w.result-is w.self-is w.in-Max-Max.is-0 (more_on_err w.join.result (λ e. ap Max (plain_of_injective _ _ e)) w.join.ensures.err)
-  | in-Or-Or w ↦ err_of_parts _ w.join-in-Or-Or.result _ _ _ _ w.result-is w.self-is w.in-Or-Or.is-0 (more_on_err w.join-in-Or-Or.result (λ e. ap Or e) w.join-in-Or-Or.ensures.err)
+  | in-Or-Or w ↦ err_of_parts _ w.join-in-Or-Or.result _ _ _ _ w.result-is w.self-is w.in-Or-Or.is-0 (more_on_err w.join-in-Or-Or.result (λ e. absurd e) w.join-in-Or-Or.ensures.err)
   | in-Set-Set w ↦ err_of_parts _ w.join-in-Set-Set.result _ _ _ _ w.result-is w.self-is w.in-Set-Set.is-0 (more_on_err w.join-in-Set-Set.result (λ e. ap Set e) w.join-in-Set-Set.ensures.err)
   | in-Map-Map w ↦ err_of_parts _ w.join-in-Map-Map.result _ _ _ _ w.result-is w.self-is w.in-Map-Map.is-0 (more_on_err w.join-in-Map-Map.result (λ e. ap Map (same_entries _ _ e)) w.join-in-Map-Map.ensures.err)
   | in-Last-Last w ↦ err_of_parts _ w.join-in-Last-Last.result _ _ _ _ w.result-is w.self-is w.in-Last-Last.is-0 (more_on_err w.join-in-Last-Last.result (λ e. ap Last (plain_of_injective _ _ e)) w.join-in-Last-Last.ensures.err)

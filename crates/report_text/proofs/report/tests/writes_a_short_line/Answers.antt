@@ -1,5 +1,5 @@
 use Rattle.placement.specs.Config.{placed}
-use Rattle.report_text.proofs.WorkedLemmas.{versions_in_form}
+use Rattle.report_text.proofs.TestedLemmas.{versions_in_form}
 use Rattle.report_text.proofs.report.tests.writes_a_short_line.Goals as goal
 
 pub write_short-requires : goal.write_short-requires

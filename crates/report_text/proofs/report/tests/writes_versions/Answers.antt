@@ -1,5 +1,5 @@
 use Rattle.placement.specs.Config.{placed}
-use Rattle.report_text.proofs.WorkedLemmas.{versions_in_form}
+use Rattle.report_text.proofs.TestedLemmas.{versions_in_form}
 use Rattle.report_text.proofs.report.tests.writes_versions.Goals as goal
 
 pub write_final-requires : goal.write_final-requires

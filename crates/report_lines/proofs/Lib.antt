@@ -1,0 +1,9 @@
+pub mod AnswersLemmas
+pub mod ClocksLemmas
+pub mod LinesLemmas
+pub mod NamesLemmas
+pub mod RenderingLemmas
+pub mod ReportsLemmas
+pub mod RowsLemmas
+pub mod TextLemmas
+pub mod ValuesLemmas

@@ -1,0 +1,14 @@
+pub mod DueLemmas
+pub mod FormDueLemmas
+pub mod FormToldLemmas
+pub mod ReadAnswerLemmas
+pub mod ReadCellLemmas
+pub mod ReadCellLines
+pub mod ReadCellWords
+pub mod ReadClocks
+pub mod ReadLineLemmas
+pub mod ReadPartLemmas
+pub mod ReadRows
+pub mod ReadValueForms
+pub mod ReadValueParts
+pub mod ReadWords

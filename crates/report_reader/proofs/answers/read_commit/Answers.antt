@@ -1,0 +1,16 @@
+use Rattle.std.proofs.Common.{◌∷◌, codes, refl, sym, ap, ◌∙◌}
+use Rattle.session_known.specs.declared.script.Line.TheVariants as lines
+use Rattle.report_reader.proofs.ReadAnswerLemmas.{answer_same}
+use Rattle.report_reader.proofs.ReadCellWords.{one_text, texts_none, texts_pair}
+use Rattle.report_reader.proofs.answers.read_commit.Goals as goal
+
+pub returns-in-empty : goal.returns-in-empty
+returns-in-empty c = λ script level.
+    let words = c.in-Some.ensures ∙ ap (λ rest. codes "commit" ∷ c.in-Some.word.now ∷ rest) (texts_none c.in-Some.words.now c.in-empty.len_below) in
+    answer_same script level lines.Commit lines.Commit _ _ c.read_unnumbered.result refl words (c.read_unnumbered.ensures script level)
+
+pub returns-in-len2 : goal.returns-in-len2
+returns-in-len2 c = λ script level.
+    let behind = texts_pair c.in-Some.words.now _ (codes "at") c.in-len2.len_at_least c.in-len2.len_below (one_text _ _ (sym c.eq.ensures ∙ c.if-eq.true) ∙ c.as_slice.ensures) in
+    let words = c.in-Some.ensures ∙ ap (λ rest. codes "commit" ∷ c.in-Some.word.now ∷ rest) behind in
+    answer_same script level lines.Commit lines.Commit _ _ c.read_committed.result refl words (c.read_committed.ensures script level)

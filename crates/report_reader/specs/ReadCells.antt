@@ -1,0 +1,16 @@
+-- A cell as it is read: what answers and final cells share.
+use Rattle.std.specs.Prelude.{ℕ, ◌<◌, ◌^◌, List, [], ◌∷◌, codes}
+use Rattle.composed_value.specs.declared.kind.Kind.{Kind}
+use Rattle.session_known.specs.Form.{IsClockIn, IsValueIn}
+use Rattle.session_known.specs.declared.script.Script.{Script}
+use Rattle.report_reader.specs.declared.cells.Cell.{Cell}
+
+-- a cell of the kind in form
+pub record IsCellIn (script : Script) (kind : Kind) (cell : Cell) : Type 0 where
+  pub clock_is : IsClockIn script cell.clock
+  pub top_fits : cell.top < 2 ^ 64
+  pub value_is : IsValueIn script kind cell.value
+
+-- a cell whose clock, top and value are these words
+abbrev pub cell_of : List ℕ → List ℕ → List ℕ → List (List ℕ)
+cell_of clock top value = codes "clock" ∷ clock ∷ codes "top" ∷ top ∷ codes "value" ∷ value ∷ []

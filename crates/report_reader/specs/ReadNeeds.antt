@@ -1,0 +1,14 @@
+-- Needs read entry by entry.
+use Rattle.std.specs.Prelude.{ℕ, List, ◌++◌, length, codes}
+use Rattle.session_known.specs.Form.{IsClockIn}
+use Rattle.session_known.specs.Script.{IsOneOf}
+use Rattle.session_known.specs.declared.script.Script.{Script}
+use Rattle.report_lines.specs.Text.{key_name, clock_word}
+
+-- a key with a clock in form, which may be empty
+abbrev pub IsNeedIn : Script → ℕ × List (ℕ × ℕ) → Type 0
+IsNeedIn script entry = IsOneOf (length script.config.keys) entry.0 × IsClockIn script entry.1
+
+-- its text before the closing brace: `KEY{CLOCK`
+abbrev pub open_text : Script → ℕ × List (ℕ × ℕ) → List ℕ
+open_text script entry = key_name script entry.0 ++ (codes "{" ++ clock_word script entry.1)

@@ -1,0 +1,102 @@
+//! Cells, read: what answers and final cells share.
+ghost use Rattle.std.specs.Prelude.{◌≡◌, ◌↔◌, ◌∷◌, [], List, ℕ, IfOk, IsTrue, MatchOption, length, map};
+ghost use Rattle.session_known.specs.Script.{IsOneOf, IsValidScript, kind_at};
+ghost use Rattle.report_reader.specs.ReadCells.{IsCellIn, cell_of};
+ghost use Rattle.report_reader.specs.Reads.{Reads};
+ghost use Rattle.report_lines.specs.Text.{cell_words, key_name};
+
+use crate::clocks::read_clock;
+use crate::values::read_value;
+use crate::words::read_number;
+use clock_lattice::Clock;
+use composed_value::{Kind, Value};
+use lattice_laws::NoMemory;
+use session_known::Script;
+use std::alloc::Global;
+
+/// What a line shows of a cell.
+#[derive(Drop)]
+pub(crate) struct Cell {
+    pub(crate) clock: Clock,
+    pub(crate) top: u64,
+    pub(crate) value: Value,
+}
+
+/// The word behind the first, where that is the given name, and what stands behind both.
+pub(crate) fn named<'w, 'a>(
+    words: &'w [&'a [u8]],
+    name: &[u8],
+) -> Option<(&'a [u8], &'w [&'a [u8]])>
+    ensures { MatchOption result ((word : List ℕ) (rest : List (List ℕ)) → map (λ word. word.now) words.now ≡ name.now ∷ word ∷ rest → ⊥) (λ found. map (λ word. word.now) words.now ≡ name.now ∷ found.0.now ∷ map (λ word. word.now) found.1.now) }
+{
+    let [first, word, rest @ ..] = words else {
+        return None;
+    };
+    if *first != name {
+        return None;
+    }
+    Some((word, rest))
+}
+
+/// Whether a word is the name of a key.
+pub(crate) fn is_key(script: &Script, key: u16, word: &[u8]) -> bool
+    requires { IsOneOf (length script.now.config.keys) key }
+    ensures { IsTrue result ↔ (word.now ≡ key_name script.now key) }
+{
+    let place = &script.config.keys.as_slice()[usize::from(key) - 1];
+    place.name.as_bytes() == word
+}
+
+/// The kind of a key.
+fn kind_of_key(script: &Script, key: u16) -> Kind
+    requires valid { (table : List (List ℕ)) × IsValidScript script.now table }
+    requires key { IsOneOf (length script.now.config.keys) key }
+    ensures { result ≡ kind_at script.now.kinds key }
+{
+    script.kinds.as_slice()[usize::from(key) - 1]
+}
+
+/// The clock, the top and the value in the words of a cell.
+fn cell_parts<'a>(words: &[&'a [u8]]) -> Option<(&'a [u8], &'a [u8], &'a [u8])>
+    ensures { MatchOption result ((clock top value : List ℕ) → map (λ word. word.now) words.now ≡ cell_of clock top value → ⊥) (λ parts. map (λ word. word.now) words.now ≡ cell_of parts.0.now parts.1.now parts.2.now) }
+{
+    let Some((clock, words)) = named(words, b"clock") else {
+        return None;
+    };
+    let Some((top, words)) = named(words, b"top") else {
+        return None;
+    };
+    let Some((value, words)) = named(words, b"value") else {
+        return None;
+    };
+    if !words.is_empty() {
+        return None;
+    }
+    Some((clock, top, value))
+}
+
+/// Reads a cell of a key: `clock CLOCK top T value VALUE`.
+pub(crate) fn read_cell(
+    alloc: Global,
+    script: &Script,
+    key: u16,
+    words: &[&[u8]],
+) -> Result<Option<Cell>, NoMemory>
+    requires valid { (table : List (List ℕ)) × IsValidScript script.now table }
+    requires key { IsOneOf (length script.now.config.keys) key }
+    ensures { IfOk result (Reads (IsCellIn script.now (kind_at script.now.kinds key)) (λ cell. cell_words script.now cell.clock cell.top cell.value []) (map (λ word. word.now) words.now)) }
+{
+    let Some((clock, top, value)) = cell_parts(words) else {
+        return Ok(None);
+    };
+    let Some(clock) = read_clock(alloc, script, clock)? else {
+        return Ok(None);
+    };
+    let Some(top) = read_number(top) else {
+        return Ok(None);
+    };
+    let Some(value) = read_value(alloc, script, kind_of_key(script, key), value)? else {
+        return Ok(None);
+    };
+    Ok(Some(Cell { clock, top, value }))
+}

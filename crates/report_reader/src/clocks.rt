@@ -1,0 +1,129 @@
+//! Clocks and needs, read.
+ghost use Rattle.std.specs.Prelude.{IfOk, List, ℕ, map};
+ghost use Rattle.std.specs.List.{join_with_byte};
+ghost use Rattle.session_known.specs.Form.{IsClockIn, AreNeedsIn};
+ghost use Rattle.session_known.specs.Script.{IsValidScript};
+ghost use Rattle.report_lines.specs.Parts.{IsCounted};
+ghost use Rattle.report_reader.specs.ReadNeeds.{IsNeedIn, open_text};
+ghost use Rattle.report_reader.specs.ReadRows.{IsRow};
+ghost use Rattle.report_reader.specs.Reads.{Reads};
+ghost use Rattle.report_lines.specs.Text.{count_text, clock_word, need_text, needs_word};
+
+use crate::words::{cut_at, pieces_of, read_key, read_number, read_session};
+use clock_lattice::{Clock, Needs};
+use lattice_laws::{Lattice, NoMemory};
+use session_known::Script;
+use std::alloc::Global;
+
+// ---- clocks
+
+/// Reads a clock.
+pub(crate) fn read_clock(
+    alloc: Global,
+    script: &Script,
+    text: &[u8],
+) -> Result<Option<Clock>, NoMemory>
+    requires { (table : List (List ℕ)) × IsValidScript script.now table }
+    ensures { IfOk result (Reads (IsClockIn script.now) (clock_word script.now) text.now) }
+{
+    if text == b"-".as_slice() {
+        return Ok(Some(Clock::new(alloc)));
+    }
+    read_counts(alloc, script, text)
+}
+
+/// Reads the entries of a clock, of which there are some, between commas.
+fn read_counts(alloc: Global, script: &Script, text: &[u8]) -> Result<Option<Clock>, NoMemory>
+    requires { (table : List (List ℕ)) × IsValidScript script.now table }
+    ensures { IfOk result (Reads (IsRow (IsClockIn script.now)) (λ clock. join_with_byte 44 (map (count_text script.now) clock)) text.now) }
+{
+    let pieces = pieces_of(alloc, text, b',')?;
+    let mut clock = Clock::new(alloc);
+    for piece in &pieces {
+        let Some((session, count)) = read_count(script, piece) else {
+            return Ok(None);
+        };
+        if !clock.push(session, count)? {
+            return Ok(None);
+        }
+    }
+    clock.attest();
+    Ok(Some(clock))
+}
+
+/// Reads a session with a count.
+fn read_count(script: &Script, text: &[u8]) -> Option<(u16, u64)>
+    requires { (table : List (List ℕ)) × IsValidScript script.now table }
+    ensures { Reads (IsCounted script.now) (count_text script.now) text.now result }
+{
+    let Some((name, digits)) = cut_at(text, b':') else {
+        return None;
+    };
+    let Some(session) = read_session(script, name) else {
+        return None;
+    };
+    let Some(count) = read_number(digits) else {
+        return None;
+    };
+    Some((session, count))
+}
+
+// ---- needs
+
+/// Reads needs.
+pub(crate) fn read_needs(
+    alloc: Global,
+    script: &Script,
+    text: &[u8],
+) -> Result<Option<Needs>, NoMemory>
+    requires { (table : List (List ℕ)) × IsValidScript script.now table }
+    ensures { IfOk result (Reads (AreNeedsIn script.now) (needs_word script.now) text.now) }
+{
+    if text == b"-".as_slice() {
+        return Ok(Some(Needs::new(alloc)));
+    }
+    read_each_need(alloc, script, text)
+}
+
+/// Reads the entries of needs, of which there are some, between commas: each ends with its brace.
+fn read_each_need(alloc: Global, script: &Script, text: &[u8]) -> Result<Option<Needs>, NoMemory>
+    requires { (table : List (List ℕ)) × IsValidScript script.now table }
+    ensures { IfOk result (Reads (IsRow (AreNeedsIn script.now)) (λ needs. join_with_byte 44 (map (need_text script.now) needs)) text.now) }
+{
+    let mut needs = Needs::new(alloc);
+    let mut rest = text;
+    while let Some((entry, behind)) = cut_at(rest, b'}') {
+        let Some((key, clock)) = read_open(alloc, script, entry)? else {
+            return Ok(None);
+        };
+        if !needs.push(key, clock)? {
+            return Ok(None);
+        }
+        match behind {
+            [] => {
+                needs.attest();
+                return Ok(Some(needs));
+            }
+            [b',', more @ ..] => rest = more,
+            _ => return Ok(None),
+        }
+    }
+    Ok(None)
+}
+
+/// Reads a key with a clock, without the closing brace.
+fn read_open(alloc: Global, script: &Script, text: &[u8]) -> Result<Option<(u16, Clock)>, NoMemory>
+    requires { (table : List (List ℕ)) × IsValidScript script.now table }
+    ensures { IfOk result (Reads (IsNeedIn script.now) (open_text script.now) text.now) }
+{
+    let Some((name, word)) = cut_at(text, b'{') else {
+        return Ok(None);
+    };
+    let Some(key) = read_key(script, name) else {
+        return Ok(None);
+    };
+    let Some(clock) = read_clock(alloc, script, word)? else {
+        return Ok(None);
+    };
+    Ok(Some((key, clock)))
+}

@@ -1,0 +1,328 @@
+//! Reports read line by line.
+ghost use Rattle.std.specs.Prelude.{◌≡◌, List, ℕ, ◌+◌, ◌<◌, ◌≤◌, ◌^◌, ◌==◌, ◌∷◌, [], ◌++◌, All, false, map, filter, length, codes, IfOk, IfErr, OnOk, OnErr};
+ghost use Rattle.std.specs.List.{AllZip, flat_map, join_with_byte, list_any, range_with_len};
+ghost use Rattle.placement.specs.Name.{IsName};
+ghost use Rattle.session_known.specs.Form.{Fits, IsFinalIn, HasForm, final_places};
+ghost use Rattle.session_known.specs.Script.{IsOneOf, IsValidScript, IsValidSession, MayStand};
+ghost use Rattle.session_known.specs.declared.report.Answer.{Answer};
+ghost use Rattle.report_reader.specs.declared.ReportFault.TheVariants.{Form};
+ghost use Rattle.report_reader.specs.ReadLines.{Answered, FinalOf, IsFinalAt, session_dues, finals_dues, report_dues, HasGot, IsPartFault};
+ghost use Rattle.report_reader.specs.Reads.{IsReading};
+ghost use Rattle.report_lines.specs.Parts.{AreAnswers, place_of};
+ghost use Rattle.report_lines.specs.Text.{level_word, answer_words, answers_lines, sessions_lines, final_words, report_lines};
+
+use crate::ReportFault;
+use crate::answers::{read_answer, read_final};
+use crate::words::cut_at;
+use lattice_laws::{Items, NoMemory};
+use placement::Placement;
+use session_known::{Answer, FinalCell, Level, Line, Report, Script, SessionPlan};
+use std::alloc::Global;
+use std::marker::Model;
+
+/// The lines of a text that were not read yet. Contracts see what is left of the text, and the number
+/// of the next line, counted from 1.
+#[derive(Drop)]
+pub(crate) struct Lines<'a> {
+    rest: &'a [u8],
+    next: u32,
+}
+
+impl<'a> Model for Lines<'a> {
+    ghost use Rattle.std.specs.Prelude.{List, ℕ};
+
+    ghost Value = { List ℕ × ℕ };
+
+    ghost view = { λ lines. (lines.rest.now, lines.next) };
+}
+
+impl<'a> Lines<'a> {
+    /// All lines of a text.
+    fn new(bytes: &'a [u8]) -> Lines<'a>
+        ensures { result ≡ (bytes.now, 1) }
+    {
+        Lines {
+            rest: bytes,
+            next: 1,
+        }
+    }
+
+    /// The next line, without its line feed.
+    fn take(&mut self) -> Result<&'a [u8], ReportFault>
+        requires { self.old.1 + 1 < 2 ^ 32 }
+        ensures line { IfOk result (λ line. self.old.0 ≡ line.now ++ 10 ∷ self.new.0) }
+        ensures number { OnOk result (self.new.1 ≡ self.old.1 + 1) }
+        ensures within { IfOk result (λ line. list_any (λ b. b == 10) line.now ≡ false) }
+        ensures fault { IfErr result (λ fault. fault ≡ Form self.old.1) }
+        ensures none { OnErr result (list_any (λ b. b == 10) self.old.0 ≡ false) }
+    {
+        let Some((line, rest)) = cut_at(self.rest, b'\n') else {
+            return Err(ReportFault::Form { line: self.next });
+        };
+        self.rest = rest;
+        self.next += 1;
+        Ok(line)
+    }
+
+    /// Sees that nothing is left.
+    fn end(&self) -> Result<(), ReportFault>
+        ensures end { OnOk result (self.now.0 ≡ []) }
+        ensures fault { IfErr result (λ fault. (fault ≡ Form self.now.1) × (self.now.0 ≡ [] → ⊥)) }
+    {
+        if self.rest.is_empty() {
+            return Ok(());
+        }
+        Err(ReportFault::Form { line: self.next })
+    }
+}
+
+/// Reads the line that is wanted.
+fn read_exactly(lines: &mut Lines, wanted: &[u8]) -> Result<(), ReportFault>
+    requires room { lines.old.1 + 1 < 2 ^ 32 }
+    requires line { list_any (λ b. b == 10) wanted.now ≡ false }
+    ensures ok { OnOk result ((lines.old.0 ≡ wanted.now ++ 10 ∷ lines.new.0) × (lines.new.1 ≡ lines.old.1 + 1)) }
+    ensures fault { IfErr result (λ fault. (fault ≡ Form lines.old.1) × ((rest : List ℕ) → lines.old.0 ≡ wanted.now ++ 10 ∷ rest → ⊥)) }
+{
+    let number = lines.next;
+    if lines.take()? != wanted {
+        return Err(ReportFault::Form { line: number });
+    }
+    Ok(())
+}
+
+// ---- sessions
+
+/// The line of an answer.
+fn read_answer_line(
+    alloc: Global,
+    script: &Script,
+    level: Level,
+    line: &Line,
+    lines: &mut Lines,
+) -> Result<Answer, ReportFault>
+    requires valid { (table : List (List ℕ)) × IsValidScript script.now table × MayStand script.now table level line.now }
+    requires room { lines.old.1 + 1 < 2 ^ 32 }
+    ensures answer { IfOk result (Fits script.now level line.now) }
+    ensures got { IfOk result (λ answer. HasGot script.now (Answered level line.now ∷ []) (answer_words script.now line.now answer ∷ []) lines.old lines.new) }
+    ensures fault { IfErr result (IsPartFault script.now (Answered level line.now ∷ []) lines.old) }
+{
+    let number = lines.next;
+    let text = lines.take()?;
+    let Some(answer) = read_answer(alloc, script, level, line, text)? else {
+        return Err(ReportFault::Form { line: number });
+    };
+    Ok(answer)
+}
+
+/// The answers to the lines of a session of the level.
+fn read_answers(
+    alloc: Global,
+    script: &Script,
+    level: Level,
+    commands: &[Line],
+    lines: &mut Lines,
+) -> Result<Items<Answer>, ReportFault>
+    requires valid { (table : List (List ℕ)) × IsValidScript script.now table × All (MayStand script.now table level) commands.now }
+    requires room { lines.old.1 + length commands.now < 2 ^ 32 }
+    ensures answers { IfOk result (AllZip (Fits script.now level) commands.now) }
+    ensures got { IfOk result (λ answers. HasGot script.now (map (Answered level) commands.now) (answers_lines script.now commands.now answers) lines.old lines.new) }
+    ensures fault { IfErr result (IsPartFault script.now (map (Answered level) commands.now) lines.old) }
+{
+    let mut answers = Items::new(Vec::new(alloc));
+    for line in commands {
+        answers.push(read_answer_line(alloc, script, level, line, lines)?)?;
+    }
+    Ok(answers)
+}
+
+/// The word of a level.
+fn level_text(level: Level) -> &'static [u8]
+    ensures { result.now ≡ level_word level }
+{
+    match level {
+        Level::Eventual => b"eventual",
+        Level::Committed => b"committed",
+        Level::Causal => b"causal",
+    }
+}
+
+/// The line that a session begins with, without its line feed.
+fn session_line(alloc: Global, plan: &SessionPlan) -> Result<Vec<u8>, NoMemory>
+    ensures line { IfOk result (λ line. line.items ≡ join_with_byte 32 (codes "session" ∷ plan.now.name ∷ level_word plan.now.level ∷ [])) }
+    ensures named { OnOk result (IsName plan.now.name) }
+{
+    let mut line = Vec::new(alloc);
+    line.extend_from_slice(b"session ")?;
+    line.extend_from_slice(plan.name.as_bytes())?;
+    line.extend_from_slice(b" ")?;
+    line.extend_from_slice(level_text(plan.level))?;
+    Ok(line)
+}
+
+/// The lines of a session.
+fn read_session_part(
+    alloc: Global,
+    script: &Script,
+    plan: &SessionPlan,
+    lines: &mut Lines,
+) -> Result<Items<Answer>, ReportFault>
+    requires valid { (table : List (List ℕ)) × IsValidScript script.now table × IsValidSession script.now table plan.now }
+    requires room { lines.old.1 + length (session_dues plan.now) < 2 ^ 32 }
+    ensures answers { IfOk result (AreAnswers script.now plan.now) }
+    ensures got { IfOk result (λ answers. HasGot script.now (session_dues plan.now) ((codes "session" ∷ plan.now.name ∷ level_word plan.now.level ∷ []) ∷ answers_lines script.now plan.now.lines answers) lines.old lines.new) }
+    ensures fault { IfErr result (IsPartFault script.now (session_dues plan.now) lines.old) }
+{
+    let line = session_line(alloc, plan)?;
+    read_exactly(lines, &line)?;
+    read_answers(alloc, script, plan.level, plan.lines.as_slice(), lines)
+}
+
+/// The lines of sessions.
+fn read_sessions(
+    alloc: Global,
+    script: &Script,
+    plans: &[SessionPlan],
+    lines: &mut Lines,
+) -> Result<Items<Items<Answer>>, ReportFault>
+    requires valid { (table : List (List ℕ)) × IsValidScript script.now table × All (IsValidSession script.now table) plans.now }
+    requires room { lines.old.1 + length (flat_map session_dues plans.now) < 2 ^ 32 }
+    ensures answers { IfOk result (AllZip (AreAnswers script.now) plans.now) }
+    ensures got { IfOk result (λ answers. HasGot script.now (flat_map session_dues plans.now) (sessions_lines script.now plans.now answers) lines.old lines.new) }
+    ensures fault { IfErr result (IsPartFault script.now (flat_map session_dues plans.now) lines.old) }
+{
+    let mut answers = Items::new(Vec::new(alloc));
+    for plan in plans {
+        answers.push(read_session_part(alloc, script, plan, lines)?)?;
+    }
+    Ok(answers)
+}
+
+// ---- final cells
+
+/// Adds a key with each of its replicas, ascending.
+fn push_places(
+    places: &mut Vec<(u16, u16)>,
+    key: u16,
+    workers: u16,
+    replicas: &[u16],
+) -> Result<(), NoMemory>
+    requires { workers ≤ 8 }
+    ensures { OnOk result (places.new.items ≡ places.old.items ++ map (λ worker. (key, worker)) (filter (λ worker. list_any (λ replica. replica == worker) replicas.now) (range_with_len 1 workers))) }
+{
+    for i in 0..workers {
+        let worker = i + 1;
+        if !replicas.contains(&worker) {
+            continue;
+        }
+        places.push((key, worker))?;
+    }
+    Ok(())
+}
+
+/// The keys and workers of the final cells, in order.
+fn places_of(
+    alloc: Global,
+    script: &Script,
+    placement: &Placement,
+) -> Result<Vec<(u16, u16)>, NoMemory>
+    requires { IsValidScript script.now placement.now }
+    ensures { IfOk result (λ places. places.items ≡ final_places script.now placement.now) }
+{
+    let mut places = Vec::new(alloc);
+    for i in 0..placement.keys() {
+        let key = i + 1;
+        push_places(
+            &mut places,
+            key,
+            script.config.workers,
+            placement.replicas(key),
+        )?;
+    }
+    Ok(places)
+}
+
+/// The line of a final cell.
+fn read_final_line(
+    alloc: Global,
+    script: &Script,
+    key: u16,
+    worker: u16,
+    lines: &mut Lines,
+) -> Result<FinalCell, ReportFault>
+    requires valid { (table : List (List ℕ)) × IsValidScript script.now table }
+    requires key { IsOneOf (length script.now.config.keys) key }
+    requires worker { IsOneOf script.now.config.workers worker }
+    requires room { lines.old.1 + 1 < 2 ^ 32 }
+    ensures cell { IfOk result (IsFinalAt script.now key worker) }
+    ensures got { IfOk result (λ cell. HasGot script.now (FinalOf key worker ∷ []) (final_words script.now cell ∷ []) lines.old lines.new) }
+    ensures fault { IfErr result (IsPartFault script.now (FinalOf key worker ∷ []) lines.old) }
+{
+    let number = lines.next;
+    let text = lines.take()?;
+    let Some(cell) = read_final(alloc, script, key, worker, text)? else {
+        return Err(ReportFault::Form { line: number });
+    };
+    Ok(cell)
+}
+
+/// The lines of the final cells of keys at workers.
+fn read_finals(
+    alloc: Global,
+    script: &Script,
+    places: &[(u16, u16)],
+    lines: &mut Lines,
+) -> Result<Items<FinalCell>, ReportFault>
+    requires valid { (table : List (List ℕ)) × IsValidScript script.now table }
+    requires places { All (λ place. IsOneOf (length script.now.config.keys) place.0 × IsOneOf script.now.config.workers place.1) places.now }
+    requires room { lines.old.1 + length places.now < 2 ^ 32 }
+    ensures places { IfOk result (λ cells. map place_of cells ≡ places.now) }
+    ensures cells { IfOk result (All (IsFinalIn script.now)) }
+    ensures got { IfOk result (λ cells. HasGot script.now (finals_dues places.now) (map (final_words script.now) cells) lines.old lines.new) }
+    ensures fault { IfErr result (IsPartFault script.now (finals_dues places.now) lines.old) }
+{
+    let mut cells = Items::new(Vec::new(alloc));
+    for place in places {
+        cells.push(read_final_line(alloc, script, place.0, place.1, lines)?)?;
+    }
+    Ok(cells)
+}
+
+// ---- reports
+
+/// The lines of a report.
+fn read_parts(
+    alloc: Global,
+    script: &Script,
+    places: &[(u16, u16)],
+    lines: &mut Lines,
+) -> Result<Report, ReportFault>
+    requires valid { (table : List (List ℕ)) × IsValidScript script.now table × (places.now ≡ final_places script.now table) }
+    requires first { lines.old.1 ≡ 1 }
+    ensures form { (table : List (List ℕ)) → IsValidScript script.now table → places.now ≡ final_places script.now table → IfOk result (HasForm script.now table) }
+    ensures got { (table : List (List ℕ)) → IsValidScript script.now table → places.now ≡ final_places script.now table → IfOk result (λ report. HasGot script.now (report_dues script.now table) (report_lines script.now report) lines.old lines.new) }
+    ensures fault { (table : List (List ℕ)) → IsValidScript script.now table → places.now ≡ final_places script.now table → IfErr result (IsPartFault script.now (report_dues script.now table) lines.old) }
+{
+    read_exactly(lines, b"anna report 1")?;
+    let answers = read_sessions(alloc, script, script.sessions.as_slice(), lines)?;
+    read_exactly(lines, b"final")?;
+    let finals = read_finals(alloc, script, places, lines)?;
+    read_exactly(lines, b"end")?;
+    Ok(Report { answers, finals })
+}
+
+/// Reads a report, where the keys live as the placement says.
+pub(crate) fn read_text(
+    alloc: Global,
+    script: &Script,
+    placement: &Placement,
+    bytes: &[u8],
+) -> Result<Report, ReportFault>
+    requires { IsValidScript script.now placement.now }
+    ensures { IsReading script.now placement.now bytes.now result }
+{
+    let places = places_of(alloc, script, placement)?;
+    let mut lines = Lines::new(bytes);
+    let report = read_parts(alloc, script, &places, &mut lines)?;
+    lines.end()?;
+    Ok(report)
+}

@@ -1,0 +1,198 @@
+//! What is out of form.
+use super::*;
+use script_reader::read_script;
+use std::test::Fail;
+
+/// The first line of a text that is not in form, and 0 where it is a report of the script.
+fn line_out_of_form(alloc: Global, script: &str, text: &[u8]) -> Result<u32, Fail> {
+    let script = read_script(alloc, script.as_bytes())?;
+    match read_report(alloc, &script, text) {
+        Ok(_) => Ok(0),
+        Err(ReportFault::Form { line }) => Ok(line),
+        Err(ReportFault::NoMemory) => Err(NoMemory.into()),
+    }
+}
+
+/// A script with commands and keys of all kinds.
+const ALL: &str =
+    "anna 1\nworkers 2\nkey m max at 1 2\nkey o or at 1\nkey s set at 2\nkey h map at 1\nkey l last at 1\nkey v versions at 2\nsession A eventual\nput m 5\nget s\nget h\nget v 2\nsession B committed\nbegin\nput l red\ncommit\nbegin\nabort\nsession C causal\nget o\nget m\nawait m A 1\nawait l B 02\nput m 7\nend\n";
+
+/// The lines of a report of its form.
+const LINES: [&str; 27] = [
+    "anna report 1",
+    "session A eventual",
+    "put m 1 at 1",
+    "get s @2 clock A:1,B:2 top 3 value {blue,red}",
+    "get h @1 clock B:1 top 2 value {price=10,size=2}",
+    "get v @2 clock A:2,C:1 top 4 value z(A:1,C:1)|y(A:2)",
+    "session B committed",
+    "begin",
+    "put l held",
+    "commit 1 at 2",
+    "begin",
+    "abort 0",
+    "session C causal",
+    "get o @1 clock A:1 top 1 value on needs m{A:1},l{A:1,B:1}",
+    "again m after 16 @2 clock -",
+    "await m A 1 @1 clock A:1 top 1 value 5 needs -",
+    "await l B 2 gave up after 8 @1 clock B:1",
+    "put m worn",
+    "final",
+    "m @1 clock A:1 top 1 value 5",
+    "m @2 clock A:1 top 1 value 5",
+    "o @1 clock - top 0 value none",
+    "s @2 clock A:1 top 1 value {blue}",
+    "h @1 clock B:1 top 2 value {size=2}",
+    "l @1 clock B:1 top 2 value red/2/B/0",
+    "v @2 clock - top 0 value none",
+    "end",
+];
+
+/// Lines, each in place of the line of its number, counted from 1, that are not in form there.
+const SPOILT: [(u32, &str); 72] = [
+    (1, "anna report 2"),
+    (1, "anna  report 1"),
+    (2, "session B eventual"),
+    (2, "session A committed"),
+    (2, "put m 1 at 1"),
+    (3, "put m 01 at 1"),
+    (3, "put m 1 at 01"),
+    (3, "put m 18446744073709551616 at 1"),
+    (3, "put m 1 at 1 "),
+    (3, " put m 1 at 1"),
+    (3, "put  m 1 at 1"),
+    (3, "put s 1 at 1"),
+    (3, "put m 1"),
+    (3, "put m held"),
+    (3, "commit 1 at 1"),
+    (3, ""),
+    (4, "get m @2 clock A:1,B:2 top 3 value {blue,red}"),
+    (4, "get s @0 clock A:1,B:2 top 3 value {blue,red}"),
+    (4, "get s @3 clock A:1,B:2 top 3 value {blue,red}"),
+    (4, "get s @02 clock A:1,B:2 top 3 value {blue,red}"),
+    (4, "get s 2 clock A:1,B:2 top 3 value {blue,red}"),
+    (4, "get s @2 clock B:2,A:1 top 3 value {blue,red}"),
+    (4, "get s @2 clock A:1,A:1 top 3 value {blue,red}"),
+    (4, "get s @2 clock A:1,D:2 top 3 value {blue,red}"),
+    (4, "get s @2 clock A:0,B:2 top 3 value {blue,red}"),
+    (4, "get s @2 clock A:1, top 3 value {blue,red}"),
+    (4, "get s @2 clock  top 3 value {blue,red}"),
+    (4, "get s @2 clock A:1,B:2 top 3 value {red,blue}"),
+    (4, "get s @2 clock A:1,B:2 top 3 value {blue,blue}"),
+    (4, "get s @2 clock A:1,B:2 top 3 value {}"),
+    (4, "get s @2 clock A:1,B:2 top 3 value blue,red"),
+    (4, "get s @2 clock A:1,B:2 top 3 value 5"),
+    (4, "get s @2 clock A:1,B:2 top 3 value {blue,red} needs -"),
+    (4, "again s after 8 @2 clock -"),
+    (5, "get h @1 clock B:1 top 2 value {size=2,price=10}"),
+    (5, "get h @1 clock B:1 top 2 value {price=10,price=11}"),
+    (5, "get h @1 clock B:1 top 2 value {price=010,size=2}"),
+    (5, "get h @1 clock B:1 top 2 value {price,size=2}"),
+    (6, "get v @2 clock A:2,C:1 top 4 value y(A:2)|z(A:1,C:1)"),
+    (6, "get v @2 clock A:2,C:1 top 4 value z(A:1)|y(A:2)"),
+    (6, "get v @2 clock A:2,C:1 top 4 value y(A:2)|y(A:2)"),
+    (6, "get v @2 clock A:2,C:1 top 4 value z(A:1,C:1),y(A:2)"),
+    (6, "get v @2 clock A:2,C:1 top 4 value z(A:1,C:1"),
+    (8, "begin begin"),
+    (9, "put l hold"),
+    (10, "commit 01 at 2"),
+    (10, "commit 0 at 2"),
+    (10, "commit 4294967296 at 2"),
+    (10, "commit 1"),
+    (12, "abort"),
+    (12, "abort 4294967296"),
+    (14, "get o @1 clock A:1 top 1 value on"),
+    (14, "get o @1 clock A:1 top 1 value off needs -"),
+    (
+        14,
+        "get o @1 clock A:1 top 1 value on needs l{A:1,B:1},m{A:1}",
+    ),
+    (14, "get o @1 clock A:1 top 1 value on needs m{A:1},m{A:1}"),
+    (14, "get o @1 clock A:1 top 1 value on needs m{-}"),
+    (
+        14,
+        "get o @1 clock A:1 top 1 value on needs m{A:1},l{A:1,B:1}}",
+    ),
+    (15, "again o after 16 @2 clock -"),
+    (15, "again m after 4294967296 @2 clock -"),
+    (15, "get m after 16 @2 clock -"),
+    (16, "await m A 01 @1 clock A:1 top 1 value 5 needs -"),
+    (16, "await m B 1 @1 clock A:1 top 1 value 5 needs -"),
+    (17, "await l B 2 gave after 8 @1 clock B:1"),
+    (18, "put m worn out"),
+    (20, "m @2 clock A:1 top 1 value 5"),
+    (20, "o @1 clock A:1 top 1 value 5"),
+    (20, "m @1 clock A:1 top 01 value 5"),
+    (20, "m @1 clock A:1 top 1 value 5 needs -"),
+    (25, "l @1 clock B:1 top 2 value red/2/D/0"),
+    (25, "l @1 clock B:1 top 2 value red/2/B/4294967296"),
+    (25, "l @1 clock B:1 top 2 value red/2/B"),
+    (27, "end of the report"),
+];
+
+/// Lines, each with a line feed.
+fn text_of_lines(alloc: Global, lines: &[&str]) -> Result<Vec<u8>, NoMemory> {
+    let mut text = Vec::new(alloc);
+    for line in lines {
+        text.extend_from_slice(line.as_bytes())?;
+        text.extend_from_slice(b"\n")?;
+    }
+    Ok(text)
+}
+
+/// The lines with other words in place of one, whose number is counted from 1.
+fn spoilt_text(alloc: Global, number: u32, words: &str) -> Result<Vec<u8>, NoMemory> {
+    let mut text = Vec::new(alloc);
+    for (place, line) in LINES.iter().enumerate() {
+        if place + 1 == number as usize {
+            text.extend_from_slice(words.as_bytes())?;
+        } else {
+            text.extend_from_slice(line.as_bytes())?;
+        }
+        text.extend_from_slice(b"\n")?;
+    }
+    Ok(text)
+}
+
+#[test]
+fn the_first_spoilt_line_is_named(rt: HostRuntime) -> Result<(), Fail> {
+    let text = text_of_lines(rt.alloc(), &LINES)?;
+    assert_eq!(rt; line_out_of_form(rt.alloc(), ALL, &text)?, 0);
+    for (line, words) in SPOILT {
+        let spoilt = spoilt_text(rt.alloc(), line, words)?;
+        assert_eq!(rt;
+            line_out_of_form(rt.alloc(), ALL, &spoilt)?,
+            line,
+            "{words}"
+        );
+    }
+    Ok(())
+}
+
+#[test]
+fn lines_may_not_be_missing_nor_more(rt: HostRuntime) -> Result<(), Fail> {
+    let text = text_of_lines(rt.alloc(), &LINES)?;
+    let without_end = text_of_lines(rt.alloc(), &LINES[..26])?;
+    let without_a_final_cell = text_of_lines(
+        rt.alloc(),
+        &[&LINES[..20], &LINES[21..]].concat(rt.alloc())?,
+    )?;
+    let without_line_feed = match text.as_slice() {
+        [front @ .., b'\n'] => front,
+        _ => b"",
+    };
+    let mut twice = text.to_vec(rt.alloc())?;
+    twice.extend_from_slice(b"end\n")?;
+    let mut more = text.to_vec(rt.alloc())?;
+    more.extend_from_slice(b"x")?;
+    assert_eq!(rt; line_out_of_form(rt.alloc(), ALL, b"")?, 1);
+    assert_eq!(rt; line_out_of_form(rt.alloc(), ALL, &without_end)?, 27);
+    assert_eq!(rt; line_out_of_form(rt.alloc(), ALL, without_line_feed)?, 27);
+    assert_eq!(rt;
+        line_out_of_form(rt.alloc(), ALL, &without_a_final_cell)?,
+        21
+    );
+    assert_eq!(rt; line_out_of_form(rt.alloc(), ALL, &twice)?, 28);
+    assert_eq!(rt; line_out_of_form(rt.alloc(), ALL, &more)?, 28);
+    Ok(())
+}

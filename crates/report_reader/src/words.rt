@@ -1,0 +1,118 @@
+//! Words of a report, read: numbers, names and workers, and texts cut at a byte.
+ghost use Rattle.std.specs.Prelude.{◌≡◌, ◌↔◌, List, ℕ, ◌<◌, ◌^◌, ◌==◌, ◌∷◌, ◌++◌, false, map, length, decimal, IfOk, IsTrue, MatchOption};
+ghost use Rattle.std.specs.List.{list_any, slice_split};
+ghost use Rattle.session_known.specs.Script.{IsOneOf, IsValidScript};
+ghost use Rattle.report_reader.specs.Reads.{Reads};
+ghost use Rattle.report_lines.specs.Text.{key_name, session_name, worker_word};
+
+use itoa::Buffer;
+use lattice_laws::NoMemory;
+use session_known::Script;
+use std::alloc::Global;
+
+// ---- texts in parts
+
+/// A text cut at the first place of a byte, which is in neither part.
+pub(crate) fn cut_at(text: &[u8], byte: u8) -> Option<(&[u8], &[u8])>
+    ensures { MatchOption result (list_any (λ b. b == byte) text.now ≡ false) (λ parts. (text.now ≡ parts.0.now ++ byte ∷ parts.1.now) × (list_any (λ b. b == byte) parts.0.now ≡ false)) }
+{
+    let Some(at) = text.iter().position(|b| *b == byte) else {
+        return None;
+    };
+    Some((&text[..at], &text[at + 1..]))
+}
+
+/// What stands between the places of a byte, an empty text too.
+pub(crate) fn pieces_of(alloc: Global, text: &[u8], byte: u8) -> Result<Vec<&[u8]>, NoMemory>
+    ensures { IfOk result (λ pieces. map (λ piece. piece.now) pieces.items ≡ slice_split (λ b. b == byte) text.now) }
+{
+    Ok(text.split(|b| *b == byte).collect(alloc)?)
+}
+
+// ---- numbers
+
+/// Reads a number of 64 bits: decimal digits without leading zeros.
+pub(crate) fn read_number(text: &[u8]) -> Option<u64>
+    ensures { Reads (λ n. n < 2 ^ 64) decimal text.now result }
+{
+    let Ok(written) = str::from_utf8(text) else {
+        return None;
+    };
+    let Ok(number) = written.parse() else {
+        return None;
+    };
+    if !is_written(number, text) {
+        return None;
+    }
+    Some(number)
+}
+
+/// Reads a number of 32 bits.
+pub(crate) fn read_small_number(text: &[u8]) -> Option<u32>
+    ensures { Reads (λ n. n < 2 ^ 32) decimal text.now result }
+{
+    let Some(number) = read_number(text) else {
+        return None;
+    };
+    let Ok(small) = u32::try_from(number) else {
+        return None;
+    };
+    Some(small)
+}
+
+/// Whether a number is written as the text.
+fn is_written(number: u64, text: &[u8]) -> bool
+    ensures { IsTrue result ↔ (text.now ≡ decimal number) }
+{
+    let mut buffer = Buffer::new();
+    buffer.format(number).as_bytes() == text
+}
+
+// ---- names
+
+/// Reads the name of a session.
+pub(crate) fn read_session(script: &Script, text: &[u8]) -> Option<u16>
+    requires { (table : List (List ℕ)) × IsValidScript script.now table }
+    ensures { Reads (IsOneOf (length script.now.sessions)) (session_name script.now) text.now result }
+{
+    let sessions = script.sessions.as_slice();
+    let Some(place) = sessions
+        .iter()
+        .position(|plan| plan.name.as_bytes() == text)
+    else {
+        return None;
+    };
+    Some((place + 1) as u16)
+}
+
+/// Reads the name of a key.
+pub(crate) fn read_key(script: &Script, text: &[u8]) -> Option<u16>
+    requires { (table : List (List ℕ)) × IsValidScript script.now table }
+    ensures { Reads (IsOneOf (length script.now.config.keys)) (key_name script.now) text.now result }
+{
+    let keys = script.config.keys.as_slice();
+    let Some(place) = keys.iter().position(|key| key.name.as_bytes() == text) else {
+        return None;
+    };
+    Some((place + 1) as u16)
+}
+
+/// Reads a worker, `@` and its number.
+pub(crate) fn read_worker(script: &Script, text: &[u8]) -> Option<u16>
+    requires { (table : List (List ℕ)) × IsValidScript script.now table }
+    ensures { Reads (IsOneOf script.now.config.workers) worker_word text.now result }
+{
+    let [b'@', digits @ ..] = text else {
+        return None;
+    };
+    let Some(number) = read_number(digits) else {
+        return None;
+    };
+    let Ok(number) = u16::try_from(number) else {
+        return None;
+    };
+    if number < 1 || script.config.workers < number {
+        return None;
+    }
+    Some(number)
+}

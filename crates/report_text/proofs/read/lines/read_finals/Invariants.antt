@@ -1,5 +1,0 @@
-use Rattle.report_text.proofs.ReadLineLemmas.{AreFinalsSo}
-use Rattle.report_text.proofs.read.lines.read_finals.Given as goal
-
-abbrev pub invariant-loop-place : goal.invariant-loop-place
-invariant-loop-place l = AreFinalsSo l.script l.places l.fn.lines l.place-index l.lines l.cells

@@ -1,5 +1,0 @@
-use Rattle.report_text.proofs.ReadLineLemmas.{AreSessionsSo}
-use Rattle.report_text.proofs.read.lines.read_sessions.Given as goal
-
-abbrev pub invariant-loop-plan : goal.invariant-loop-plan
-invariant-loop-plan l = AreSessionsSo l.script l.plans l.fn.lines l.plan-index l.lines l.answers

@@ -1,9 +1,0 @@
-use Rattle.report_text.proofs.ReadRows.{none_reads}
-use Rattle.report_text.proofs.ReadValueParts.{field_parts}
-use Rattle.report_text.proofs.read.values.read_field.Goals as goal
-
-pub returns-in_default-read_number : goal.returns-in_default-read_number
-returns-in_default-read_number c field is same = c.in_default-read_number.ensures field.1 is.1 (field_parts c.args.text.now c.in-Some.field.now c.in-Some.number.now field c.in-Some.ensures is same).1
-
-pub returns-in_default-2 : goal.returns-in_default-2
-returns-in_default-2 c field is same = none_reads _ _ _ _ c.in_ok-field.ensures c.in_default-2.is field.0 is.0 (field_parts c.args.text.now c.in-Some.field.now c.in-Some.number.now field c.in-Some.ensures is same).0

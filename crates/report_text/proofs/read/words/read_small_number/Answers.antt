@@ -1,9 +1,0 @@
-use Rattle.std.proofs.Common.{arith}
-use Rattle.report_text.proofs.ReadWords.{number_told}
-use Rattle.report_text.proofs.read.words.read_small_number.Goals as goal
-
-pub returns-in_default-try_from : goal.returns-in_default-try_from
-returns-in_default-try_from c = λ x small same.
-    let read = c.in-Some.ensures in
-    let number = number_told c.in-Some.number x c.args.text.now read.0 (omega arith) read.1 same in
-    c.in_default-try_from.ensures (omega arith)

@@ -1,0 +1,73 @@
+//! Reports that are read and written back.
+
+use super::*;
+use script_reader::outside::{Failed, MemSink, SureSink};
+use script_reader::read_script;
+use std::alloc::Global;
+use std::test::Fail;
+
+/// Whether a text is read as a report of the script, and written back to equal bytes.
+fn is_read_back(alloc: Global, script: &str, text: &[u8]) -> Result<bool, Fail> {
+    let script = read_script(alloc, script.as_bytes())?;
+    let report = read_report(alloc, &script, text)?;
+    let mut sink = SureSink::new(alloc, 65_536)?;
+    let written = write_report(&script, &report, &mut sink);
+    Ok(written.is_ok() && sink.written() == text)
+}
+
+/// Scripts, each with a report of its form.
+const WORKED: [(&str, &str); 8] = [
+    (
+        "anna 1\nworkers 1\nkey a max\nsession s eventual\nput a 5\nput a 3\nget a\nend\n",
+        "anna report 1\nsession s eventual\nput a 1 at 1\nput a 2 at 2\nget a @1 clock s:2 top 2 value 5\nfinal\na @1 clock s:2 top 2 value 5\nend\n",
+    ),
+    (
+        "anna 1\nworkers 2\nfactor 2\nend\n",
+        "anna report 1\nfinal\nend\n",
+    ),
+    (
+        "anna 1\nworkers 1\nkey a max\nsession s eventual\nget a\nend\n",
+        "anna report 1\nsession s eventual\nget a @1 clock - top 0 value none\nfinal\na @1 clock - top 0 value none\nend\n",
+    ),
+    (
+        "anna 1\nworkers 2\nkey a max at 1 2\nsession s eventual\nput a 4\nsession t eventual\nput a 9\nput a 2\nend\n",
+        "anna report 1\nsession s eventual\nput a 1 at 1\nsession t eventual\nput a 1 at 1\nput a 2 at 2\nfinal\na @1 clock s:1,t:2 top 2 value 9\na @2 clock s:1,t:2 top 2 value 9\nend\n",
+    ),
+    (
+        "anna 1\nworkers 2\nkey a set at 2 1\nsession s eventual\nput a x\nget a\nput a y\nget a\nend\n",
+        "anna report 1\nsession s eventual\nput a 1 at 1\nget a @2 clock s:1 top 1 value {x}\nput a 2 at 2\nget a @2 clock s:2 top 2 value {x,y}\nfinal\na @1 clock s:2 top 2 value {x,y}\na @2 clock s:2 top 2 value {x,y}\nend\n",
+    ),
+    (
+        "anna 1\nworkers 2\nkey a max at 1\nkey b max at 2\nsession s causal\nput a 1\nawait b t 1\nput a 2\nsession t causal\nawait a s 1\nput b 7\nend\n",
+        "anna report 1\nsession s causal\nput a 1 at 1\nawait b t 1 @2 clock t:1 top 2 value 7 needs a{s:1}\nput a 2 at 3\nsession t causal\nawait a s 1 @1 clock s:1 top 1 value 1 needs -\nput b 1 at 2\nfinal\na @1 clock s:2 top 3 value 2\nb @2 clock t:1 top 2 value 7\nend\n",
+    ),
+    (
+        "anna 1\nworkers 1\nkey a max\nkey l last\nsession s committed\nbegin\nput a 5\nput l red\nabort\nbegin\nput a 5\nput l red\ncommit\nget l\nend\n",
+        "anna report 1\nsession s committed\nbegin\nput a held\nput l held\nabort 2\nbegin\nput a held\nput l held\ncommit 2 at 1\nget l @1 clock s:1 top 1 value red/1/s/1\nfinal\na @1 clock s:1 top 1 value 5\nl @1 clock s:1 top 1 value red/1/s/1\nend\n",
+    ),
+    (
+        "anna 1\nworkers 2\nkey m max at 1 2\nkey o or at 1\nkey s set at 2\nkey h map at 1\nkey l last at 1\nkey v versions at 2\nsession A eventual\nput m 5\nget s\nget h\nget v 2\nsession B committed\nbegin\nput l red\ncommit\nbegin\nabort\nsession C causal\nget o\nget m\nawait m A 1\nawait l B 02\nput m 7\nend\n",
+        "anna report 1\nsession A eventual\nput m 1 at 1\nget s @2 clock A:1,B:2 top 3 value {blue,red}\nget h @1 clock B:1 top 2 value {price=10,size=2}\nget v @2 clock A:2,C:1 top 4 value z(A:1,C:1)|y(A:2)\nsession B committed\nbegin\nput l held\ncommit 1 at 2\nbegin\nabort 0\nsession C causal\nget o @1 clock A:1 top 1 value on needs m{A:1},l{A:1,B:1}\nagain m after 16 @2 clock -\nawait m A 1 @1 clock A:1 top 1 value 5 needs -\nawait l B 2 gave up after 8 @1 clock B:1\nput m worn\nfinal\nm @1 clock A:1 top 1 value 5\nm @2 clock A:1 top 1 value 5\no @1 clock - top 0 value none\ns @2 clock A:1 top 1 value {blue}\nh @1 clock B:1 top 2 value {size=2}\nl @1 clock B:1 top 2 value red/2/B/0\nv @2 clock - top 0 value none\nend\n",
+    ),
+];
+
+#[test]
+fn worked_reports_are_read_back(rt: HostRuntime) -> Result<(), Fail> {
+    for (script, report) in WORKED {
+        assert!(rt; is_read_back(rt.alloc(), script, report.as_bytes())?);
+    }
+    Ok(())
+}
+
+#[test]
+fn a_failed_write_ends_a_report(rt: HostRuntime) -> Result<(), Fail> {
+    let (script, text) = WORKED[0];
+    let script = read_script(rt.alloc(), script.as_bytes())?;
+    let report = read_report(rt.alloc(), &script, text.as_bytes())?;
+    let mut sink = MemSink::new(rt.alloc(), [1, 3].to_vec(rt.alloc())?)?;
+    assert_eq!(rt; write_report(&script, &report, &mut sink), Err(Failed));
+    assert_eq!(rt; sink.written(), b"".as_slice());
+    assert_eq!(rt; write_report(&script, &report, &mut sink), Ok(()));
+    assert_eq!(rt; sink.written(), text.as_bytes());
+    Ok(())
+}
