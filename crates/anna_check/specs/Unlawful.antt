@@ -98,3 +98,7 @@ HasFormSomewhere script report = (table : List (List ℕ)) × IsValidScript scri
 -- the verdict is that of the report wherever the script is valid
 abbrev pub IsVerdictWherever : Script → Report → Verdict → Type 0
 IsVerdictWherever script report verdict = (table : List (List ℕ)) → IsValidScript script table → IsVerdict table script report verdict
+
+-- a report has one verdict
+abbrev pub VerdictsAreSingle : Type 0
+VerdictsAreSingle = (table : List (List ℕ)) (script : Script) (report : Report) (one other : Verdict) → IsVerdict table script report one → IsVerdict table script report other → one ≡ other

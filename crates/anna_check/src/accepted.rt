@@ -1,8 +1,6 @@
 //! The puts that a report's answers accept.
-ghost use Rattle.std.specs.Prelude.{◌≡◌, [], ◌∷◌, ◌++◌, length, IfOk, OnOk, List, ℕ, All};
+ghost use Rattle.std.specs.Prelude.{◌≡◌, [], ◌∷◌, ◌++◌, length, IfOk, OnOk, List, All};
 ghost use Rattle.composed_value.specs.PlainValue.{IsPutOf};
-ghost use Rattle.composed_value.specs.declared.kind.Kind as of_kind;
-ghost use Rattle.composed_value.specs.declared.put.Put as made;
 ghost use Rattle.session_known.specs.Script.{IsOneOf, kind_at};
 ghost use Rattle.anna_check.specs.ByKey.{AreByKey, HasAdded, of_key, kinds_of};
 

@@ -1,5 +1,5 @@
 //! The clocks that a session had from the workers.
-ghost use Rattle.std.specs.Prelude.{◌≡◌, ◌++◌, ◌∷◌, [], ℕ, ◌==◌, ◌&&◌, cond, List, Some, None, IfOk, OnOk, IfSome, MatchOption, length};
+ghost use Rattle.std.specs.Prelude.{◌≡◌, [], ℕ, ◌==◌, ◌&&◌, cond, List, Some, None, IfOk, IfSome, MatchOption, length};
 ghost use Rattle.clock_lattice.specs.Clock.{covers};
 ghost use Rattle.session_known.specs.Lawful.{had_from};
 ghost use Rattle.session_known.specs.Script.{IsOneOf};

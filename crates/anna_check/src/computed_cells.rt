@@ -1,19 +1,14 @@
 //! The cells that a report tells, each held against the puts that its clock counts.
-ghost use Rattle.std.specs.Prelude.{◌≡◌, ◌↔◌, ℕ, ◌-◌, ◌<◌, List, [], ◌∷◌, All, IsTrue, IfOk, OnOk, OnErr, IfSome, filter, length, map, replicate, slice_index_or};
+ghost use Rattle.std.specs.Prelude.{◌≡◌, ◌<◌, List, All, IfOk, OnOk, OnErr, IfSome, length, map, replicate};
 ghost use Rattle.clock_lattice.specs.Clock.{IsClock};
 ghost use Rattle.clock_lattice.specs.Needs.{IsNeeds};
-ghost use Rattle.composed_value.specs.Cell.{cell_of, empty_cell};
+ghost use Rattle.composed_value.specs.Cell.{empty_cell};
 ghost use Rattle.composed_value.specs.PlainValue.{IsPutOf};
 ghost use Rattle.composed_value.specs.Kind.{kind_of_value};
-ghost use Rattle.composed_value.specs.Sound.{is_counted, counted};
-ghost use Rattle.composed_value.specs.declared.put.Put as made;
-ghost use Rattle.session_known.specs.Lawful.{IsSoundReply};
-ghost use Rattle.session_known.specs.Legal.{IsLawfulFinal};
-ghost use Rattle.session_known.specs.Accepted.{puts_on, made_on, AreNext};
-ghost use Rattle.session_known.specs.Script.{kind_at, IsOneOf};
-ghost use Rattle.composed_value.specs.declared.kind.Kind as of_kind;
+ghost use Rattle.session_known.specs.Script.{IsOneOf};
 ghost use Rattle.composed_value.specs.declared.kind.Kind.TheVariants as variants;
-ghost use Rattle.anna_check.specs.Counted.{IsOfItsPuts, AreOfTheirPuts, cell_at, with_cell};
+ghost use Rattle.anna_check.specs.ComputedCells.{HasCellAt, no_cells, with_counted, StartOfTheirPuts, StayOfTheirPuts, TellsReplySound, TellsFinalLawful, AreOfOneKey};
+ghost use Rattle.anna_check.specs.Counted.{IsOfItsPuts, cell_at};
 
 use crate::cells::{count, counts_all, is_cell_final, is_cell_shown};
 use clock_lattice::Clock;
@@ -48,8 +43,8 @@ impl ComputedCells {
         kinds: &[Kind],
         workers: u16,
     ) -> Result<ComputedCells, NoMemory>
-        ensures empty { IfOk result (λ cells. cells ≡ map (λ kind. replicate workers (empty_cell kind)) kinds.now) }
-        ensures of_their_puts { (accepted : List (ℕ × made.Put)) → ((session key : ℕ) → AreNext 0 (made_on session key accepted)) → IfOk result (AreOfTheirPuts kinds.now workers accepted) }
+        ensures empty { IfOk result (λ cells. cells ≡ no_cells workers kinds.now) }
+        ensures of_their_puts { StartOfTheirPuts kinds.now workers result }
     {
         let mut by_key = Vec::new(alloc);
         for kind in kinds {
@@ -61,7 +56,7 @@ impl ComputedCells {
     /// The cell of the key at the worker. Takes no memory.
     fn cell(&self, key: u16, worker: u16) -> &Cell
         requires key { IsOneOf (length self.now) key }
-        requires worker { IsOneOf (length (slice_index_or self.now (key - 1) [])) worker }
+        requires worker { HasCellAt self.now key worker }
         ensures { result.now ≡ cell_at self.now key worker }
     {
         &self.by_key[usize::from(key) - 1][usize::from(worker) - 1]
@@ -79,10 +74,10 @@ impl ComputedCells {
         clock: &Clock,
     ) -> Result<(), NoMemory>
         requires key { IsOneOf (length self.old) key }
-        requires worker { IsOneOf (length (slice_index_or self.old (key - 1) [])) worker }
+        requires worker { HasCellAt self.old key worker }
         requires puts { All (IsPutOf kind) puts.now }
         requires cell { IsOfItsPuts kind puts.now (cell_at self.old key worker) }
-        ensures ok { OnOk result (self.new ≡ with_cell self.old key worker (cell_of kind (counted puts.now clock.now))) }
+        ensures ok { OnOk result (self.new ≡ with_counted self.old key worker kind puts.now clock.now) }
         ensures err { OnErr result (self.new ≡ self.old) }
     {
         let cell = &mut self.by_key[usize::from(key) - 1][usize::from(worker) - 1];
@@ -102,14 +97,14 @@ impl ComputedCells {
         shown: &Shown,
     ) -> Result<bool, NoMemory>
         requires key { IsOneOf (length self.old) key }
-        requires worker { IsOneOf (length (slice_index_or self.old (key - 1) [])) worker }
+        requires worker { HasCellAt self.old key worker }
         requires puts { All (IsPutOf kind) puts.now }
         requires cell { IsOfItsPuts kind puts.now (cell_at self.old key worker) }
         requires value { kind_of_value shown.now.value ≡ kind }
         requires clock { IsClock shown.now.clock }
         requires needs { IfSome shown.now.needs IsNeeds }
-        ensures sound { (kinds : List of_kind.Kind) (accepted : List (ℕ × made.Put)) → kind ≡ kind_at kinds key → puts.now ≡ puts_on key accepted → ((session : ℕ) → AreNext 0 (made_on session key accepted)) → IfOk result (λ sound. IsTrue sound ↔ IsSoundReply kinds accepted key shown.now) }
-        ensures cells { (kinds : List of_kind.Kind) (workers : ℕ) (accepted : List (ℕ × made.Put)) → kind ≡ kind_at kinds key → puts.now ≡ puts_on key accepted → AreOfTheirPuts kinds workers accepted self.old → AreOfTheirPuts kinds workers accepted self.new }
+        ensures sound { TellsReplySound kind puts.now key shown.now result }
+        ensures cells { StayOfTheirPuts kind puts.now key self.old self.new }
     {
         self.count(alloc, kind, puts, key, worker, &shown.clock)?;
         Ok(is_cell_shown(self.cell(key, worker), shown))
@@ -124,13 +119,13 @@ impl ComputedCells {
         last: &FinalCell,
     ) -> Result<bool, NoMemory>
         requires key { IsOneOf (length self.old) last.now.key }
-        requires worker { IsOneOf (length (slice_index_or self.old (last.now.key - 1) [])) last.now.worker }
+        requires worker { HasCellAt self.old last.now.key last.now.worker }
         requires puts { All (IsPutOf kind) puts.now }
         requires cell { IsOfItsPuts kind puts.now (cell_at self.old last.now.key last.now.worker) }
         requires value { kind_of_value last.now.value ≡ kind }
         requires clock { IsClock last.now.clock }
-        ensures lawful { (kinds : List of_kind.Kind) (accepted : List (ℕ × made.Put)) → kind ≡ kind_at kinds last.now.key → puts.now ≡ puts_on last.now.key accepted → ((session : ℕ) → AreNext 0 (made_on session last.now.key accepted)) → IfOk result (λ lawful. IsTrue lawful ↔ IsLawfulFinal kinds accepted last.now) }
-        ensures cells { (kinds : List of_kind.Kind) (workers : ℕ) (accepted : List (ℕ × made.Put)) → kind ≡ kind_at kinds last.now.key → puts.now ≡ puts_on last.now.key accepted → AreOfTheirPuts kinds workers accepted self.old → AreOfTheirPuts kinds workers accepted self.new }
+        ensures lawful { TellsFinalLawful kind puts.now last.now result }
+        ensures cells { StayOfTheirPuts kind puts.now last.now.key self.old self.new }
     {
         if !counts_all(&last.clock, puts) {
             return Ok(false);
@@ -222,7 +217,7 @@ mod tests {
     // Nothing is cells yet of key 1, of kind max, at its one worker.
     fn cells_of(alloc: Global, puts: &[Put]) -> Result<ComputedCells, Fail>
         requires { All (IsPutOf variants.Max) puts.now }
-        ensures { IfOk result (λ cells. (accepted : List (ℕ × made.Put)) × (puts.now ≡ puts_on 1 accepted) × AreOfTheirPuts (variants.Max ∷ []) 1 accepted cells) }
+        ensures { IfOk result (AreOfOneKey puts.now) }
     {
         Ok(ComputedCells::new(alloc, &[Kind::Max], 1)?)
     }
@@ -238,8 +233,8 @@ mod tests {
         needed: u64,
     ) -> Result<bool, Fail>
         requires puts { All (IsPutOf variants.Max) puts.now }
-        requires cells { (accepted : List (ℕ × made.Put)) × (puts.now ≡ puts_on 1 accepted) × AreOfTheirPuts (variants.Max ∷ []) 1 accepted cells.old }
-        ensures { (accepted : List (ℕ × made.Put)) × (puts.now ≡ puts_on 1 accepted) × AreOfTheirPuts (variants.Max ∷ []) 1 accepted cells.new }
+        requires cells { AreOfOneKey puts.now cells.old }
+        ensures { AreOfOneKey puts.now cells.new }
     {
         let shown = Shown {
             clock: clock_of(alloc, counts)?,
@@ -260,8 +255,8 @@ mod tests {
         value: u64,
     ) -> Result<bool, Fail>
         requires puts { All (IsPutOf variants.Max) puts.now }
-        requires cells { (accepted : List (ℕ × made.Put)) × (puts.now ≡ puts_on 1 accepted) × AreOfTheirPuts (variants.Max ∷ []) 1 accepted cells.old }
-        ensures { (accepted : List (ℕ × made.Put)) × (puts.now ≡ puts_on 1 accepted) × AreOfTheirPuts (variants.Max ∷ []) 1 accepted cells.new }
+        requires cells { AreOfOneKey puts.now cells.old }
+        ensures { AreOfOneKey puts.now cells.new }
     {
         let last = FinalCell {
             key: 1,
