@@ -1,5 +1,5 @@
 -- What a reply has shown is known, and counted as the session's own, at each later line of its session.
-use Rattle.std.specs.Prelude.{◌≡◌, ℕ, zero, suc, ◌+◌, ◌<◌, ◌≤◌, false, IsTrue, List, [], ◌∷◌, ◌++◌, length, not, Option, Some, None, unwrap_or, Contains}
+use Rattle.std.specs.Prelude.{◌≡◌, ℕ, zero, suc, ◌+◌, ◌<◌, ◌≤◌, false, IsTrue, List, [], ◌∷◌, ◌++◌, length, slice_index_or, not, Option, Some, None, unwrap_or, Contains}
 use Rattle.std.specs.List.{AllZip}
 use Rattle.std.specs.FinMap.{find, is_sorted, nat_cmp-IsAntisymmetric}
 use Rattle.std.specs.Cmp.{nat_cmp_total}
@@ -19,11 +19,12 @@ use Rattle.composed_value.specs.declared.payload.Payload.{Payload}
 use Rattle.composed_value.specs.declared.put.Put as puts
 use Rattle.session_known.specs.Form.{Fits, NeedsFit}
 use Rattle.session_known.specs.Later.{AnsweredSession, IsAnsweredAt, ShowsNeeds, by_get, by_await, state_before, ShownNeedsAreCoveredLater, PutsOvertakeShownClocks, PutsOvertakeCoveredVersions}
+use Rattle.session_known.specs.Laws.{LaterRepliesCover}
 use Rattle.session_known.specs.Lawful as replies
 use Rattle.session_known.specs.Lawful.{ShowsAt, IsLawful, AreLawful}
 use Rattle.session_known.specs.Session.{Client, Knowledge, State, start, own_count, known_raised, put_made, knows_put, puts_committed, knows_committed, needs_learned, held_puts, after, puts_by}
 use Rattle.session_known.proofs.KnownLemmas.{CountsAtMost, first_at_most, second_at_most, shown_is_known, known_at_line, needs_grow}
-use Rattle.session_known.proofs.LegalLemmas.{shown_is_clock, counts_what_is_known}
+use Rattle.session_known.proofs.LegalLemmas.{shown_is_clock, known_once_shown, counts_what_is_known}
 use Rattle.session_known.specs.declared.report.Answer.{Answer}
 use Rattle.session_known.specs.declared.report.Answer.TheVariants as answers
 use Rattle.session_known.specs.declared.script.Level.{Level}
@@ -88,6 +89,18 @@ as_many_answers table client state before [] (answer ∷ answers) are = absurd a
 as_many_answers table client state before (line ∷ lines) [] are = absurd are
 as_many_answers table client state before (line ∷ lines) (answer ∷ answers) are =
     let same = as_many_answers table client (after client state line answer) (before ++ (line, answer) ∷ []) lines answers are.1 in omega (arith, same)
+
+-- In a causal session a later reply on a key covers the earlier ones.
+pub later_covers_earlier : LaterRepliesCover
+later_covers_earlier script table client lines answers causal lawful fits i j key earlier later before within reply_i reply_j =
+    let at_i : IsAnsweredAt lines answers i reply_i.line reply_i.answer = record { within = omega (arith, before, within); line_is = reply_i.line_is; answer_is = reply_i.answer_is } in
+    let at_j : IsAnsweredAt lines answers j reply_j.line reply_j.answer = record { within = within; line_is = reply_j.line_is; answer_is = reply_j.answer_is } in
+    let is : IsClock earlier = shown_is_clock script Causal reply_i.line reply_i.answer key earlier (fits_at script Causal lines answers i reply_i.line reply_i.answer fits at_i) reply_i.shows in
+    let known = known_before client start lines answers i j reply_i.line reply_i.answer key earlier before (as_many_answers table client start [] lines answers lawful) at_i
+    (known_once_shown client (state_before client start lines answers i) reply_i.line reply_i.answer key earlier is reply_i.shows) in
+    let lawful_j = lawful_at table client start [] lines answers j reply_j.line reply_j.answer lawful at_j in
+    let counts = counts_what_is_known table client (state_before client start lines answers j) lawful_j.earlier reply_j.line reply_j.answer key later causal lawful_j.lawful reply_j.shows in
+    covers_from_counts later earlier is (λ session. omega (arith, known session, counts session))
 
 -- needs that are joined are there too, at each key
 second_needs : (key : ℕ) (known needs : List (ℕ × List (ℕ × ℕ))) → IsNeeds needs → CountsAtMost (clock_at key needs) (clock_at key (joined_needs known needs))

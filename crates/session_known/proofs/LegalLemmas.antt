@@ -86,7 +86,7 @@ shown_is_clock script level line answer key clock fits (by_get its_key named wor
 shown_is_clock script level line answer key clock fits (by_await its_key session count worker shown) = fits.clock_is.is_clock
 
 -- it is known once it is shown
-known_once_shown : (client : Client) (state : State) (line : Line) (answer : Answer) (key : ℕ) (clock : List (ℕ × ℕ)) → IsClock clock → ShowsAt line answer key clock → CountsAtMost clock (clock_at key (after client state line answer).knows.clocks)
+pub known_once_shown : (client : Client) (state : State) (line : Line) (answer : Answer) (key : ℕ) (clock : List (ℕ × ℕ)) → IsClock clock → ShowsAt line answer key clock → CountsAtMost clock (clock_at key (after client state line answer).knows.clocks)
 known_once_shown client state line answer key clock is (by_get its_key named worker shown) = shown_is_known client state.knows its_key shown is.ascending
 known_once_shown client state line answer key clock is (by_await its_key session count worker shown) = shown_is_known client state.knows its_key shown is.ascending
 
@@ -102,39 +102,3 @@ counts_what_is_known table client state before line answer key clock causal lawf
     let first = first_at_most known (one_count session count) of_session in
     let second = counts_from_covers shown.clock raised lawful.covers_required of_session in
     omega (arith, first, second)
-
--- and so does any later one
-counts_what_was_known : (table : List (List ℕ)) (client : Client) (state : State) (before : List (Line × Answer)) (lines : List Line) (answers : List Answer) (place key : ℕ) (clock : List (ℕ × ℕ)) → client.level ≡ Causal → AreLawful table client state before lines answers
-    → place < length lines → IsReplyAt lines answers place key clock → CountsAtMost (clock_at key state.knows.clocks) clock
-counts_what_was_known table client state before [] answers place key clock causal lawful within reply = absurd (omega (arith, within))
-counts_what_was_known table client state before (line ∷ lines) [] place key clock causal lawful within reply = absurd lawful
-counts_what_was_known table client state before (line ∷ lines) (answer ∷ answers) zero key clock causal lawful within reply =
-    let shows : ShowsAt line answer key clock = subst₂ (λ l a. ShowsAt l a key clock) reply.line_is reply.answer_is reply.shows in
-    counts_what_is_known table client state before line answer key clock causal lawful.0 shows
-counts_what_was_known table client state before (line ∷ lines) (answer ∷ answers) (suc place) key clock causal lawful within reply = λ session.
-    let rest : IsReplyAt lines answers place key clock = record { line = reply.line; answer = reply.answer; line_is = reply.line_is; answer_is = reply.answer_is; shows = reply.shows } in
-    let later = counts_what_was_known table client (after client state line answer) (before ++ (line, answer) ∷ []) lines answers place key clock causal lawful.1 (omega (arith, within)) rest session in
-    omega (arith, known_at_line client state line answer key session, later)
-
--- in a causal session a later reply on a key covers the earlier ones, from any state on
-covers_earlier : (script : Script) (table : List (List ℕ)) (client : Client) (state : State) (before : List (Line × Answer)) (lines : List Line) (answers : List Answer) (i j key : ℕ) (earlier later : List (ℕ × ℕ)) → client.level ≡ Causal → AreLawful table client state before lines answers
-    → AllZip (Fits script Causal) lines answers → i < j → j < length lines → IsReplyAt lines answers i key earlier → IsReplyAt lines answers j key later → IsTrue (covers later earlier)
-covers_earlier script table client state before [] answers i j key earlier later causal lawful fits is_before within reply_i reply_j = absurd (omega (arith, within))
-covers_earlier script table client state before (line ∷ lines) [] i j key earlier later causal lawful fits is_before within reply_i reply_j = absurd lawful
-covers_earlier script table client state before (line ∷ lines) (answer ∷ answers) i zero key earlier later causal lawful fits is_before within reply_i reply_j = absurd (omega (arith, is_before))
-covers_earlier script table client state before (line ∷ lines) (answer ∷ answers) zero (suc j) key earlier later causal lawful fits is_before within reply_i reply_j =
-    let shows : ShowsAt line answer key earlier = subst₂ (λ l a. ShowsAt l a key earlier) reply_i.line_is reply_i.answer_is reply_i.shows in
-    let is_clock = shown_is_clock script Causal line answer key earlier fits.0 shows in
-    let known = known_once_shown client state line answer key earlier is_clock shows in
-    let rest : IsReplyAt lines answers j key later = record { line = reply_j.line; answer = reply_j.answer; line_is = reply_j.line_is; answer_is = reply_j.answer_is; shows = reply_j.shows } in
-    let counted = counts_what_was_known table client (after client state line answer) (before ++ (line, answer) ∷ []) lines answers j key later causal lawful.1 (omega (arith, within)) rest in
-    covers_from_counts later earlier is_clock (λ session. omega (arith, known session, counted session))
-covers_earlier script table client state before (line ∷ lines) (answer ∷ answers) (suc i) (suc j) key earlier later causal lawful fits is_before within reply_i reply_j =
-    covers_earlier script table client (after client state line answer) (before ++ (line, answer) ∷ []) lines answers i j key earlier later causal lawful.1 fits.1 (omega (arith, is_before)) (omega (arith, within))
-    (record { line = reply_i.line; answer = reply_i.answer; line_is = reply_i.line_is; answer_is = reply_i.answer_is; shows = reply_i.shows })
-    (record { line = reply_j.line; answer = reply_j.answer; line_is = reply_j.line_is; answer_is = reply_j.answer_is; shows = reply_j.shows })
-
--- in a causal session a later reply on a key covers the earlier ones
-pub later_covers_earlier : LaterRepliesCover
-later_covers_earlier script table client lines answers causal lawful fits i j key earlier later before within reply_i reply_j =
-    covers_earlier script table client start [] lines answers i j key earlier later causal lawful fits before within reply_i reply_j
