@@ -1,4 +1,4 @@
--- What a reply has shown is known, and counted as the session's own, at each later line of its session.
+-- What a reply means for the later lines of its session: what was shown stays known, so that later replies cover it and later puts have seen it.
 use Rattle.std.specs.Prelude.{◌≡◌, ℕ, zero, suc, ◌+◌, ◌<◌, ◌≤◌, false, IsTrue, List, [], ◌∷◌, ◌++◌, length, slice_index_or, not, Option, Some, None, unwrap_or, Contains}
 use Rattle.std.specs.List.{AllZip}
 use Rattle.std.specs.FinMap.{find, is_sorted, nat_cmp-IsAntisymmetric}
@@ -243,7 +243,7 @@ puts_overtake_clocks session i j key clock put earlier shown accepted =
     (taken_in_once_shown session.table client state_i lawful_i.earlier shown.line shown.answer key clock is lawful_i.lawful shown.shows) in
     accepted_overtakes session.table client (state_before client start session.lines session.answers j) lawful_j.earlier accepted.line accepted.answer key clock put is taken lawful_j.lawful accepted.accepts
 
--- So it has seen strictly more than each version whose clock that clock covers.
+-- So it has seen strictly more than each version whose clock the shown clock covers.
 pub puts_overtake_versions : (session : AnsweredSession) → PutsOvertakeCoveredVersions session
 puts_overtake_versions session i j key clock put version earlier shown accepted covered =
     let below = puts_overtake_clocks session i j key clock put earlier shown accepted in

@@ -26,7 +26,7 @@ pub record AnsweredSession : Type 0 where
   pub form : AllZip (Fits script client.level) lines answers
   pub lawful : AreLawful table client start [] lines answers
 
--- a line of these at a place, and its answer
+-- the line at a place, and its answer
 pub record IsAnsweredAt (lines : List Line) (answers : List Answer) (place : ℕ) (line : Line) (answer : Answer) : Type 0 where
   pub within : place < length lines
   pub line_is : line ≡ slice_index_or lines place line
@@ -75,7 +75,7 @@ PutsOvertakeShownClocks session =
     (i j key : ℕ) (clock : List (ℕ × ℕ)) (put : puts.Put) → i < j → ShowsClockIn session i key clock → AcceptsIn session j key put
     → IsTrue (is_below clock put.seen)
 
--- So it has seen strictly more than each version whose clock that clock covers.
+-- So it has seen strictly more than each version whose clock the shown clock covers.
 abbrev pub PutsOvertakeCoveredVersions : AnsweredSession → Type 0
 PutsOvertakeCoveredVersions session =
     (i j key : ℕ) (clock : List (ℕ × ℕ)) (put : puts.Put) (version : Version) → i < j → ShowsClockIn session i key clock → AcceptsIn session j key put
