@@ -14,9 +14,9 @@ use Rattle.composed_value.specs.declared.value.Value.{Value}
 use Rattle.composed_value.specs.declared.value.Value.TheVariants.{Max, Or, Set, Map, Last, Versions}
 
 -- nothing yet, or a value that there can be
-abbrev pub IsFound : {P : Type 0} → (P → Type 0) → Maybe P → Type 0
-IsFound is_value Bottom = ⊤
-IsFound is_value (Is value) = is_value value
+abbrev pub IsBottomOr : {P : Type 0} → (P → Type 0) → Maybe P → Type 0
+IsBottomOr is_value Bottom = ⊤
+IsBottomOr is_value (Is value) = is_value value
 
 -- the join of two of which either may be nothing yet
 abbrev pub joined_found : {P : Type 0} → (P → P → P) → Maybe P → Maybe P → Maybe P
@@ -34,11 +34,11 @@ joined_fields a b = joined_maps word_cmp max a b
 
 -- a value that there can be
 abbrev pub IsValue : Value → Type 0
-IsValue (Max greatest) = IsFound (λ number. number < 2 ^ 64) greatest
+IsValue (Max greatest) = IsBottomOr (λ number. number < 2 ^ 64) greatest
 IsValue (Or on) = ⊤
 IsValue (Set words) = IsTextSet words
 IsValue (Map fields) = IsFields fields
-IsValue (Last last) = IsFound IsStamped last
+IsValue (Last last) = IsBottomOr IsStamped last
 IsValue (Versions versions) = IsVersions versions
 
 -- the value of no put

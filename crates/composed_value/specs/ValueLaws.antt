@@ -19,7 +19,7 @@ use Rattle.basic_lattices.specs.Word.{IsWord}
 use Rattle.lattice_laws.specs.SpellingLaws.{spelled_total, spelled_exact}
 use Rattle.version_antichain.specs.VersionsLaws.{versions_laws, versions_associative}
 use Rattle.composed_value.specs.Kind.{kind_of_value}
-use Rattle.composed_value.specs.Value.{IsFound, joined_found, IsFields, joined_fields, IsValue, joined_values}
+use Rattle.composed_value.specs.Value.{IsBottomOr, joined_found, IsFields, joined_fields, IsValue, joined_values}
 use Rattle.composed_value.specs.declared.value.Value.{Value}
 use Rattle.composed_value.specs.declared.value.Value.TheVariants.{Max, Or, Set, Map, Last, Versions}
 
@@ -55,11 +55,11 @@ plain_of_injective Bottom (Is b) e = absurd (cc)
 plain_of_injective (Is a) Bottom e = absurd (cc)
 plain_of_injective (Is a) (Is b) e = ap (λ found. Is (unwrap_or found a)) e
 
-found_is_value : {P : Type 0} (is_value : P → Type 0) (a : Maybe P) → IsFound is_value a → maybes.IsValue is_value (maybes.plain_of (λ x. x) a)
+found_is_value : {P : Type 0} (is_value : P → Type 0) (a : Maybe P) → IsBottomOr is_value a → maybes.IsValue is_value (maybes.plain_of (λ x. x) a)
 found_is_value is_value Bottom v = tt
 found_is_value is_value (Is a) v = v
 
-value_is_found : {P : Type 0} (is_value : P → Type 0) (a : Maybe P) → maybes.IsValue is_value (maybes.plain_of (λ x. x) a) → IsFound is_value a
+value_is_found : {P : Type 0} (is_value : P → Type 0) (a : Maybe P) → maybes.IsValue is_value (maybes.plain_of (λ x. x) a) → IsBottomOr is_value a
 value_is_found is_value Bottom v = tt
 value_is_found is_value (Is a) v = v
 
@@ -68,7 +68,7 @@ module _ {P : Type 0} {is_value : P → Type 0} {fits : P → P → Type 0} {joi
   seen_laws = laws_through (maybes.plain_of (λ x. x)) plain_of_injective (maybes.joined_by joined) (joined_found joined) (plain_of_joined joined) (maybe_laws laws all_fit)
 
   -- what may be nothing yet keeps the laws
-  found_laws : LatticeLaws (IsFound is_value) (λ _ _. ⊤) (joined_found joined)
+  found_laws : LatticeLaws (IsBottomOr is_value) (λ _ _. ⊤) (joined_found joined)
   found_laws = record {
     fits_itself = λ a va. tt;
     fits_back = λ a b va vb h. tt;
@@ -78,17 +78,17 @@ module _ {P : Type 0} {is_value : P → Type 0} {fits : P → P → Type 0} {joi
     idempotent = λ a va. seen_laws.idempotent a (found_is_value is_value a va);
   }
 
-  found_associative : Associative is_value fits joined → Associative (IsFound is_value) (λ _ _. ⊤) (joined_found joined)
+  found_associative : Associative is_value fits joined → Associative (IsBottomOr is_value) (λ _ _. ⊤) (joined_found joined)
   found_associative associative a b c va vb vc h i =
       associative_through (maybes.plain_of (λ x. x)) plain_of_injective (maybes.joined_by joined) (joined_found joined) (plain_of_joined joined) (maybe_associative joined associative all_fit) a b c (found_is_value is_value a va) (found_is_value is_value b vb) (found_is_value is_value c vc) tt tt
 
-greatest_laws : LatticeLaws (IsFound (λ number. number < 2 ^ 64)) (λ _ _. ⊤) (joined_found max)
+greatest_laws : LatticeLaws (IsBottomOr (λ number. number < 2 ^ 64)) (λ _ _. ⊤) (joined_found max)
 greatest_laws = found_laws (max_laws (λ number. number < 2 ^ 64)) (λ _ _. tt)
 
 pub fields_laws : LatticeLaws IsFields (λ _ _. ⊤) joined_fields
 fields_laws = map_laws spelled_total spelled_exact IsWord (max_laws (λ number. number < 2 ^ 64)) (λ _ _. tt)
 
-last_laws : LatticeLaws (IsFound IsStamped) (λ _ _. ⊤) (joined_found (ord_max stamp_cmp))
+last_laws : LatticeLaws (IsBottomOr IsStamped) (λ _ _. ⊤) (joined_found (ord_max stamp_cmp))
 last_laws = found_laws stamp_laws (λ _ _. tt)
 
 -- the join of two values of one kind is one of it

@@ -196,13 +196,15 @@ mod tests {
 
     #[test]
     fn numbers_join_to_the_greater(rt: HostRuntime) -> Result<(), Fail> {
-        let first = put_of(rt.alloc(), 1, 1, Payload::Max(5))?;
-        let second = put_of(rt.alloc(), 1, 2, Payload::Max(3))?;
+        let mut first = put_of(rt.alloc(), 1, 1, Payload::Max(5))?;
+        first.lamport = 1;
+        let mut second = put_of(rt.alloc(), 1, 2, Payload::Max(3))?;
+        second.lamport = 2;
         let cell = joined(rt.alloc(), &first, &second)?;
         assert!(rt; matches!(cell.value(), Value::Max(Maybe::Is(number)) if number.0 == 5));
         assert_eq!(rt; cell.clock().count(1), 2);
         assert_eq!(rt; cell.clock().len(), 1);
-        assert_eq!(rt; cell.top(), 12);
+        assert_eq!(rt; cell.top(), 2);
         Ok(())
     }
 

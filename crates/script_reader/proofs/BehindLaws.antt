@@ -1,4 +1,4 @@
--- What holds context_after every line of a script: whatever each line that is not at fault leaves so.
+-- What holds after every line of a script: whatever each line that is not at fault leaves so.
 use Rattle.std.specs.Prelude.{◌≡◌, ℕ, not, ◌||◌, Bool, false, List, [], ◌∷◌, ◌++◌, Option, Some, None}
 use Rattle.std.specs.List.{list_any, list_all, cons_option}
 use Rattle.std.proofs.Common.{refl, sym, ap, subst, ◌∙◌, append_assoc}
@@ -11,14 +11,14 @@ use Rattle.script_reader.proofs.FaultsLaws.{none_here}
 use Rattle.script_reader.specs.Grammar.{AreInOrder}
 use Rattle.script_reader.specs.Keywords.{is_end}
 use Rattle.script_reader.specs.Lines.{Statement, statement_of, statements_of, is_end_line}
-use Rattle.script_reader.specs.Steps.{context_after}
+use Rattle.script_reader.specs.Steps.{after}
 use Rattle.script_reader.proofs.StepsLaws.{context_after}
 use Rattle.script_reader.specs.declared.code.Code.TheVariants as codes_of
 use Rattle.script_reader.specs.declared.keyword.Keyword.{Keyword}
 
 -- Holds may depend on whether an end is among the lines before. Behind an end no line with words is read.
-module _ (Holds : Bool → Context → Type 0) (step : (context : Context) (keyword : Keyword) (words : List (List ℕ)) → Holds false context → code_of context keyword words ≡ None → Holds (is_end keyword) (context_after context keyword words)) where
-  -- it holds context_after these statements
+module _ (Holds : Bool → Context → Type 0) (step : (context : Context) (keyword : Keyword) (words : List (List ℕ)) → Holds false context → code_of context keyword words ≡ None → Holds (is_end keyword) (after context keyword words)) where
+  -- it holds after these statements
   abbrev Behind : Setting → List Statement → Type 0
   Behind setting front = Holds (list_any is_end_line front) (context_of setting front)
 
@@ -45,6 +45,6 @@ module _ (Holds : Bool → Context → Type 0) (step : (context : Context) (keyw
       let next = subst (λ statements. Behind setting statements) (sym (filter_map-append statement_of front (line ∷ []))) kept in
       rest_kept setting lines (front ++ line ∷ []) rest (same ∙ sym (append_assoc front (line ∷ []) rest)) order next
 
-  -- What holds before the first line, and is left by each that is not at fault, holds context_after lines in order.
+  -- What holds before the first line, and is left by each that is not at fault, holds after lines in order.
   pub holds_behind : (setting : Setting) (lines : List (List ℕ)) → Holds false (context_of setting []) → AreInOrder setting lines → Holds (list_any is_end_line (statements_of lines)) (context_of setting (statements_of lines))
   holds_behind setting lines start order = rest_kept setting lines [] lines refl order start

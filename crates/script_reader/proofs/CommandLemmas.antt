@@ -27,7 +27,7 @@ use Rattle.script_reader.proofs.FaultsLaws.{code_limit, code_transaction, code_n
 use Rattle.script_reader.specs.Keywords.{is_factor, is_round}
 use Rattle.script_reader.specs.Reader.{seen, plans_of, begun_of, with_added, begun_behind, AreKept, IsKept, SuitsPlace, IsFaultOf, HasRead, HasAdded, Reads, IsKeyAt, MayBound, IsBoundFault}
 use Rattle.script_reader.specs.Said.{place_of, number_in, payload_for, line_said}
-use Rattle.script_reader.specs.Steps.{context_after, with_line, with_sessions, with_command, script_after, begun_after}
+use Rattle.script_reader.specs.Steps.{after, with_line, with_sessions, with_command, script_after, begun_after}
 use Rattle.script_reader.specs.Words.{is_payload_too_great, number_of, number_said, payload_said}
 use Rattle.script_reader.specs.declared.code.Code.TheVariants as codes_of
 use Rattle.script_reader.specs.declared.entry.Entry.{Entry}
@@ -107,7 +107,7 @@ has_added old before now line kept was is =
 
 -- ---- where a command stands
 
--- context_after the number of workers, in a session
+-- after the number of workers, in a session
 pub record IsInSession (context : Context) : Type 0 where
   pub workers : context.has_workers ≡ true
   pub some : nat_lt 0 (length context.script.sessions) ≡ true
@@ -150,7 +150,7 @@ added_is_after : (old : Reader) (keyword : Keyword) (words : List (List ℕ)) (l
       has_round = old.has_round;
       script = with_sessions (with_line line (seen old).script.sessions) (seen old).script;
       begun = begun_behind (seen old).begun line;
-    } ≡ context_after (seen old) keyword words
+    } ≡ after (seen old) keyword words
 added_is_after old keyword words line kept stands says =
     let header : old.has_header ≡ true = kept.headed stands.workers in
     let workers : old.has_workers ≡ old.has_header = stands.workers ∙ sym header in
@@ -326,7 +326,7 @@ all_two : (workers rest : Bool) → not (workers && rest) ≡ false → workers 
 all_two true rest is = refl
 all_two false rest is = absurd cc
 
--- an end line context_after no transaction adds nothing
+-- an end line after no transaction adds nothing
 pub end_read : (reader : Reader) → IsKept reader → SuitsPlace (seen reader) keywords.End [] → begun_of reader.sessions ≡ false → HasRead reader reader keywords.End []
 end_read reader kept stands ended =
     let workers : reader.has_workers ≡ true = all_two reader.has_workers _ stands.word in
@@ -386,7 +386,7 @@ no_workers : (has_workers has_header : Bool) → (has_workers ≡ true → has_h
 no_workers true has_header headed none = sym (headed refl)
 no_workers false has_header headed none = sym none
 
--- a reader context_after the header
+-- a reader after the header
 abbrev pub with_header : Reader → Reader
 with_header reader = record {
   built = reader.built;

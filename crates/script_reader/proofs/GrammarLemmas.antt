@@ -1,4 +1,4 @@
--- Lines read one context_after another.
+-- Lines read one after another.
 use Rattle.std.proofs.Common.{◌≡◌, ℕ, suc, ◌+◌, ◌<◌, ◌≤◌, Bool, true, false, cond, not, ◌||◌, List, [], ◌∷◌, ◌++◌, map, length, take, drop, get_or, fold, Option, Some, None, Bor, inl, inr, refl, sym, ap, subst, ◌∙◌, arith}
 use Rattle.std.specs.List.{before_first, list_any, list_all, cons_option, prefix_len}
 use Rattle.std.proofs.lemmas.Bool.{true≢false}
@@ -17,7 +17,7 @@ use Rattle.script_reader.specs.Lines.{Statement, those, word, statement_of, stat
 use Rattle.script_reader.specs.Reader.{seen, IsKept, IsFaultOf, HasRead}
 use Rattle.script_reader.specs.Said.{named_in, with_name, script_said}
 use Rattle.script_reader.proofs.SaidLaws.{those_keep, those_skip}
-use Rattle.script_reader.specs.Steps.{context_after}
+use Rattle.script_reader.specs.Steps.{after}
 use Rattle.script_reader.proofs.StepsLaws.{context_after}
 use Rattle.script_reader.specs.declared.code.Code.{Code}
 use Rattle.script_reader.specs.declared.code.Code.TheVariants as codes_of
@@ -134,7 +134,7 @@ pub said_fine : (context : Context) (ended : Bool) (line : List ℕ) (statement 
 said_fine context true line statement none = absurd (cc)
 said_fine context false line statement none = (refl, text_fine (list_all is_text_byte line) _ none)
 
--- ---- read one context_after another
+-- ---- read one after another
 
 -- The first lines were read.
 pub record HasReadLines (setting : Setting) (lines : List (List ℕ)) (n : ℕ) (reader : Reader) (ended : Bool) : Type 0 where
@@ -143,7 +143,7 @@ pub record HasReadLines (setting : Setting) (lines : List (List ℕ)) (n : ℕ) 
   pub ended_is : ended ≡ has_end (take n lines)
   pub in_order : AreInOrder setting (take n lines)
 
--- what is held context_after these lines is what they say
+-- what is held after these lines is what they say
 code_here : (setting : Setting) (lines : List (List ℕ)) (n : ℕ) (reader : Reader) (ended : Bool) (line : List ℕ) → HasReadLines setting lines n reader ended → code_said (seen reader) ended line (statement_of line) ≡ code_behind setting (take n lines) line
 code_here setting lines n reader ended line read = λ i. code_said (read.holds i) (read.ended_is i) line (statement_of line)
 
@@ -164,7 +164,7 @@ read_code : (setting : Setting) (lines : List (List ℕ)) (n : ℕ) (reader : Re
 read_code setting lines n reader ended line why read within at fault = record {
   before = take n lines;
   line = line;
-  context_after = drop (n + 1) lines;
+  after = drop (n + 1) lines;
   place = sym (take-append-drop n lines) ∙ ap (λ back. take n lines ++ back) (rest_at lines n line within at);
   in_order = read.in_order;
   why = why;
@@ -173,7 +173,7 @@ read_code setting lines n reader ended line why read within at fault = record {
   code_is = refl;
 }
 
--- A line is at fault context_after those that were read.
+-- A line is at fault after those that were read.
 pub read_fault : (setting : Setting) (lines : List (List ℕ)) (n : ℕ) (reader : Reader) (ended : Bool) (line : List ℕ) (fault : LineFault) → HasReadLines setting lines n reader ended → n < length lines → line ≡ get_or lines n [] → IsFaultOf (code_said (seen reader) ended line (statement_of line)) fault → IsWhyNoLines setting lines (told (n + 1) fault)
 read_fault setting lines n reader ended line (line_faults.Code why) read within at fault = inl (read_code setting lines n reader ended line why read within at fault)
 read_fault setting lines n reader ended line line_faults.NoMemory read within at fault = tt
@@ -189,7 +189,7 @@ held_after setting front reader new ended now line (Some statement) is kept hold
     let fine = said_fine (seen reader) ended line statement read.0 in
     let code : code_of (context_of setting (statements_of front)) statement.keyword statement.words ≡ None = ap (λ context. code_of context statement.keyword statement.words) (sym holds) ∙ fine.1 in (
       read.1,
-      read.2 ∙ ap (λ context. context_after context statement.keyword statement.words) holds ∙ sym (context_after setting (statements_of front) statement code) ∙ ap (context_of setting) (sym more),
+      read.2 ∙ ap (λ context. after context statement.keyword statement.words) holds ∙ sym (context_after setting (statements_of front) statement code) ∙ ap (context_of setting) (sym more),
       read.3 ∙ ap (λ t. t || says_end (Some statement)) (sym fine.0 ∙ ended_is) ∙ ap (λ s. has_end front || says_end s) (sym is) ∙ sym (end_push front line),
       read.0,
     )
@@ -218,9 +218,9 @@ read_script setting lines n reader ended read all end =
     let whole : take n lines ≡ lines = take_all n lines (omega arith) in
     record { in_order = subst (AreInOrder setting) whole read.in_order; ended = ap has_end (sym whole) ∙ sym read.ended_is ∙ end; says = ap (λ context. context.script) read.holds ∙ ap (λ front. script_said setting.named (statements_of front)) whole }
 
--- ---- lines context_after references
+-- ---- lines after references
 
--- a line context_after its reference
+-- a line after its reference
 pub line_behind : (lines : List (Bor (List ℕ))) (n : ℕ) (d : Bor (List ℕ)) → n < length lines → (get_or lines n d).now ≡ get_or (map (λ line. line.now) lines) n []
 line_behind lines n d within = sym (get_or-map (λ (line : Bor (List ℕ)). line.now) lines n d [] within)
 

@@ -11,7 +11,7 @@ use Rattle.script_reader.specs.Keywords.{is_factor, is_round, is_key, is_session
 use Rattle.script_reader.specs.Lines.{Statement, those, word}
 use Rattle.script_reader.specs.Said.{number_or, key_said, kind_in, line_said, own_commands, sessions_said, script_said}
 use Rattle.script_reader.proofs.SaidLaws.{those_skip, those_keep, some_push, last_begins_push, number_first, workers_kept, key_names, sessions_kept, sessions_begun, sessions_line, no_session}
-use Rattle.script_reader.specs.Steps.{with_line, script_after, begun_after, context_after}
+use Rattle.script_reader.specs.Steps.{with_line, script_after, begun_after, after}
 use Rattle.script_reader.specs.declared.keyword.Keyword.{Keyword}
 use Rattle.script_reader.specs.declared.keyword.Keyword.TheVariants.{Anna, Workers, Factor, Round, Key, Session, Begin, Commit, Abort, End, Unknown}
 
@@ -25,7 +25,7 @@ same_context : (a b : Context) → a.built ≡ b.built → a.named ≡ b.named �
 same_context a b built named header workers factor round script begun =
     λ i. record { built = built i; named = named i; has_header = header i; has_workers = workers i; has_factor = factor i; has_round = round i; script = script i; begun = begun i }
 
--- the names of the keys are the first words context_after `key`
+-- the names of the keys are the first words after `key`
 pub keys_are : (setting : Setting) (before : List Statement) → keys_of (context_of setting before) ≡ map (word 0) (those is_key before)
 keys_are setting before = key_names (those is_key before)
 
@@ -157,7 +157,7 @@ command_push setting before statement sessions behind no_key no_factor no_round 
     same_script (script_said setting.named (before ++ statement ∷ [])) (record { config = (script_said setting.named before).config; round = (script_said setting.named before).round; kinds = (script_said setting.named before).kinds; sessions = sessions })
     (workers_kept before statement behind) (factor_kept setting.named before statement no_factor) (keys_kept setting.named before statement no_key) (round_kept setting.named before statement no_round) (kinds_kept setting.named before statement no_key) same
 
--- such a line stands context_after the number of workers
+-- such a line stands after the number of workers
 behind_workers : (behind rest : Bool) → (behind && rest) ≡ true → behind ≡ true
 behind_workers behind rest both = (and_parts behind rest both).0
 
@@ -176,7 +176,7 @@ script_push setting before keyword words follows has new =
     let statement : Statement = record { keyword = keyword; words = words } in
     command_push setting before statement _ (behind_workers (nat_lt 1 (length before)) _ follows) refl refl refl (command_plans setting before statement refl refl refl)
 
--- whether a transaction is begun context_after a line
+-- whether a transaction is begun after a line
 begun_push : (before : List Statement) (keyword : Keyword) (words : List (List ℕ)) → last_begins (those is_boundary (before ++ record { keyword = keyword; words = words } ∷ [])) ≡ begun_after (last_begins (those is_boundary before)) keyword
 begun_push before Begin words =
     let statement : Statement = record { keyword = Begin; words = words } in
@@ -202,15 +202,15 @@ second_push (first ∷ before) statement =
 
 -- the same, of a line by its keyword and its words
 context_push : (setting : Setting) (before : List Statement) (keyword : Keyword) (words : List (List ℕ)) → code_of (context_of setting before) keyword words ≡ None
-    → context_of setting (before ++ record { keyword = keyword; words = words } ∷ []) ≡ context_after (context_of setting before) keyword words
+    → context_of setting (before ++ record { keyword = keyword; words = words } ∷ []) ≡ after (context_of setting before) keyword words
 context_push setting before keyword words faultless =
     let context = context_of setting before in
     let statement : Statement = record { keyword = keyword; words = words } in
-    same_context (context_of setting (before ++ statement ∷ [])) (context_after context keyword words) refl refl (header_push before statement) (second_push before statement)
+    same_context (context_of setting (before ++ statement ∷ [])) (after context keyword words) refl refl (header_push before statement) (second_push before statement)
     (some_push is_factor before statement) (some_push is_round before statement)
     (script_push setting before keyword words (follow_fine context keyword words faultless) (words_fine context keyword words faultless) (twice_fine context keyword words faultless))
     (begun_push before keyword words)
 
 -- A line that is not at fault adds what it says.
-pub context_after : (setting : Setting) (before : List Statement) (statement : Statement) → code_of (context_of setting before) statement.keyword statement.words ≡ None → context_of setting (before ++ statement ∷ []) ≡ context_after (context_of setting before) statement.keyword statement.words
+pub context_after : (setting : Setting) (before : List Statement) (statement : Statement) → code_of (context_of setting before) statement.keyword statement.words ≡ None → context_of setting (before ++ statement ∷ []) ≡ after (context_of setting before) statement.keyword statement.words
 context_after setting before statement faultless = context_push setting before statement.keyword statement.words faultless

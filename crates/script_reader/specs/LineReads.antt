@@ -1,4 +1,4 @@
--- How lines are read one context_after another.
+-- How lines are read one after another.
 use Rattle.std.specs.Prelude.{◌≡◌, ℕ, Bool, false, if◌then◌else◌, List, ◌⊎◌, Option, Some, None, ⊤}
 use Rattle.script_reader.specs.Codes.{number_of_code}
 use Rattle.script_reader.specs.Faults.{Setting, code_said}
@@ -7,18 +7,18 @@ use Rattle.script_reader.specs.Keywords.{is_end, is_session}
 use Rattle.script_reader.specs.Lines.{Statement, word}
 use Rattle.script_reader.specs.Reader.{seen, IsKept}
 use Rattle.script_reader.specs.Said.{with_name}
-use Rattle.script_reader.specs.Steps.{context_after}
+use Rattle.script_reader.specs.Steps.{after}
 use Rattle.script_reader.specs.declared.fault.ScriptFault.{ScriptFault}
 use Rattle.script_reader.specs.declared.fault.ScriptFault.TheVariants.{Refused, NoMemory}
 use Rattle.script_reader.specs.declared.reader.LineFault.{LineFault}
 use Rattle.script_reader.specs.declared.reader.LineFault.TheVariants as line_faults
 use Rattle.script_reader.specs.declared.reader.Reader.{Reader}
 
--- A line was read context_after others, of which one is an end line where `ended` is true; `now` says the same with it.
+-- A line was read after others, of which one is an end line where `ended` is true; `now` says the same with it.
 abbrev pub HasReadLine : Reader → Reader → Bool → Bool → List ℕ → Option Statement → Type 0
 HasReadLine old new ended now line None = (new ≡ old) × (now ≡ ended)
 HasReadLine old new ended now line (Some statement) =
-    (code_said (seen old) ended line (Some statement) ≡ None) × IsKept new × (seen new ≡ context_after (seen old) statement.keyword statement.words) × (now ≡ is_end statement.keyword)
+    (code_said (seen old) ended line (Some statement) ≡ None) × IsKept new × (seen new ≡ after (seen old) statement.keyword statement.words) × (now ≡ is_end statement.keyword)
 
 -- The names with that of a session line, where it is one.
 abbrev pub named_after : List (List ℕ) → Option Statement → List (List ℕ)

@@ -10,7 +10,7 @@ use Rattle.session_known.specs.declared.script.Line.TheVariants as lines
 use Rattle.script_reader.specs.Faults.{Context, code_of, lacks_header, lacks_word, keys_of, commands_of, level_of, is_committed}
 use Rattle.script_reader.specs.Said.{place_of}
 use Rattle.script_reader.specs.Words.{is_name}
-use Rattle.script_reader.specs.Steps.{context_after, with_line, with_sessions}
+use Rattle.script_reader.specs.Steps.{after, with_line, with_sessions}
 use Rattle.script_reader.specs.declared.code.Code.{Code}
 use Rattle.script_reader.specs.declared.code.Code.TheVariants as codes_of
 use Rattle.script_reader.specs.declared.keyword.Keyword.{Keyword}
@@ -56,7 +56,7 @@ pub record IsKept (reader : Reader) : Type 0 where
   pub few_keys : length reader.config.keys ≤ 128
   pub sessions : AreKept reader.config reader.sessions
 
--- a line may stand with its words context_after those before it
+-- a line may stand with its words after those before it
 pub record SuitsPlace (context : Context) (keyword : Keyword) (words : List (List ℕ)) : Type 0 where
   pub header : lacks_header context keyword words ≡ false
   pub word : lacks_word context keyword words ≡ false
@@ -70,7 +70,7 @@ IsFaultOf code faults.NoMemory = ⊤
 pub record HasRead (old new : Reader) (keyword : Keyword) (words : List (List ℕ)) : Type 0 where
   pub kept : IsKept new
   pub faultless : code_of (seen old) keyword words ≡ None
-  pub added : seen new ≡ context_after (seen old) keyword words
+  pub added : seen new ≡ after (seen old) keyword words
 
 -- A line was read, or its fault told.
 abbrev pub Reads : Reader → Result (Unit {0}) LineFault → Reader → Keyword → List (List ℕ) → Type 0
@@ -88,7 +88,7 @@ pub record IsKeyAt (context : Context) (key : List ℕ) (place : ℕ) (kind : Ki
   pub within : place < length context.script.config.keys
   pub few : length context.script.config.keys ≤ 128
 
--- whether a transaction is begun context_after a command
+-- whether a transaction is begun after a command
 abbrev pub begun_behind : Bool → Line → Bool
 begun_behind begun lines.Begin = true
 begun_behind begun lines.Commit = false

@@ -70,7 +70,7 @@ script_after context Commit words = with_command context Commit words
 script_after context Abort words = with_command context Abort words
 script_after context keyword words = context.script
 
--- whether a transaction is begun context_after a line
+-- whether a transaction is begun after a line
 abbrev pub begun_after : Bool → Keyword → Bool
 begun_after begun Begin = true
 begun_after begun Commit = false
@@ -78,8 +78,8 @@ begun_after begun Abort = false
 begun_after begun keyword = begun
 
 -- what the lines say with one more
-abbrev pub context_after : Context → Keyword → List (List ℕ) → Context
-context_after context keyword words = record {
+abbrev pub after : Context → Keyword → List (List ℕ) → Context
+after context keyword words = record {
   built = context.built;
   named = context.named;
   has_header = true;

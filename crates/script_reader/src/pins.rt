@@ -1,5 +1,5 @@
 //! The pins of a key.
-ghost use Rattle.std.specs.Prelude.{◌≡◌, ◌≤◌, true, false, not, All, IfOk, MatchOption};
+ghost use Rattle.std.specs.Prelude.{map, ◌≡◌, ◌≤◌, true, false, not, All, IfOk, MatchOption};
 ghost use Rattle.std.specs.List.{list_any};
 ghost use Rattle.script_reader.specs.Faults.{has_repeat as repeats, is_within as within};
 ghost use Rattle.script_reader.specs.Words.{is_number, number_of, texts};
