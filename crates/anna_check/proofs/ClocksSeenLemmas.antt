@@ -9,7 +9,8 @@ use Rattle.std.specs.Ordering.{is_eq}
 use Rattle.std.proofs.lemmas.List.{append-nil, length-set, get_or-set_same, get_or-set_other}
 use Rattle.std.proofs.lemmas.List.Elements.{filter_map-append, All-append, All-nil, All-cons, All-pop}
 use Rattle.clock_lattice.specs.Clock.{IsClock, joined_clocks, covers}
-use Rattle.clock_lattice.specs.ClockLaws.{clock_coverage, covers_through}
+use Rattle.clock_lattice.specs.ClockLaws.{covers_through}
+use Rattle.clock_lattice.proofs.CoverageLemmas.{clock_coverage}
 use Rattle.clock_lattice.specs.Needs.{IsNeeds, clock_at, joined_needs, one_need}
 use Rattle.clock_lattice.specs.NeedsLaws.{clock-joined, clock_at_is_clock, one_need_is_needs}
 use Rattle.session_known.specs.Lawful.{had_from, earlier_from}

@@ -4,7 +4,7 @@ use Rattle.std.proofs.Common.{refl, sym, ap, subst, ◌∙◌, inl, inr, arith, 
 use Rattle.std.proofs.lemmas.Bool.{eq-eqb, cases_eq}
 use Rattle.std.proofs.lemmas.List.{length-map, length-replicate, length-set, get_or-map, get_or-replicate, get_or-set_same, get_or-set_other}
 use Rattle.std.proofs.lemmas.List.Elements.{All-contains_itself, All-map, All-set, All-weaker}
-use Rattle.lattice_laws.specs.Members.{contains_filter}
+use Rattle.lattice_laws.proofs.MembersLemmas.{contains_filter}
 use Rattle.composed_value.specs.Cell.{PlainCell, empty_cell, cell_of}
 use Rattle.composed_value.specs.PlainValue.{IsPutOf}
 use Rattle.composed_value.specs.Sound.{counted}

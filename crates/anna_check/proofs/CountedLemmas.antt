@@ -4,9 +4,9 @@ use Rattle.std.proofs.Common.{refl, sym, ap, subst, ◌∙◌, inl, inr, arith}
 use Rattle.std.proofs.lemmas.Bool.{leb-true, le-leb, lt-leb, eq-eqb, eqb-true, or_cases, or_left, or_right}
 use Rattle.std.proofs.lemmas.Bool.Decides.{nat_tests}
 use Rattle.std.proofs.lemmas.List.Elements.{All-head, All-tail, All-append, All-contains, All-filter, All-weaker, Contains-append_left, Contains-append_right}
-use Rattle.lattice_laws.specs.GreatestOfLists.{in_either}
+use Rattle.lattice_laws.proofs.GreatestOfListsLemmas.{in_either}
 use Rattle.lattice_laws.specs.Joins.{SameMembers}
-use Rattle.lattice_laws.specs.Members.{contains_filter, contains_filtered, contains_map, contains_mapped}
+use Rattle.lattice_laws.proofs.MembersLemmas.{contains_filter, contains_filtered, contains_map, contains_mapped}
 use Rattle.clock_lattice.specs.Clock.{count_of, covers}
 use Rattle.clock_lattice.specs.ClockLaws.{counts_from_covers}
 use Rattle.composed_value.specs.Cell.{PlainCell, joined_cells, empty_cell, cell_of}

@@ -9,8 +9,8 @@ use Rattle.clock_lattice.specs.Clock.{IsClock, count_of}
 use Rattle.clock_lattice.specs.ClockLaws.{same_counts}
 use Rattle.clock_lattice.specs.Needs.{IsNeeds}
 use Rattle.lattice_laws.specs.Greatest.{IsGreatestOrZero}
-use Rattle.lattice_laws.specs.GreatestOfLists.{greatest_or_zero_is_single}
-use Rattle.lattice_laws.specs.Members.{contains_filter, contains_filtered, contains_map, contains_mapped}
+use Rattle.lattice_laws.proofs.GreatestOfListsLemmas.{greatest_or_zero_is_single}
+use Rattle.lattice_laws.proofs.MembersLemmas.{contains_filter, contains_filtered, contains_map, contains_mapped}
 use Rattle.composed_value.specs.Cell.{PlainCell, IsCell, cell_of}
 use Rattle.composed_value.specs.PlainValue.{IsPutOf, IsValueOf, IsCellOf, puts_of_session}
 use Rattle.composed_value.proofs.CellOfLemmas.{cell_of_is_single, cell_of_is_cell}

@@ -13,7 +13,7 @@ use Rattle.lattice_laws.specs.EntriesLaws.{map_laws}
 use Rattle.lattice_laws.specs.GreatestLaws.{max_laws}
 use Rattle.lattice_laws.specs.Joins.{joined_all}
 use Rattle.lattice_laws.specs.Lattice.{LatticeLaws}
-use Rattle.lattice_laws.specs.Members.{contains_cases}
+use Rattle.lattice_laws.proofs.MembersLemmas.{contains_cases}
 use Rattle.lattice_laws.specs.Sets.{as_map, has}
 use Rattle.lattice_laws.specs.declared.maybe.Maybe.TheVariants.{Bottom, Is}
 use Rattle.clock_lattice.specs.Clock.{IsCount, IsClock, joined_clocks, one_count}

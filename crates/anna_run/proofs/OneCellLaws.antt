@@ -4,8 +4,8 @@ use Rattle.std.proofs.Common.{refl, sym, ap, subst, ◌∙◌, inl, inr, arith, 
 use Rattle.std.proofs.lemmas.Bool.{le-leb, lt-leb, eq-eqb}
 use Rattle.std.proofs.lemmas.List.Elements.{All-head, All-tail, All-map, All-weaker, All-contains, All-contains_itself, filter-append}
 use Rattle.lattice_laws.specs.Greatest.{IsGreatestOrZero}
-use Rattle.lattice_laws.specs.GreatestOfLists.{greatest_or_zero_is_single}
-use Rattle.lattice_laws.specs.Members.{contains_filter, contains_map}
+use Rattle.lattice_laws.proofs.GreatestOfListsLemmas.{greatest_or_zero_is_single}
+use Rattle.lattice_laws.proofs.MembersLemmas.{contains_filter, contains_map}
 use Rattle.clock_lattice.specs.Clock.{count_of, covers}
 use Rattle.clock_lattice.specs.ClockLaws.{covers_from_counts}
 use Rattle.composed_value.specs.Cell.{PlainCell, IsCell}

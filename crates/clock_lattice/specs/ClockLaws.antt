@@ -1,4 +1,4 @@
--- Clocks are a lattice, told by their counts, and covering is its order turned round.
+-- Clocks are a lattice, told by their counts.
 use Rattle.std.specs.Prelude.{◌≡◌, ℕ, zero, suc, ◌<◌, ◌≤◌, ◌^◌, leb, max, IsTrue, List, [], ◌∷◌, ⊤}
 use Rattle.std.proofs.Common.{refl, arith}
 use Rattle.std.specs.Cmp.{nat_cmp_total}
@@ -11,9 +11,7 @@ use Rattle.lattice_laws.specs.EntriesLaws.{map_laws, map_associative}
 use Rattle.lattice_laws.specs.GreatestLaws.{max_laws, max_associative}
 use Rattle.lattice_laws.specs.Ascending.{and_left, and_right, and_both}
 use Rattle.clock_lattice.specs.Clock.{IsCount, IsClock, count_of, joined_clocks, one_count, covers}
-use Rattle.clock_lattice.specs.Coverage.{CoverageLaws}
-use Rattle.clock_lattice.specs.CoverageLaws.{coverage_laws}
-use Rattle.clock_lattice.specs.SparseLaws.{IsBottom, value_at-joined, same_values, at_each_key, from_each_key, each_changes_nothing}
+use Rattle.clock_lattice.specs.SparseLaws.{IsBottom, value_at-joined, same_values, at_each_key, from_each_key}
 
 pub clock_laws : LatticeLaws IsClock (λ _ _. ⊤) joined_clocks
 clock_laws = map_laws nat_cmp_total nat_cmp-IsAntisymmetric (λ session. session < 2 ^ 16) (max_laws IsCount) (λ _ _. tt)
@@ -30,7 +28,7 @@ pub joined_empty : (clock : List (ℕ × ℕ)) → IsClock clock → joined_cloc
 joined_empty clock is = clock_laws.commutative [] clock empty_is_clock is tt
 
 -- no puts of a session are as good as the session not being there
-zero_is_bottom : IsBottom IsCount (λ _. ⊤) max 0
+pub zero_is_bottom : IsBottom IsCount (λ _. ⊤) max 0
 zero_is_bottom = record {
   any_value = λ n v. tt;
   any_bottom = tt;
@@ -54,13 +52,6 @@ counts_from_covers clock other h session = leb-true _ _ (at_each_key nat_cmp_tot
 -- and what counts at most that is covered
 pub covers_from_counts : (clock other : List (ℕ × ℕ)) → IsClock other → ((session : ℕ) → count_of session other ≤ count_of session clock) → IsTrue (covers clock other)
 covers_from_counts clock other is each = from_each_key nat_cmp_total nat_cmp-IsAntisymmetric 0 leb (λ n. le-leb 0 n (omega arith)) other clock is.ascending (λ session. le-leb _ _ (each session))
-
--- covering is the order of clocks turned round
-pub clock_coverage : CoverageLaws IsClock joined_clocks covers
-clock_coverage = coverage_laws clock_laws clock_associative (λ _ _. tt) covers (λ a b va vb.
-    each_changes_nothing nat_cmp_total nat_cmp-IsAntisymmetric (λ session. session < 2 ^ 16) (max_laws IsCount) (λ _ _. tt) zero_is_bottom leb (λ n. le-leb 0 n (omega arith))
-    (λ m n vm vn. ((λ h. let below : m ≤ n = leb-true m n h in omega arith), (λ e. le-leb m n (omega arith))))
-    (λ c d vc vd. (clock_laws.closed c d vc vd tt).0) a b va vb)
 
 -- the clock of one session is a clock
 pub one_count_is_clock : (session n : ℕ) → session < 2 ^ 16 → n < 2 ^ 64 → IsClock (one_count session n)

@@ -2,7 +2,6 @@ pub mod Clock
 pub mod ClockLaws
 pub mod ClockOrder
 pub mod Coverage
-pub mod CoverageLaws
 pub mod Needs
 pub mod NeedsLaws
 pub mod SparseLaws

@@ -1,4 +1,4 @@
--- Needs are a lattice, told by their clocks, and covering is its order turned round.
+-- Needs are a lattice, told by their clocks.
 use Rattle.std.specs.Prelude.{◌≡◌, ℕ, ◌<◌, ◌^◌, IsTrue, List, [], ◌∷◌, length, ⊤}
 use Rattle.std.proofs.Common.{refl, ap, arith}
 use Rattle.std.proofs.lemmas.List.Elements.{All-nil, All-cons, All-head}
@@ -8,11 +8,9 @@ use Rattle.lattice_laws.specs.Lattice.{LatticeLaws, Associative}
 use Rattle.lattice_laws.specs.Entries.{IsEntry}
 use Rattle.lattice_laws.specs.EntriesLaws.{map_laws, map_associative}
 use Rattle.clock_lattice.specs.Clock.{IsCount, IsClock, count_of, joined_clocks, covers}
-use Rattle.clock_lattice.specs.ClockLaws.{clock_laws, clock_associative, clock_coverage, count-joined, empty_is_clock, joined_empty}
-use Rattle.clock_lattice.specs.Coverage.{CoverageLaws}
-use Rattle.clock_lattice.specs.CoverageLaws.{coverage_laws}
+use Rattle.clock_lattice.specs.ClockLaws.{clock_laws, clock_associative, count-joined, empty_is_clock, joined_empty}
 use Rattle.clock_lattice.specs.Needs.{IsSomeClock, IsNeeds, clock_at, joined_needs, one_need, covers_needs}
-use Rattle.clock_lattice.specs.SparseLaws.{IsBottom, first_value, value_at_is_any, value_at-joined, same_values, at_each_key, from_each_key, each_changes_nothing}
+use Rattle.clock_lattice.specs.SparseLaws.{IsBottom, first_value, value_at_is_any, value_at-joined, same_values, at_each_key, from_each_key}
 
 -- a clock that counts something of a session has an entry
 some_entry : (clock : List (ℕ × ℕ)) (session : ℕ) → 0 < count_of session clock → 0 < length clock
@@ -43,7 +41,7 @@ pub some_clock_associative : Associative IsSomeClock (λ _ _. ⊤) joined_clocks
 some_clock_associative a b c va vb vc h i = clock_associative a b c va.0 vb.0 vc.0 tt tt
 
 -- the empty clock is as good as the key not being there
-empty_is_bottom : IsBottom IsSomeClock IsClock joined_clocks []
+pub empty_is_bottom : IsBottom IsSomeClock IsClock joined_clocks []
 empty_is_bottom = record {
   any_value = λ clock v. v.0;
   any_bottom = empty_is_clock;
@@ -94,10 +92,3 @@ clocks_from_covers needs others h key = at_each_key nat_cmp_total nat_cmp-IsAnti
 -- and the other way round
 pub covers_from_clocks : (needs others : List (ℕ × List (ℕ × ℕ))) → IsNeeds others → ((key : ℕ) → IsTrue (covers (clock_at key needs) (clock_at key others))) → IsTrue (covers_needs needs others)
 covers_from_clocks needs others is each = from_each_key nat_cmp_total nat_cmp-IsAntisymmetric [] (λ mine theirs. covers theirs mine) (λ clock. refl) others needs is.ascending each
-
--- covering is the order of needs turned round
-pub needs_coverage : CoverageLaws IsNeeds joined_needs covers_needs
-needs_coverage = coverage_laws needs_laws needs_associative (λ _ _. tt) covers_needs (λ a b va vb.
-    each_changes_nothing nat_cmp_total nat_cmp-IsAntisymmetric (λ key. key < 2 ^ 16) some_clock_laws (λ _ _. tt) empty_is_bottom (λ mine theirs. covers theirs mine) (λ clock. refl)
-    clock_coverage.changes_nothing
-    (λ c d vc vd. (needs_laws.closed c d vc vd tt).0) a b va vb)

@@ -5,9 +5,9 @@ use Rattle.std.proofs.lemmas.List.{map-append}
 use Rattle.std.proofs.lemmas.List.Elements.{All-head, All-tail, All-weaker, All-contains, All-contains_itself, All-append, filter-append}
 use Rattle.std.specs.Cmp.{unsigned_tied}
 use Rattle.lattice_laws.specs.Greatest.{IsGreatestOrZero}
-use Rattle.lattice_laws.specs.GreatestOfLists.{greatest_or_zero_of_none, greatest_or_zero_of_one, greatest_or_zero_of_both, greatest_or_zero_by_members, greatest_or_zero_is_single}
+use Rattle.lattice_laws.proofs.GreatestOfListsLemmas.{greatest_or_zero_of_none, greatest_or_zero_of_one, greatest_or_zero_of_both, greatest_or_zero_by_members, greatest_or_zero_is_single}
 use Rattle.lattice_laws.specs.Joins.{joined_all, SameMembers}
-use Rattle.lattice_laws.specs.Members.{same_map, same_filter}
+use Rattle.lattice_laws.proofs.MembersLemmas.{same_map, same_filter}
 use Rattle.clock_lattice.specs.Clock.{count_of, one_count}
 use Rattle.clock_lattice.specs.ClockLaws.{count-joined, same_counts, empty_is_clock, one_count_is_clock, one_count_entry}
 use Rattle.clock_lattice.specs.Needs.{clock_at}

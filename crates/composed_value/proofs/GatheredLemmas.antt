@@ -3,7 +3,7 @@ use Rattle.std.specs.Prelude.{◌≡◌, List, [], ◌∷◌, Option, Some, None
 use Rattle.std.specs.List.{cons_option}
 use Rattle.std.proofs.Common.{refl, sym, ap, subst, ◌∙◌, inl, inr, arith}
 use Rattle.std.proofs.lemmas.List.Elements.{Contains-push, Contains-append_left, Contains-append_right, Contains-append_cases, filter_map-append}
-use Rattle.lattice_laws.specs.GreatestOfLists.{in_one}
+use Rattle.lattice_laws.proofs.GreatestOfListsLemmas.{in_one}
 use Rattle.lattice_laws.specs.Joins.{SameMembers}
 
 module _ {X Y : Type 0} (gather : X → Option Y) where

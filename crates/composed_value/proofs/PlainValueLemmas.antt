@@ -7,14 +7,14 @@ use Rattle.std.proofs.lemmas.List.Elements.{All-nil, All-cons, Contains-push, Co
 use Rattle.std.specs.Cmp.{both_ways}
 use Rattle.std.specs.FinMap.{find}
 use Rattle.std.specs.Ordering.{ord_max, is_lt, is_le, eq_by_cmp}
-use Rattle.lattice_laws.specs.Members.{contains_none}
+use Rattle.lattice_laws.proofs.MembersLemmas.{contains_none}
 use Rattle.lattice_laws.specs.Entries.{IsEntry}
 use Rattle.lattice_laws.specs.EntriesLaws.{find-joined_maps, same_from_keys}
 use Rattle.lattice_laws.specs.Greatest.{IsGreatest}
 use Rattle.lattice_laws.specs.GreatestLaws.{max_laws}
-use Rattle.lattice_laws.specs.GreatestOfLists.{IsGreater, greatest_of_both, greatest_of_one, greatest_is_single, greatest_by_members, max_is_greater}
+use Rattle.lattice_laws.proofs.GreatestOfListsLemmas.{IsGreater, greatest_of_both, greatest_of_one, greatest_is_single, greatest_by_members, max_is_greater}
 use Rattle.lattice_laws.specs.Joins.{SameMembers}
-use Rattle.lattice_laws.specs.JoinsLaws.{above_left, above_right, above_through}
+use Rattle.lattice_laws.proofs.JoinsLemmas.{above_left, above_right, above_through}
 use Rattle.lattice_laws.specs.Lattice.{LatticeLaws, Associative}
 use Rattle.lattice_laws.specs.Maybe.{plain_of}
 use Rattle.lattice_laws.specs.declared.maybe.Maybe.{Maybe}

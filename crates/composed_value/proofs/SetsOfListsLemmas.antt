@@ -8,7 +8,7 @@ use Rattle.std.specs.declared.cmp.Ordering.{Ordering}
 use Rattle.std.specs.Ordering.{is_eq, eq_by_cmp}
 use Rattle.std.specs.Cmp.{IsTotalOrder, Equal-is, both_ways}
 use Rattle.std.specs.FinMap.{IsAntisymmetric}
-use Rattle.lattice_laws.specs.GreatestOfLists.{in_one, in_either}
+use Rattle.lattice_laws.proofs.GreatestOfListsLemmas.{in_one, in_either}
 use Rattle.lattice_laws.specs.Joins.{SameMembers}
 use Rattle.lattice_laws.specs.Sets.{IsSet, has, united}
 use Rattle.lattice_laws.specs.SetsLaws.{united_is_set, has-united, same_sets}

@@ -7,9 +7,9 @@ use Rattle.std.proofs.lemmas.List.{map-append, get_or_default}
 use Rattle.std.proofs.lemmas.List.Elements.{All-contains, Contains-append_left, Contains-append_right, Contains-push}
 use Rattle.std.specs.Cmp.{unsigned_tied}
 use Rattle.lattice_laws.specs.Greatest.{IsGreatestOrZero}
-use Rattle.lattice_laws.specs.GreatestOfLists.{in_either, in_one, greatest_or_zero_of_both, greatest_or_zero_by_members}
+use Rattle.lattice_laws.proofs.GreatestOfListsLemmas.{in_either, in_one, greatest_or_zero_of_both, greatest_or_zero_by_members}
 use Rattle.lattice_laws.specs.Joins.{SameMembers}
-use Rattle.lattice_laws.specs.Members.{contains_filter, contains_filtered, same_map}
+use Rattle.lattice_laws.proofs.MembersLemmas.{contains_filter, contains_filtered, same_map}
 use Rattle.clock_lattice.specs.Clock.{IsClock, count_of, joined_clocks, one_count}
 use Rattle.clock_lattice.specs.ClockLaws.{count-joined, one_count_entry}
 use Rattle.clock_lattice.specs.Needs.{clock_at}

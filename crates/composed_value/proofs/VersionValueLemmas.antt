@@ -5,7 +5,7 @@ use Rattle.std.proofs.Common.{sym, ap, ◌∙◌, arith}
 use Rattle.std.proofs.lemmas.Bool.{false≢true, not-true, not_from_false, and_parts, and_from, false_from_ne_true}
 use Rattle.std.proofs.lemmas.List.Elements.{All-nil, All-cons}
 use Rattle.std.specs.Cmp.{both_ways}
-use Rattle.lattice_laws.specs.GreatestOfLists.{in_one}
+use Rattle.lattice_laws.proofs.GreatestOfListsLemmas.{in_one}
 use Rattle.lattice_laws.specs.Joins.{SameMembers}
 use Rattle.lattice_laws.specs.Sets.{IsSet, has, united}
 use Rattle.lattice_laws.specs.SetsLaws.{set_laws, same_sets}

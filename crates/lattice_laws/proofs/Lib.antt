@@ -1,5 +1,8 @@
+pub mod GreatestOfListsLemmas
 pub mod Joining
+pub mod JoinsLemmas
 pub mod ListLemmas
+pub mod MembersLemmas
 mod Merging
 mod Pushing
 mod Search

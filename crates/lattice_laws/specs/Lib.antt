@@ -3,14 +3,11 @@ pub mod Entries
 pub mod EntriesLaws
 pub mod Greatest
 pub mod GreatestLaws
-pub mod GreatestOfLists
 pub mod Joins
-pub mod JoinsLaws
 pub mod Lattice
 pub mod Maybe
 pub mod MaybeLaws
 pub mod MemberLaws
-pub mod Members
 pub mod Merging
 pub mod Places
 pub mod Sets

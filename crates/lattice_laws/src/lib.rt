@@ -13,9 +13,10 @@
 //! and [`Spelled`] what names and words have in common.
 //!
 //! This crate stands on no other; it offers the words of `specs/` to the layers above: what a lattice
-//! is (`Lattice.antt`), joins of lists (`Joins.antt`), maps (`Entries.antt`), sets (`Sets.antt`) and the
-//! greatest of a list (`Greatest.antt`), each with the laws that the file beside it proves
-//! (`JoinsLaws.antt` and so on), and membership of lists (`Members.antt`).
+//! is (`Lattice.antt`), joins of lists (`Joins.antt`), maps (`Entries.antt`), sets (`Sets.antt`), the
+//! greatest of a list (`Greatest.antt`) and what bytes spell (`Spelling.antt`). The laws of each stand
+//! beside it (`EntriesLaws.antt` and so on), and lemmas that layers above cite too in `proofs/`: on
+//! joins of lists, on the greatest of lists, and on membership of lists.
 #![tactic(auto)]
 
 pub mod entries;

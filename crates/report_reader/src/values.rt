@@ -3,7 +3,7 @@ ghost use Rattle.std.specs.Prelude.{◌≡◌, ◌↔◌, ◌<◌, ◌^◌, ⊤,
 ghost use Rattle.std.specs.List.{join_with_byte};
 ghost use Rattle.basic_lattices.specs.TextSet.{IsTextSet};
 ghost use Rattle.basic_lattices.specs.Word.{IsWord};
-ghost use Rattle.composed_value.specs.Value.{IsFields, IsFound};
+ghost use Rattle.composed_value.specs.Value.{IsFields, IsBottomOr};
 ghost use Rattle.session_known.specs.Form.{IsValueIn};
 ghost use Rattle.session_known.specs.Script.{IsValidScript};
 ghost use Rattle.report_reader.specs.ReadRows.{IsRow};
@@ -80,7 +80,7 @@ fn before_parenthesis(text: &[u8]) -> Option<&[u8]>
 
 /// Reads the greatest number that was put.
 fn read_greatest(text: &[u8]) -> Option<Maybe<MaxNum>>
-    ensures { Reads (IsFound (λ number. number < 2 ^ 64)) greatest_word text.now result }
+    ensures { Reads (IsBottomOr (λ number. number < 2 ^ 64)) greatest_word text.now result }
 {
     if is_none(text) {
         return Some(Maybe::Bottom);
@@ -190,7 +190,7 @@ fn read_last(
     text: &[u8],
 ) -> Result<Option<Maybe<Stamped>>, NoMemory>
     requires { (table : List (List ℕ)) × IsValidScript script.now table }
-    ensures { IfOk result (Reads (IsFound (IsStampedIn script.now)) (last_word script.now) text.now) }
+    ensures { IfOk result (Reads (IsBottomOr (IsStampedIn script.now)) (last_word script.now) text.now) }
 {
     if is_none(text) {
         return Ok(Some(Maybe::Bottom));

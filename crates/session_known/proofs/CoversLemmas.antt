@@ -5,7 +5,8 @@ use Rattle.std.specs.Cmp.{both_ways}
 use Rattle.std.proofs.lemmas.Bool.{le-leb}
 use Rattle.lattice_laws.specs.Ascending.{and_both, and_left, and_right}
 use Rattle.clock_lattice.specs.Clock.{IsClock, count_of, joined_clocks, one_count, covers}
-use Rattle.clock_lattice.specs.ClockLaws.{clock_coverage, covers_through, one_count_is_clock}
+use Rattle.clock_lattice.specs.ClockLaws.{covers_through, one_count_is_clock}
+use Rattle.clock_lattice.proofs.CoverageLemmas.{clock_coverage}
 
 -- a clock covers a join exactly where it covers both
 covers_both : (clock a b : List (ℕ × ℕ)) → IsClock clock → IsClock a → IsClock b → covers clock (joined_clocks a b) ≡ (covers clock a && covers clock b)

@@ -9,7 +9,7 @@ use Rattle.std.proofs.lemmas.Bool.{false≢true, false_from_ne_true, not_from_fa
 use Rattle.lattice_laws.specs.Ascending.{and_left, and_right, and_both}
 use Rattle.lattice_laws.specs.EntriesLaws.{find-joined_maps}
 use Rattle.lattice_laws.specs.Maybe.{joined_by}
-use Rattle.lattice_laws.specs.Members.{contains_none, contains_cases}
+use Rattle.lattice_laws.proofs.MembersLemmas.{contains_none, contains_cases}
 use Rattle.clock_lattice.specs.Clock.{IsClock, count_of, joined_clocks, one_count, covers, is_below}
 use Rattle.clock_lattice.specs.ClockLaws.{counts_from_covers, covers_from_counts, covers_through}
 use Rattle.clock_lattice.specs.Needs.{IsNeeds, clock_at, joined_needs, one_need}

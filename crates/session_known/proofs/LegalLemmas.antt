@@ -4,8 +4,8 @@ use Rattle.std.specs.List.{AllZip}
 use Rattle.std.proofs.Common.{sym, ap, subst, subst₂, ◌∙◌, arith}
 use Rattle.std.proofs.lemmas.Bool.{eqb-true}
 use Rattle.std.proofs.lemmas.List.Elements.{All-contains, Contains-get_or}
-use Rattle.lattice_laws.specs.GreatestOfLists.{greatest_or_zero_is_single}
-use Rattle.lattice_laws.specs.Members.{contains_filtered}
+use Rattle.lattice_laws.proofs.GreatestOfListsLemmas.{greatest_or_zero_is_single}
+use Rattle.lattice_laws.proofs.MembersLemmas.{contains_filtered}
 use Rattle.clock_lattice.specs.Clock.{IsClock, count_of, joined_clocks, one_count, covers}
 use Rattle.clock_lattice.specs.ClockLaws.{same_counts, counts_from_covers, covers_from_counts}
 use Rattle.clock_lattice.specs.Needs.{clock_at}

@@ -2,7 +2,7 @@
 use Rattle.std.specs.Prelude.{◌≡◌, ℕ, ◌<◌, ◌≤◌, true, false, codes, Contains, List, [], ◌∷◌, Some, None, slice_index_or}
 use Rattle.std.proofs.Common.{refl, sym, ap, subst, inl, inr, arith, lit<}
 use Rattle.std.proofs.lemmas.List.Elements.{recursion_from_All}
-use Rattle.lattice_laws.specs.Members.{contains_none, contains_cases}
+use Rattle.lattice_laws.proofs.MembersLemmas.{contains_none, contains_cases}
 use Rattle.clock_lattice.specs.Clock.{count_of}
 use Rattle.composed_value.specs.declared.kind.Kind.TheVariants as kinds
 use Rattle.composed_value.specs.declared.put.Put.{Put}

@@ -1,4 +1,4 @@
-use Rattle.lattice_laws.specs.JoinsLaws.{joined_all_by_members}
+use Rattle.lattice_laws.proofs.JoinsLemmas.{joined_all_by_members}
 use Rattle.lattice_laws.proofs.joins.joins_by_members_alone.Goals as goal
 
 pub returns : goal.returns

@@ -1,6 +1,6 @@
 use Rattle.lattice_laws.specs.Entries.{plain_entries}
 use Rattle.clock_lattice.specs.Clock.{IsClock, joined_clocks, covers}
-use Rattle.clock_lattice.specs.ClockLaws.{clock_coverage}
+use Rattle.clock_lattice.proofs.CoverageLemmas.{clock_coverage}
 use Rattle.clock_lattice.proofs.Clocks.{covers_slices}
 use Rattle.clock_lattice.proofs.clock.Clock.covers.Goals as goal
 

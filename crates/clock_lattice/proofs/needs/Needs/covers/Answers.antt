@@ -1,6 +1,6 @@
 use Rattle.lattice_laws.specs.Entries.{plain_entries}
 use Rattle.clock_lattice.specs.Needs.{IsNeeds, joined_needs, covers_needs}
-use Rattle.clock_lattice.specs.NeedsLaws.{needs_coverage}
+use Rattle.clock_lattice.proofs.CoverageLemmas.{needs_coverage}
 use Rattle.clock_lattice.proofs.Clocks.{covers_slices}
 use Rattle.clock_lattice.proofs.needs.Needs.covers.Goals as goal
 
