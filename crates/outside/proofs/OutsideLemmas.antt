@@ -27,9 +27,9 @@ Took-more None (Some b) c xs into n h i = absurd h
 Took-more None None (Some c) xs into n h i = absurd i
 Took-more None None None xs into n h i = tt
 
--- as many bytes as there is room for, taken from those that are left behind `at`
+-- as many bytes as there is room for, taken from those that are left after `at`
 pub Takes-front : (bytes left into : List ℕ) (at n room : ℕ) → drop at bytes ≡ left → n ≡ min room (length left) → 0 < room → take n into ≡ take n left → Takes (Some left) (Some (drop (at + n) bytes)) (Ok n) into
-Takes-front bytes left into at n room behind count some front = (
-  sym (take-append-drop n left) ∙ ap (λ xs. xs ++ drop n left) (sym front) ∙ ap (λ xs. take n into ++ xs) (ap (drop n) (sym behind) ∙ drop-drop n at bytes),
+Takes-front bytes left into at n room later count some front = (
+  sym (take-append-drop n left) ∙ ap (λ xs. xs ++ drop n left) (sym front) ∙ ap (λ xs. take n into ++ xs) (ap (drop n) (sym later) ∙ drop-drop n at bytes),
   ((λ none. nil_from_length left (omega arith)), (λ empty. let none : length left ≡ 0 = ap length empty in omega arith)),
 )

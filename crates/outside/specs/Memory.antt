@@ -1,5 +1,5 @@
 -- Ends over memory: which calls of theirs fail.
-use Rattle.std.specs.Prelude.{ℕ, ◌+◌, ◌-◌, ◌^◌, min, nat_le, Bool, true, not, ◌||◌, if◌then◌else◌, List, ◌++◌, length, Option, Some, None, Result}
+use Rattle.std.specs.Prelude.{ℕ, ◌+◌, ◌-◌, ◌^◌, min, nat_le, Bool, true, not, ◌||◌, if◌then◌else◌, List, ◌++◌, length, Contains, Option, Some, None, Result}
 use Rattle.outside.specs.Outside.{counted}
 
 -- the number of the next call, from 1, at most 2 ^ 32 - 1
@@ -34,6 +34,10 @@ pub record Faults : Type 0 where
 
 abbrev pub new_plan : List ℕ → Faults
 new_plan failing = record { failing = failing; calls = 0; faults = 0 }
+
+-- the next call is one of those that fail
+abbrev pub FailsNext : Faults → Type 0
+FailsNext plan = Contains plan.failing (next_call plan.calls)
 
 -- the plan after one more call: it is counted, and a fault where it failed
 abbrev pub after_call : {T E : Type 0} → Faults → Result T E → Faults

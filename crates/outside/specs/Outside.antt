@@ -51,6 +51,10 @@ pub record TookMost (most : ℕ) (before now : Option (List ℕ)) (bytes : List 
   pub taken : Took before now bytes
   pub whole : length bytes < most → NoneLeft now
 
+-- Some bytes were taken, at most so many.
+abbrev pub TookSome : ℕ → Option (List ℕ) → Option (List ℕ) → Type 0
+TookSome most before now = (bytes : List ℕ) × (length bytes ≤ most) × Took before now bytes
+
 -- A front of the text was written.
 abbrev pub GrewByFront : Option (List ℕ) → Option (List ℕ) → List ℕ → Type 0
 GrewByFront before now text = (n : ℕ) × (n ≤ length text) × Grew before now (take n text)

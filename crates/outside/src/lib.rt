@@ -67,8 +67,10 @@ pub trait Sink {
         requires { 0 < length piece.now }
         ensures some { IfOk result (λ n. 0 < n) }
         ensures bound { IfOk result (λ n. n ≤ length piece.now) }
-        ensures bytes { IfOk result (λ n. Grew (written self.old) (written self.new) (take n piece.now)) }
-        ensures nothing { OnErr result (Grew (written self.old) (written self.new) (take 0 piece.now)) }
+        ensures bytes { IfOk result (λ n.
+            Grew (written self.old) (written self.new) (take n piece.now)) }
+        ensures nothing { OnErr result
+            (Grew (written self.old) (written self.new) (take 0 piece.now)) }
         ensures cause { HasCause (faults self.old) (faults self.new) result };
 }
 

@@ -2,7 +2,7 @@
 //! their bytes, so a contract about them says what was read and written.
 ghost use Rattle.std.specs.Prelude.{◌≡◌, ◌≢◌, ℕ, ◌+◌, ◌-◌, ◌^◌, ◌<◌, ◌≤◌, ◌↔◌, ◌⊎◌, min, List, [], ◌++◌, Some, Ok, IsTrue, IsErr, IfOk, IfSome, OnOk, OnErr, MatchBool, Contains, take, drop, length, if◌then◌else◌, codes, false};
 ghost use Rattle.outside.specs.Outside.{Takes, Grew, HasCause, Rose, raised};
-ghost use Rattle.outside.specs.Memory.{next_call, new_plan, after_call, told, with_piece};
+ghost use Rattle.outside.specs.Memory.{FailsNext, next_call, new_plan, after_call, told, with_piece};
 
 use crate::transfer::move_front;
 use crate::{Failed, Sink, Source};
@@ -147,7 +147,7 @@ impl Source for MemSource {
         ensures bound { IfOk result (λ n. n ≤ length into.new) }
         ensures bytes { Takes (Some self.old.left) (Some self.new.left) result into.new }
         ensures cause { HasCause self.old.plan.faults self.new.plan.faults result }
-        ensures fails { IsErr result ↔ Contains self.old.plan.failing (next_call self.old.plan.calls) }
+        ensures fails { IsErr result ↔ FailsNext self.old.plan }
         ensures most { IfOk result (λ n. n ≡ min (length into.old) (length self.old.left)) }
         ensures plan { self.new.plan ≡ after_call self.old.plan result }
     {
@@ -185,7 +185,8 @@ impl Model for MemSink {
 impl MemSink {
     /// Takes its room here and never again.
     pub fn new(alloc: Global, failing: Vec<u32>) -> Result<MemSink, NoMemory>
-        ensures { IfOk result (λ sink. sink ≡ record { written = []; plan = new_plan failing.items }) }
+        ensures { IfOk result (λ sink.
+            sink ≡ record { written = []; plan = new_plan failing.items }) }
     {
         Ok(MemSink {
             kept: Kept::new(alloc, MEM_SINK_ROOM)?,
@@ -210,12 +211,14 @@ impl Sink for MemSink {
         requires { 0 < length piece.now }
         ensures some { IfOk result (λ n. 0 < n) }
         ensures bound { IfOk result (λ n. n ≤ length piece.now) }
-        ensures bytes { IfOk result (λ n. Grew (Some self.old.written) (Some self.new.written) (take n piece.now)) }
-        ensures nothing { OnErr result (Grew (Some self.old.written) (Some self.new.written) (take 0 piece.now)) }
+        ensures bytes { IfOk result (λ n.
+            Grew (Some self.old.written) (Some self.new.written) (take n piece.now)) }
+        ensures nothing { OnErr result
+            (Grew (Some self.old.written) (Some self.new.written) (take 0 piece.now)) }
         ensures cause { HasCause self.old.plan.faults self.new.plan.faults result }
         ensures whole { IfOk result (λ n. n ≡ length piece.now) }
         ensures plan { self.new.plan ≡ after_call self.old.plan result }
-        ensures fails { IsErr result ↔ (Contains self.old.plan.failing (next_call self.old.plan.calls)
+        ensures fails { IsErr result ↔ (FailsNext self.old.plan
             ⊎ (MEM_SINK_ROOM < length self.old.written + length piece.now)) }
     {
         if self.plan.next_fails() || !self.kept.keep(piece) {
@@ -263,7 +266,8 @@ impl Kept {
     /// Keeps the piece where it fits, and says whether it did.
     fn keep(&mut self, piece: &[u8]) -> bool
         ensures fits { IsTrue result ↔ (length self.old.bytes + length piece.now ≤ self.old.room) }
-        ensures kept { self.new ≡ (if result then record { bytes = self.old.bytes ++ piece.now; room = self.old.room } else self.old) }
+        ensures kept { self.new ≡ (if result
+            then record self.old { bytes = self.old.bytes ++ piece.now } else self.old) }
     {
         if piece.len() > self.room - self.bytes.len() {
             return false;
@@ -302,7 +306,7 @@ impl FaultPlan {
 
     /// Counts a call, and says whether it is one of those that fail.
     fn next_fails(&mut self) -> bool
-        ensures fails { IsTrue result ↔ Contains self.old.failing (next_call self.old.calls) }
+        ensures fails { IsTrue result ↔ FailsNext self.old }
         ensures counted { self.new ≡ record self.old { calls = next_call self.old.calls } }
     {
         self.calls = self.calls.saturating_add(1);

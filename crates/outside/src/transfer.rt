@@ -1,6 +1,6 @@
 //! Whole inputs and whole texts, over calls that move a part.
 ghost use Rattle.std.specs.Prelude.{◌≡◌, ℕ, ◌≤◌, min, List, length, take, IfOk, OnOk, OnErr, IsErrOf};
-ghost use Rattle.outside.specs.Outside.{HasCause, Rose, Took, TookMost, Grew, GrewByFront, Writes};
+ghost use Rattle.outside.specs.Outside.{HasCause, Rose, TookMost, TookSome, Grew, GrewByFront, Writes};
 
 use crate::{Failed, Sink, Source};
 use lattice_laws::NoMemory;
@@ -52,8 +52,8 @@ const CHUNK: usize = 4096;
 /// Reads the whole input, or its first `most` bytes where it is longer. Each turn takes at least
 /// one byte or is the last, and no more than `most` bytes are taken in all, also where it fails.
 pub fn read_all<S: Source>(alloc: Global, src: &mut S, most: usize) -> Result<Vec<u8>, ReadFault>
-    ensures ok { IfOk result (λ bytes. TookMost most (S.left src.old) (S.left src.new) bytes.items) }
-    ensures err { OnErr result ((bytes : List ℕ) × (length bytes ≤ most) × Took (S.left src.old) (S.left src.new) bytes) }
+    ensures ok { IfOk result (λ read. TookMost most (S.left src.old) (S.left src.new) read.items) }
+    ensures err { OnErr result (TookSome most (S.left src.old) (S.left src.new)) }
     ensures failed { IsErrOf result ReadFault.Failed → Rose (S.faults src.old) (S.faults src.new) }
     ensures count { S.faults src.old ≤ S.faults src.new }
 {
@@ -87,7 +87,8 @@ pub fn write_all<K: Sink>(sink: &mut K, text: &[u8]) -> Result<(), Failed>
 /// Ends a program that owes a text: writes it whole and answers the status that goes with it, or
 /// answers `write_fault` where the sink failed; then a front of the text was written.
 pub fn finish<K: Sink, T: Drop>(sink: &mut K, status: T, text: &[u8], write_fault: T) -> T
-    ensures wrote { Writes write_fault (Rose (K.faults sink.old) (K.faults sink.new)) (K.written sink.old) (K.written sink.new) status text.now result }
+    ensures wrote { Writes write_fault (Rose (K.faults sink.old) (K.faults sink.new))
+        (K.written sink.old) (K.written sink.new) status text.now result }
     ensures count { K.faults sink.old ≤ K.faults sink.new }
 {
     match write_all(sink, text) {

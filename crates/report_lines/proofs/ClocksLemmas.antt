@@ -58,7 +58,7 @@ module _ (script : Script) (names : TellsNames script) where
   clock_passes marks colon comma clock all =
       listed_passes marks comma (map (count_text script) clock) (all_map (IsCounted script) (Passes (made_of marks)) (count_text script) (count_passes marks colon) clock all)
 
-  -- a key with a clock is told, and so is whatever stands behind it
+  -- a key with a clock is told, and so is whatever stands after it
   pub need_ends : (a b : ℕ × List (ℕ × ℕ)) (us vs : List ℕ) → IsNeeded script a → IsNeeded script b → need_text script a ++ us ≡ need_text script b ++ vs → (a ≡ b) × (us ≡ vs)
   need_ends a b us vs is_a is_b same =
       let cut = cut_piece is_spelling_byte 123 refl (key_name script a.0) (key_name script b.0) (clock_word script a.1 ++ codes "}") (clock_word script b.1 ++ codes "}") us vs (key_spelled script names a.0) (key_spelled script names b.0) same in
@@ -67,7 +67,7 @@ module _ (script : Script) (names : TellsNames script) where
       let clock = clock_told a.1 b.1 is_a.1 is_b.1 inner.0 in
       (λ i. (key i, clock i), inner.1)
 
-  -- so it is where what stands behind it begins with a comma
+  -- so it is where what stands after it begins with a comma
   need_tells : Tells (IsNeeded script) 44 (need_text script)
   need_tells a b us vs is_a is_b stops_us stops_vs same = need_ends a b us vs is_a is_b same
 

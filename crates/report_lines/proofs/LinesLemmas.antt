@@ -67,8 +67,8 @@ module _ (script : Script) (names : TellsNames script) where
   clock_in_passes clock is = clock_passes script names word_marks refl refl clock (clock_counted script clock is)
 
   -- a cell
-  cell_line : (kind : Kind) (clock : List (ℕ × ℕ)) (top : ℕ) (value : Value) (behind : List (List ℕ)) → IsClockIn script clock → IsValueIn script kind value → AreWords behind → AreWords (cell_words script clock top value behind)
-  cell_line kind clock top value behind is_clock is_value are =
+  cell_line : (kind : Kind) (clock : List (ℕ × ℕ)) (top : ℕ) (value : Value) (later : List (List ℕ)) → IsClockIn script clock → IsValueIn script kind value → AreWords later → AreWords (cell_words script clock top value later)
+  cell_line kind clock top value later is_clock is_value are =
       (refl, (clock_in_passes clock is_clock, (refl, (number_passes top, (refl, (value_passes script names kind value is_value, are))))))
 
   -- needs

@@ -17,7 +17,7 @@ abbrev pub Stops : ℕ → List ℕ → Type 0
 Stops c [] = ⊤
 Stops c (b ∷ bs) = b ≡ c
 
--- an item is told from its text and what stands behind that, where that stops with the byte
+-- an item is told from its text and what stands after that, where that stops with the byte
 abbrev pub Tells : {X : Type 0} → (X → Type 0) → ℕ → (X → List ℕ) → Type 0
 Tells {X} IsItem c text = (a b : X) (us vs : List ℕ) → IsItem a → IsItem b → Stops c us → Stops c vs → text a ++ us ≡ text b ++ vs → (a ≡ b) × (us ≡ vs)
 
@@ -46,7 +46,7 @@ IsLine (word ∷ words) = AllByRecursion (Passes in_word) (word ∷ words)
 another : (test : ℕ → Bool) (b c : ℕ) → test b ≡ true → test c ≡ false → b ≡ c → ⊥
 another test b c passes fails same = both_ways (test b) (ap test same ∙ fails) passes
 
--- Two texts with something behind each are cut at the first byte that fails the test.
+-- Two texts with something after each are cut at the first byte that fails the test.
 pub cut_at : (test : ℕ → Bool) (c : ℕ) → test c ≡ false → (xs ys us vs : List ℕ) → Passes test xs → Passes test ys → Stops c us → Stops c vs → xs ++ us ≡ ys ++ vs → (xs ≡ ys) × (us ≡ vs)
 cut_at test c fails [] [] us vs all_xs all_ys stops_us stops_vs same = (refl, same)
 cut_at test c fails [] (y ∷ ys) [] vs all_xs all_ys stops_us stops_vs same = absurd cc
@@ -59,18 +59,18 @@ cut_at test c fails (x ∷ xs) [] us (v ∷ vs) all_xs all_ys stops_us stops_vs 
     absurd (another test x c (and_parts (test x) (list_all test xs) all_xs).0 fails first)
 cut_at test c fails (x ∷ xs) (y ∷ ys) us vs all_xs all_ys stops_us stops_vs same =
     let first : x ≡ y = cc in
-    let behind : xs ++ us ≡ ys ++ vs = cc in
-    let rest = cut_at test c fails xs ys us vs (and_parts (test x) (list_all test xs) all_xs).1 (and_parts (test y) (list_all test ys) all_ys).1 stops_us stops_vs behind in
+    let later : xs ++ us ≡ ys ++ vs = cc in
+    let rest = cut_at test c fails xs ys us vs (and_parts (test x) (list_all test xs) all_xs).1 (and_parts (test y) (list_all test ys) all_ys).1 stops_us stops_vs later in
     (λ i. first i ∷ rest.0 i, rest.1)
 
--- the same where the byte stands behind both
+-- the same where the byte stands after both
 pub cut_once : (test : ℕ → Bool) (c : ℕ) → test c ≡ false → (xs ys us vs : List ℕ) → Passes test xs → Passes test ys → xs ++ c ∷ us ≡ ys ++ c ∷ vs → (xs ≡ ys) × (us ≡ vs)
 cut_once test c fails xs ys us vs all_xs all_ys same =
     let cut = cut_at test c fails xs ys (c ∷ us) (c ∷ vs) all_xs all_ys refl refl same in
-    let behind : us ≡ vs = cc in
-    (cut.0, behind)
+    let later : us ≡ vs = cc in
+    (cut.0, later)
 
--- the same where more stands behind it
+-- the same where more stands after it
 pub cut_piece : (test : ℕ → Bool) (c : ℕ) → test c ≡ false → (xs ys ds es us vs : List ℕ) → Passes test xs → Passes test ys → (xs ++ c ∷ ds) ++ us ≡ (ys ++ c ∷ es) ++ vs → (xs ≡ ys) × (ds ++ us ≡ es ++ vs)
 cut_piece test c fails xs ys ds es us vs all_xs all_ys same =
     cut_once test c fails xs ys (ds ++ us) (es ++ vs) all_xs all_ys (sym (append_assoc xs (c ∷ ds) us) ∙ same ∙ append_assoc ys (c ∷ es) vs)
@@ -111,14 +111,14 @@ join_tells IsItem c text tells a (next ∷ more) b [] all_a all_b same =
     absurd cc
 join_tells IsItem c text tells a (next ∷ more) b (other ∷ rest) all_a all_b same =
     let cut = tells a b (c ∷ join_with_byte c (map text (next ∷ more))) (c ∷ join_with_byte c (map text (other ∷ rest))) all_a.0 all_b.0 refl refl same in
-    let behind : join_with_byte c (map text (next ∷ more)) ≡ join_with_byte c (map text (other ∷ rest)) = cc in
-    let behind_all = join_tells IsItem c text tells next more other rest all_a.1 all_b.1 behind in
-    λ i. cut.0 i ∷ behind_all i
+    let later : join_with_byte c (map text (next ∷ more)) ≡ join_with_byte c (map text (other ∷ rest)) = cc in
+    let later_all = join_tells IsItem c text tells next more other rest all_a.1 all_b.1 later in
+    λ i. cut.0 i ∷ later_all i
 
 -- Texts in which a byte does not stand are told from the row of them with the byte between each two.
 pub texts_tell : (test : ℕ → Bool) (c : ℕ) → test c ≡ false → (a : List ℕ) (more : List (List ℕ)) (b : List ℕ) (rest : List (List ℕ)) → AllByRecursion (Passes test) (a ∷ more) → AllByRecursion (Passes test) (b ∷ rest) → join_with_byte c (a ∷ more) ≡ join_with_byte c (b ∷ rest) → a ∷ more ≡ b ∷ rest
 texts_tell test c fails a more b rest all_a all_b same =
-    join_tells (Passes test) c (λ text. text) (λ x y us vs pass_x pass_y stops_us stops_vs behind. cut_at test c fails x y us vs pass_x pass_y stops_us stops_vs behind) a more b rest all_a all_b
+    join_tells (Passes test) c (λ text. text) (λ x y us vs pass_x pass_y stops_us stops_vs later. cut_at test c fails x y us vs pass_x pass_y stops_us stops_vs later) a more b rest all_a all_b
     (ap (join_with_byte c) (map-id (a ∷ more)) ∙ same ∙ sym (ap (join_with_byte c) (map-id (b ∷ rest))))
 
 -- words are told from their line
@@ -137,26 +137,26 @@ pub row_passes : (words : List (List ℕ)) → IsLine words → Passes in_line (
 row_passes [] is = absurd is
 row_passes (word ∷ words) is = join_passes in_line 32 refl (word ∷ words) (in_line_all (word ∷ words) is)
 
--- a line and what stands behind it
-pub line_behind : (words : List (List ℕ)) (rest : List ℕ) → line_text words ++ rest ≡ join_with_byte 32 words ++ 10 ∷ rest
-line_behind words rest = append_assoc (join_with_byte 32 words) (10 ∷ []) rest
+-- a line and what stands after it
+pub line_after : (words : List (List ℕ)) (rest : List ℕ) → line_text words ++ rest ≡ join_with_byte 32 words ++ 10 ∷ rest
+line_after words rest = append_assoc (join_with_byte 32 words) (10 ∷ []) rest
 
 -- a line ends, so its text is not empty
 line_some : (text rest : List ℕ) → [] ≡ text ++ 10 ∷ rest → ⊥
 line_some [] rest same = absurd cc
 line_some (b ∷ text) rest same = absurd cc
 
--- A line is told from its text and what stands behind it, and so is that.
+-- A line is told from its text and what stands after it, and so is that.
 pub line_tells : (words others : List (List ℕ)) (us vs : List ℕ) → IsLine words → IsLine others → line_text words ++ us ≡ line_text others ++ vs → (words ≡ others) × (us ≡ vs)
 line_tells words others us vs is_a is_b same =
-    let cut = cut_once in_line 10 refl (join_with_byte 32 words) (join_with_byte 32 others) us vs (row_passes words is_a) (row_passes others is_b) (sym (line_behind words us) ∙ same ∙ line_behind others vs) in
+    let cut = cut_once in_line 10 refl (join_with_byte 32 words) (join_with_byte 32 others) us vs (row_passes words is_a) (row_passes others is_b) (sym (line_after words us) ∙ same ∙ line_after others vs) in
     (words_tell words others is_a is_b cut.0, cut.1)
 
 -- Lines are told from their text.
 pub lines_tell : (lines others : List (List (List ℕ))) → AllByRecursion IsLine lines → AllByRecursion IsLine others → flat_map line_text lines ≡ flat_map line_text others → lines ≡ others
 lines_tell [] [] all_a all_b same = refl
-lines_tell [] (other ∷ others) all_a all_b same = absurd (line_some (join_with_byte 32 other) (flat_map line_text others) (same ∙ line_behind other (flat_map line_text others)))
-lines_tell (line ∷ lines) [] all_a all_b same = absurd (line_some (join_with_byte 32 line) (flat_map line_text lines) (sym same ∙ line_behind line (flat_map line_text lines)))
+lines_tell [] (other ∷ others) all_a all_b same = absurd (line_some (join_with_byte 32 other) (flat_map line_text others) (same ∙ line_after other (flat_map line_text others)))
+lines_tell (line ∷ lines) [] all_a all_b same = absurd (line_some (join_with_byte 32 line) (flat_map line_text lines) (sym same ∙ line_after line (flat_map line_text lines)))
 lines_tell (line ∷ lines) (other ∷ others) all_a all_b same =
     let first = line_tells line other (flat_map line_text lines) (flat_map line_text others) all_a.0 all_b.0 same in
     let rest = lines_tell lines others all_a.1 all_b.1 first.1 in

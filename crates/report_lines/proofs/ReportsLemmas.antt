@@ -19,7 +19,7 @@ use Rattle.report_lines.specs.Text.{answer_words, answers_lines, sessions_lines,
 use Rattle.report_lines.proofs.ValuesLemmas.{value_told}
 
 module _ (script : Script) (names : TellsNames script) where
-  -- the answers of a session are told, and so are the lines behind them
+  -- the answers of a session are told, and so are the lines after them
   answers_told : (level : Level) (lines : List Line) (xs ys : List Answer) (us vs : List (List (List ℕ))) → AllZip (Fits script level) lines xs → AllZip (Fits script level) lines ys → answers_lines script lines xs ++ us ≡ answers_lines script lines ys ++ vs → (xs ≡ ys) × (us ≡ vs)
   answers_told level [] [] [] us vs fit_a fit_b same = (refl, same)
   answers_told level [] [] (b ∷ ys) us vs fit_a fit_b same = absurd fit_b
@@ -28,12 +28,12 @@ module _ (script : Script) (names : TellsNames script) where
   answers_told level (line ∷ lines) (a ∷ xs) [] us vs fit_a fit_b same = absurd fit_b
   answers_told level (line ∷ lines) (a ∷ xs) (b ∷ ys) us vs fit_a fit_b same =
       let here : answer_words script line a ≡ answer_words script line b = cc in
-      let behind : answers_lines script lines xs ++ us ≡ answers_lines script lines ys ++ vs = cc in
+      let later : answers_lines script lines xs ++ us ≡ answers_lines script lines ys ++ vs = cc in
       let first = answer_told script names level line a b fit_a.0 fit_b.0 here in
-      let rest = answers_told level lines xs ys us vs fit_a.1 fit_b.1 behind in
+      let rest = answers_told level lines xs ys us vs fit_a.1 fit_b.1 later in
       (λ i. first i ∷ rest.0 i, rest.1)
 
-  -- The answers of the sessions are told, and so are the lines behind them.
+  -- The answers of the sessions are told, and so are the lines after them.
   pub sessions_told : (plans : List SessionPlan) (xs ys : List (List Answer)) (us vs : List (List (List ℕ))) → AllZip (AreAnswers script) plans xs → AllZip (AreAnswers script) plans ys → sessions_lines script plans xs ++ us ≡ sessions_lines script plans ys ++ vs → (xs ≡ ys) × (us ≡ vs)
   sessions_told [] [] [] us vs fit_a fit_b same = (refl, same)
   sessions_told [] [] (b ∷ ys) us vs fit_a fit_b same = absurd fit_b
@@ -41,8 +41,8 @@ module _ (script : Script) (names : TellsNames script) where
   sessions_told (plan ∷ plans) [] ys us vs fit_a fit_b same = absurd fit_a
   sessions_told (plan ∷ plans) (a ∷ xs) [] us vs fit_a fit_b same = absurd fit_b
   sessions_told (plan ∷ plans) (a ∷ xs) (b ∷ ys) us vs fit_a fit_b same =
-      let behind = sym (append_assoc (answers_lines script plan.lines a) (sessions_lines script plans xs) us) ∙ ap (drop 1) same ∙ append_assoc (answers_lines script plan.lines b) (sessions_lines script plans ys) vs in
-      let first = answers_told plan.level plan.lines a b (sessions_lines script plans xs ++ us) (sessions_lines script plans ys ++ vs) fit_a.0 fit_b.0 behind in
+      let later = sym (append_assoc (answers_lines script plan.lines a) (sessions_lines script plans xs) us) ∙ ap (drop 1) same ∙ append_assoc (answers_lines script plan.lines b) (sessions_lines script plans ys) vs in
+      let first = answers_told plan.level plan.lines a b (sessions_lines script plans xs ++ us) (sessions_lines script plans ys ++ vs) fit_a.0 fit_b.0 later in
       let rest = sessions_told plans xs ys us vs fit_a.1 fit_b.1 first.1 in
       (λ i. first.0 i ∷ rest.0 i, rest.1)
 
@@ -64,9 +64,9 @@ module _ (script : Script) (names : TellsNames script) where
   finals_told (a ∷ xs) [] places all_a all_b same = absurd cc
   finals_told (a ∷ xs) (b ∷ ys) places all_a all_b same =
       let place : place_of a ≡ place_of b = cc in
-      let places_behind : map place_of xs ≡ map place_of ys = cc in
+      let places_after : map place_of xs ≡ map place_of ys = cc in
       let here : final_words script a ≡ final_words script b = cc in
-      let behind : map (final_words script) xs ≡ map (final_words script) ys = cc in
+      let later : map (final_words script) xs ≡ map (final_words script) ys = cc in
       let first = final_told a b place all_a.0 all_b.0 here in
-      let rest = finals_told xs ys places_behind all_a.1 all_b.1 behind in
+      let rest = finals_told xs ys places_after all_a.1 all_b.1 later in
       λ i. first i ∷ rest i

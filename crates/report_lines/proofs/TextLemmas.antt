@@ -13,7 +13,7 @@ use Rattle.report_lines.proofs.RenderingLemmas.{lines_tell}
 use Rattle.report_lines.proofs.ReportsLemmas.{sessions_told, finals_told}
 use Rattle.report_lines.specs.Text.{final_words, report_lines, text_of}
 
--- the lines behind those of the sessions
+-- the lines after those of the sessions
 abbrev last_lines : Script → Report → List (List (List ℕ))
 last_lines script report = (codes "final" ∷ []) ∷ (map (final_words script) report.finals ++ (codes "end" ∷ []) ∷ [])
 

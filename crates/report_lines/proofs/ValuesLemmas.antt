@@ -61,9 +61,9 @@ fields_are fields is = recursion_from_All IsField fields (λ k d lt. let entry =
 field_tells : Tells IsField 44 field_text
 field_tells a b us vs is_a is_b stops_us stops_vs same =
     let cut = cut_piece is_spelling_byte 61 refl a.0 b.0 (decimal a.1) (decimal b.1) us vs is_a.0 is_b.0 same in
-    let behind = cut_at is_spelling_byte 44 refl (decimal a.1) (decimal b.1) us vs (decimal_spelled a.1) (decimal_spelled b.1) stops_us stops_vs cut.1 in
-    let number = decimal_injective a.1 b.1 is_a.1 is_b.1 behind.0 in
-    (λ i. (cut.0 i, number i), behind.1)
+    let later = cut_at is_spelling_byte 44 refl (decimal a.1) (decimal b.1) us vs (decimal_spelled a.1) (decimal_spelled b.1) stops_us stops_vs cut.1 in
+    let number = decimal_injective a.1 b.1 is_a.1 is_b.1 later.0 in
+    (λ i. (cut.0 i, number i), later.1)
 
 -- the bytes of a field with its number
 field_passes : (field : List ℕ × ℕ) → IsField field → Passes in_word (field_text field)
@@ -109,7 +109,7 @@ module _ (script : Script) (names : TellsNames script) where
       recursion_from_All IsVersionIn versions (λ k d lt. let version = are.is_set.are_members k d lt in
       (list_all-from_AllPass is_spelling_byte _ version.is_word.allowed, clock_counted script _ (record { is_clock = version.is_clock; sessions = sessions k d lt })))
 
-  -- a version is told, and so is what stands behind it
+  -- a version is told, and so is what stands after it
   version_tells : Tells IsVersionIn 124 (version_text script)
   version_tells a b us vs is_a is_b stops_us stops_vs same =
       let cut = cut_piece is_spelling_byte 40 refl a.word b.word (clock_word script a.clock ++ codes ")") (clock_word script b.clock ++ codes ")") us vs is_a.0 is_b.0 same in

@@ -92,7 +92,7 @@ level_word Causal = codes "causal"
 
 -- a cell: `clock CLOCK top T value VALUE`
 abbrev pub cell_words : Script → List (ℕ × ℕ) → ℕ → Value → List (List ℕ) → List (List ℕ)
-cell_words script clock top value behind = codes "clock" ∷ clock_word script clock ∷ codes "top" ∷ decimal top ∷ codes "value" ∷ value_word script value ∷ behind
+cell_words script clock top value later = codes "clock" ∷ clock_word script clock ∷ codes "top" ∷ decimal top ∷ codes "value" ∷ value_word script value ∷ later
 
 abbrev pub needs_words : Script → Option (List (ℕ × List (ℕ × ℕ))) → List (List ℕ)
 needs_words script None = []

@@ -6,5 +6,7 @@
 #![tactic(auto)]
 
 mod laws;
+mod levels;
 
 pub use laws::texts_tell_reports_apart;
+pub use levels::level_text;

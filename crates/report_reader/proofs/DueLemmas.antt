@@ -1,4 +1,4 @@
--- Lines that are due, read one behind another: what stands where one is out of form.
+-- Lines that are due, read one after another: what stands where one is out of form.
 use Rattle.std.specs.Prelude.{◌≡◌, ℕ, zero, suc, ◌+◌, ◌≤◌, List, [], ◌∷◌, ◌++◌, take, length, ⊤}
 use Rattle.std.specs.List.{AllZip, AllByRecursion, flat_map}
 use Rattle.std.proofs.Common.{refl, sym, subst, ◌∙◌, arith}
@@ -22,35 +22,35 @@ module _ (script : Script) (names : TellsNames script) where
   due_line (Answered level line) words has (answer, fits, same) = subst IsLine (sym same) (answer_line script names level line answer fits)
   due_line (FinalOf key worker) words has (cell, is, same) = subst IsLine (sym same) (final_line script names cell is.in_form)
 
-  -- what stands behind a line that is due is told
-  behind_told : (due : Due) (bytes us vs : List ℕ) → HasWords due → IsLineRead script due bytes us → IsLineRead script due bytes vs → us ≡ vs
-  behind_told due bytes us vs has a b =
+  -- what stands after a line that is due is told
+  later_told : (due : Due) (bytes us vs : List ℕ) → HasWords due → IsLineRead script due bytes us → IsLineRead script due bytes vs → us ≡ vs
+  later_told due bytes us vs has a b =
       (line_tells a.words b.words us vs (due_line due a.words has a.is_due) (due_line due b.words has b.is_due) (sym a.begin ∙ b.begin)).1
 
-  -- and so is what stands behind lines that are due
+  -- and so is what stands after lines that are due
   pub rest_told : (dues : List Due) (bytes us vs : List ℕ) → AllByRecursion HasWords dues → AreLinesRead script dues bytes us → AreLinesRead script dues bytes vs → us ≡ vs
   rest_told [] bytes us vs all a b = sym a ∙ b
-  rest_told (due ∷ dues) bytes us vs all (behind, line, lines) (other, other_line, other_lines) =
-      let same = behind_told due bytes behind other all.0 line other_line in
+  rest_told (due ∷ dues) bytes us vs all (later, line, lines) (other, other_line, other_lines) =
+      let same = later_told due bytes later other all.0 line other_line in
       rest_told dues other us vs all.1 (subst (λ bytes. AreLinesRead script dues bytes us) same lines) other_lines
 
   -- Where one is out of form, they were not read with it.
   pub out_excludes : (dues : List Due) (place : ℕ) (bytes rest : List ℕ) → AllByRecursion HasWords dues → IsOutAt script dues place bytes → AreLinesRead script (take (suc place) dues) bytes rest → ⊥
   out_excludes [] place bytes rest all out are = absurd out
   out_excludes (due ∷ dues) zero bytes rest all out are = out are.0 are.1
-  out_excludes (due ∷ dues) (suc place) bytes rest all (behind, line, out) (other, other_line, are) =
-      let same = behind_told due bytes behind other all.0 line other_line in
+  out_excludes (due ∷ dues) (suc place) bytes rest all (later, line, out) (other, other_line, are) =
+      let same = later_told due bytes later other all.0 line other_line in
       out_excludes dues place other rest all.1 (subst (IsOutAt script dues place) same out) are
 
   -- Nor were they read to the last.
   pub out_whole : (dues : List Due) (place : ℕ) (bytes rest : List ℕ) → AllByRecursion HasWords dues → IsOutAt script dues place bytes → AreLinesRead script dues bytes rest → ⊥
   out_whole [] place bytes rest all out are = absurd out
   out_whole (due ∷ dues) zero bytes rest all out are = out are.0 are.1
-  out_whole (due ∷ dues) (suc place) bytes rest all (behind, line, out) (other, other_line, are) =
-      let same = behind_told due bytes behind other all.0 line other_line in
+  out_whole (due ∷ dues) (suc place) bytes rest all (later, line, out) (other, other_line, are) =
+      let same = later_told due bytes later other all.0 line other_line in
       out_whole dues place other rest all.1 (subst (IsOutAt script dues place) same out) are
 
--- ---- one part of what is due behind another
+-- ---- one part of what is due after another
 
 -- where one of the first part is out of form
 pub out_before : (script : Script) (dues others : List Due) (place : ℕ) (bytes : List ℕ) → IsOutAt script dues place bytes → IsOutAt script (dues ++ others) place bytes
@@ -58,18 +58,18 @@ out_before script [] others place bytes out = absurd out
 out_before script (due ∷ dues) others zero bytes out = out
 out_before script (due ∷ dues) others (suc place) bytes (next, line, out) = (next, line, out_before script dues others place next out)
 
--- where one is out of form behind a line that was read
+-- where one is out of form after a line that was read
 out_later : (script : Script) (due : Due) (dues : List Due) (place : ℕ) (bytes next : List ℕ) → IsLineRead script due bytes next → IsOutAt script dues place next → IsOutAt script (due ∷ dues) (suc place) bytes
 out_later script due dues place bytes next line out = (next, line, out)
 
 -- where one of the second part is
-pub out_behind : (script : Script) (dues others : List Due) (place : ℕ) (bytes behind : List ℕ) → AreLinesRead script dues bytes behind → IsOutAt script others place behind → IsOutAt script (dues ++ others) (length dues + place) bytes
-out_behind script [] others place bytes behind are out =
+pub out_after : (script : Script) (dues others : List Due) (place : ℕ) (bytes later : List ℕ) → AreLinesRead script dues bytes later → IsOutAt script others place later → IsOutAt script (dues ++ others) (length dues + place) bytes
+out_after script [] others place bytes later are out =
     let same : place ≡ length {A = Due} [] + place = omega arith in
     subst (λ place. IsOutAt script others place bytes) same (subst (IsOutAt script others place) (sym are) out)
-out_behind script (due ∷ dues) others place bytes behind (next, line, are) out =
+out_after script (due ∷ dues) others place bytes later (next, line, are) out =
     let same : suc (length dues + place) ≡ length (due ∷ dues) + place = omega arith in
-    subst (λ place. IsOutAt script ((due ∷ dues) ++ others) place bytes) same (out_later script due (dues ++ others) (length dues + place) bytes next line (out_behind script dues others place next behind are out))
+    subst (λ place. IsOutAt script ((due ∷ dues) ++ others) place bytes) same (out_later script due (dues ++ others) (length dues + place) bytes next line (out_after script dues others place next later are out))
 
 -- the lines before one that is out of form were read
 pub read_before : (script : Script) (dues : List Due) (place : ℕ) (bytes : List ℕ) → IsOutAt script dues place bytes → (rest : List ℕ) × (suc place ≤ length dues) × AreLinesRead script (take place dues) bytes rest

@@ -237,7 +237,7 @@ module _ (script : Script) where
       let lines = some_lines dues some in
       (lines.0, lines.1, omega arith, are)
   begun [] (suc place) bytes rest some few are = absurd (omega (arith, few))
-  begun (due ∷ dues) (suc place) bytes rest some few (behind, line, are) =
-      let more = begun dues place behind rest some (omega (arith, few)) are in
+  begun (due ∷ dues) (suc place) bytes rest some few (later, line, are) =
+      let more = begun dues place later rest some (omega (arith, few)) are in
       let text : bytes ≡ (line_text line.words ++ flat_map line_text (take place more.0)) ++ rest = line.begin ∙ ap (λ bytes. line_text line.words ++ bytes) more.3 ∙ sym (append_assoc (line_text line.words) (flat_map line_text (take place more.0)) rest) in
       (line.words ∷ more.0, (line.is_due, more.1), omega (arith, more.2), text)

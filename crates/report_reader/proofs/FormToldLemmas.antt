@@ -30,10 +30,10 @@ zip_take R (suc count) (x ∷ xs) (y ∷ ys) all = (all.0, zip_take R count xs y
 
 module _ (script : Script) (table : List (List ℕ)) (valid : IsValidScript script table) where
   -- what a report in form begins with is due
-  begins_due : (report : Report) (count : ℕ) (bytes : List ℕ) → HasForm script table report → (begins : BeginsWith script report count bytes) → AreLinesRead script (take count (report_dues script table)) bytes begins.behind
+  begins_due : (report : Report) (count : ℕ) (bytes : List ℕ) → HasForm script table report → (begins : BeginsWith script report count bytes) → AreLinesRead script (take count (report_dues script table)) bytes begins.later
   begins_due report count bytes form begins =
-      subst (λ bytes. AreLinesRead script (take count (report_dues script table)) bytes begins.behind) (sym begins.begin)
-      (lines_read script (take count (report_dues script table)) (take count (report_lines script report)) begins.behind (zip_take (IsDue script) count (report_dues script table) (report_lines script report) (report_due script table report form)))
+      subst (λ bytes. AreLinesRead script (take count (report_dues script table)) bytes begins.later) (sym begins.begin)
+      (lines_read script (take count (report_dues script table)) (take count (report_lines script report)) begins.later (zip_take (IsDue script) count (report_dues script table) (report_lines script report) (report_due script table report form)))
 
   -- what a report in form is written as is due
   text_due : (report : Report) (bytes : List ℕ) → HasForm script table report → bytes ≡ text_of script report → AreLinesRead script (report_dues script table) bytes []
@@ -51,7 +51,7 @@ module _ (script : Script) (table : List (List ℕ)) (valid : IsValidScript scri
         report.1,
         subst (λ count. BeginsWith script report.0 count bytes) same (record {
           some = subst (λ lines. place ≤ length lines) report.2 lines.2;
-          behind = rest;
+          later = rest;
           begin = subst (λ lines. bytes ≡ flat_map line_text (take place lines) ++ rest) report.2 lines.3;
         }),
       )
@@ -60,7 +60,7 @@ module _ (script : Script) (table : List (List ℕ)) (valid : IsValidScript scri
   out_later : (place : ℕ) (bytes : List ℕ) → IsOutAt script (report_dues script table) place bytes → (report : Report) → HasForm script table report → BeginsWith script report (suc place) bytes → ⊥
   out_later place bytes out report form begins =
       let names = tells_names script table valid in
-      out_excludes script names (report_dues script table) place bytes begins.behind (dues_have script table names) out (begins_due report (suc place) bytes form begins)
+      out_excludes script names (report_dues script table) place bytes begins.later (dues_have script table names) out (begins_due report (suc place) bytes form begins)
 
   -- nor is any written as the bytes
   out_none : (place : ℕ) (bytes : List ℕ) → IsOutAt script (report_dues script table) place bytes → IsNoReport script table bytes
@@ -74,7 +74,7 @@ module _ (script : Script) (table : List (List ℕ)) (valid : IsValidScript scri
       let before = read_before script (report_dues script table) place bytes out in
       (out_none place bytes out, record { counted = omega arith; before = begins_so place bytes before.0 (omega (arith, before.1)) before.2; out = out_later place bytes out })
 
-  -- where all was read and more is behind it, no report in form begins with a line more
+  -- where all was read and more is after it, no report in form begins with a line more
   more_later : (bytes rest : List ℕ) (report : Report) → HasForm script table report → BeginsWith script report (suc (length (report_dues script table))) bytes → ⊥
   more_later bytes rest report form begins =
       let same = AllZip-long (IsDue script) (report_dues script table) (report_lines script report) (report_due script table report form) in
@@ -86,7 +86,7 @@ module _ (script : Script) (table : List (List ℕ)) (valid : IsValidScript scri
       let names = tells_names script table valid in
       more (rest_told script names (report_dues script table) bytes rest [] (dues_have script table names) are (text_due report bytes form same))
 
-  -- Where all was read and more is behind it, there is no report, and the line behind the last is the first out of form.
+  -- Where all was read and more is after it, there is no report, and the line after the last is the first out of form.
   pub more_told : (bytes rest : List ℕ) → AreLinesRead script (report_dues script table) bytes rest → rest ≢ [] → IsNoReport script table bytes × IsFirstOutOfForm script table bytes (suc (length (report_dues script table)))
   more_told bytes rest are more =
       let all = report_dues script table in
@@ -106,7 +106,7 @@ module _ (script : Script) (table : List (List ℕ)) (valid : IsValidScript scri
   pub reading_fault : (bytes : List ℕ) (before : List ℕ × ℕ) (fault : ReportFault) → before ≡ (bytes, 1) → IsPartFault script (report_dues script table) before fault → IsReading script table bytes (Err fault)
   reading_fault bytes before fault first is = fault_told bytes fault (subst (λ before. IsPartFault script (report_dues script table) before fault) first is)
 
-  -- where more is behind the last line
+  -- where more is after the last line
   pub reading_more : (bytes : List ℕ) (before after : List ℕ × ℕ) (lines : List (List (List ℕ))) (fault : ReportFault) → before ≡ (bytes, 1) → HasGot script (report_dues script table) lines before after → fault ≡ Form after.1 → after.0 ≢ [] → IsReading script table bytes (Err fault)
   reading_more bytes before after lines fault first got is more =
       let got_all : HasGot script (report_dues script table) lines (bytes, 1) after = subst (λ before. HasGot script (report_dues script table) lines before after) first got in

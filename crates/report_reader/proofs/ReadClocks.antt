@@ -59,13 +59,13 @@ needs_formed script needs are all =
     record { are_needs = are; keys = λ k d lt. (each k d lt).0; sessions = λ k d lt. (each k d lt).1.sessions }
 
 -- an entry is closed by its brace
-need_closed : (script : Script) (entry : ℕ × List (ℕ × ℕ)) (behind : List ℕ) → need_text script entry ++ behind ≡ open_text script entry ++ 125 ∷ behind
-need_closed script entry behind =
-    ap (λ text. text ++ behind) (sym (append_assoc (key_name script entry.0) (codes "{" ++ clock_word script entry.1) (codes "}")))
-    ∙ append_assoc (open_text script entry) (codes "}") behind
+need_closed : (script : Script) (entry : ℕ × List (ℕ × ℕ)) (later : List ℕ) → need_text script entry ++ later ≡ open_text script entry ++ 125 ∷ later
+need_closed script entry later =
+    ap (λ text. text ++ later) (sym (append_assoc (key_name script entry.0) (codes "{" ++ clock_word script entry.1) (codes "}")))
+    ∙ append_assoc (open_text script entry) (codes "}") later
 
 module _ (script : Script) (names : TellsNames script) where
-  -- an entry is told, with whatever stands behind it
+  -- an entry is told, with whatever stands after it
   need_told : (a b : ℕ × List (ℕ × ℕ)) (us vs : List ℕ) → IsNeedIn script a → IsNeedIn script b → need_text script a ++ us ≡ need_text script b ++ vs → (a ≡ b) × (us ≡ vs)
   need_told a b us vs is_a is_b same = need_ends script names a b us vs (is_a.0, clock_counted script a.1 is_a.1) (is_b.0, clock_counted script b.1 is_b.1) same
 
@@ -91,25 +91,25 @@ module _ (script : Script) (names : TellsNames script) where
       same_cut 123 text name word (key_name script entry.0) (clock_word script entry.1) cut (lacks_failing is_spelling_byte 123 refl (key_name script entry.0) (key_spelled script names entry.0)) same
 
   -- and at the brace that closes it
-  close_cut : (entry : ℕ × List (ℕ × ℕ)) (text opened rest behind : List ℕ) → IsNeedIn script entry → IsCut 125 text opened rest → text ≡ need_text script entry ++ behind → (opened ≡ open_text script entry) × (rest ≡ behind)
-  close_cut entry text opened rest behind is cut same =
+  close_cut : (entry : ℕ × List (ℕ × ℕ)) (text opened rest later : List ℕ) → IsNeedIn script entry → IsCut 125 text opened rest → text ≡ need_text script entry ++ later → (opened ≡ open_text script entry) × (rest ≡ later)
+  close_cut entry text opened rest later is cut same =
       let clock = clock_passes script names (codes ":,{") refl refl entry.1 (clock_counted script entry.1 is.1) in
       let passes : Passes (made_of (codes ":,{")) (open_text script entry) =
       both_pass (made_of (codes ":,{")) (key_name script entry.0) (codes "{" ++ clock_word script entry.1) (spelled_made (codes ":,{") (key_name script entry.0) (key_spelled script names entry.0)) clock in
-      same_cut 125 text opened rest (open_text script entry) behind cut (lacks_failing (made_of (codes ":,{")) 125 refl (open_text script entry) passes) (same ∙ need_closed script entry behind)
+      same_cut 125 text opened rest (open_text script entry) later cut (lacks_failing (made_of (codes ":,{")) 125 refl (open_text script entry) passes) (same ∙ need_closed script entry later)
 
   -- what is left begins with the entry before the first brace
   pub next_need : (text opened rest : List ℕ) → IsCut 125 text opened rest → IsNext (IsNeedIn script) 44 (need_text script) (text ∷ []) (open_text script) opened
-  next_need text opened rest cut entry behind is stops same = (close_cut entry text opened rest behind is cut same).0
+  next_need text opened rest cut entry later is stops same = (close_cut entry text opened rest later is cut same).0
 
   module _ {bytes text : List ℕ} {needs : List (ℕ × List (ℕ × ℕ))} (read : AreRead (IsNeedIn script) 44 (need_text script) bytes needs (text ∷ [])) where
     -- where no brace is left, the bytes are those of no needs
     pub no_brace : Lacks 125 text → IsNoRow (AreNeedsIn script) 44 (need_text script) bytes
-    no_brace lacks = no_row needs_row read (λ entry behind form is stops same. no_cut 125 text (open_text script entry) behind lacks (same ∙ need_closed script entry behind))
+    no_brace lacks = no_row needs_row read (λ entry later form is stops same. no_cut 125 text (open_text script entry) later lacks (same ∙ need_closed script entry later))
 
-    -- nor where something else than a comma stands behind an entry
+    -- nor where something else than a comma stands after an entry
     pub no_comma : (opened rest : List ℕ) → IsCut 125 text opened rest → (Stops 44 rest → ⊥) → IsNoRow (AreNeedsIn script) 44 (need_text script) bytes
-    no_comma opened rest cut other = no_row needs_row read (λ entry behind form is stops same. other (subst (Stops 44) (sym (close_cut entry text opened rest behind is cut same).1) stops))
+    no_comma opened rest cut other = no_row needs_row read (λ entry later form is stops same. other (subst (Stops 44) (sym (close_cut entry text opened rest later is cut same).1) stops))
 
     -- one entry more was read, and this is left
     pub need_read : {new : List (ℕ × List (ℕ × ℕ))} (opened rest : List ℕ) (entry : ℕ × List (ℕ × ℕ)) (left : List (List ℕ)) → IsCut 125 text opened rest → IsNeedIn script entry × (opened ≡ open_text script entry) → join_with_byte 44 (need_text script entry ∷ left) ≡ need_text script entry ++ rest → new ≡ needs ++ entry ∷ [] → AreRead (IsNeedIn script) 44 (need_text script) bytes new left
@@ -117,7 +117,7 @@ module _ (script : Script) (names : TellsNames script) where
         let whole : text ≡ need_text script entry ++ rest = cut.0 ∙ ap (λ opened. opened ++ 125 ∷ rest) is.1 ∙ sym (need_closed script entry rest) in
         one_read entry left (left_again text (need_text script entry) [] left read (whole ∙ sym same)) is.0 pushed
 
--- ---- what stands behind an entry
+-- ---- what stands after an entry
 
 -- nothing
 pub empty_below : (rest : List ℕ) → length rest < 1 → rest ≡ []

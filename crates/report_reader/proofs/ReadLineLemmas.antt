@@ -1,4 +1,4 @@
--- Lines that are due, got one behind another, and the first that could not be got.
+-- Lines that are due, got one after another, and the first that could not be got.
 use Rattle.std.specs.Prelude.{◌≡◌, ℕ, suc, ◌+◌, ◌<◌, Bool, true, false, not, ◌==◌, List, [], ◌∷◌, ◌++◌, take, drop, length, map, codes, get_or, Result, Ok, Err, IfErr}
 use Rattle.std.specs.List.{AllZip, AllByRecursion, flat_map, join_with_byte, list_any}
 use Rattle.std.specs.Result.{IsErrAnd}
@@ -17,13 +17,13 @@ use Rattle.session_known.specs.declared.script.Script.{Script}
 use Rattle.session_known.specs.declared.script.SessionPlan.{SessionPlan}
 use Rattle.report_lines.proofs.NamesLemmas.{TellsNames}
 use Rattle.report_reader.specs.ReadLines.{Due, Answered, FinalOf, IsDue, IsFinalAt, AreLinesRead, IsOut, HasGot, IsPartFault, session_dues, finals_dues}
-use Rattle.report_lines.proofs.RenderingLemmas.{Passes, IsLine, in_line, cut_once, line_behind, row_passes, passes_weaker}
+use Rattle.report_lines.proofs.RenderingLemmas.{Passes, IsLine, in_line, cut_once, line_after, row_passes, passes_weaker}
 use Rattle.report_lines.specs.Parts.{AreAnswers, place_of}
 use Rattle.report_lines.proofs.RowsLemmas.{both_all}
 use Rattle.report_lines.specs.Text.{level_word, answer_words, answers_lines, sessions_lines, final_words, line_text}
 use Rattle.report_reader.specs.declared.ReportFault.{ReportFault}
 use Rattle.report_reader.specs.declared.ReportFault.TheVariants.{Form, NoMemory}
-use Rattle.report_reader.proofs.DueLemmas.{HasWords, due_line, out_before, out_behind, lines_read}
+use Rattle.report_reader.proofs.DueLemmas.{HasWords, due_line, out_before, out_after, lines_read}
 use Rattle.report_reader.proofs.FormDueLemmas.{both_zip}
 use Rattle.report_reader.proofs.ReadRows.{lacks_passes, no_cut}
 
@@ -45,7 +45,7 @@ line_lacks words is = passes_weaker in_line (is_not 10) (λ b passes. no_feed (b
 -- a text up to a line feed is the line that stands there
 line_is : (text after rest : List ℕ) (words : List (List ℕ)) → IsLine words → list_any (λ b. b == 10) text ≡ false → text ++ 10 ∷ after ≡ line_text words ++ rest → (text ≡ join_with_byte 32 words) × (after ≡ rest)
 line_is text after rest words is lacks same =
-    cut_once (is_not 10) 10 refl text (join_with_byte 32 words) after rest (lacks_passes 10 text lacks) (line_lacks words is) (same ∙ line_behind words rest)
+    cut_once (is_not 10) 10 refl text (join_with_byte 32 words) after rest (lacks_passes 10 text lacks) (line_lacks words is) (same ∙ line_after words rest)
 
 -- what is said of a fault is said where the call failed with it
 pub fault_on : {X E : Type 0} (r : Result X E) (P Q : E → Type 0) → IsErrAnd r Q → ((fault : E) → Q fault → P fault) → IfErr r P
@@ -55,7 +55,7 @@ fault_on (Err fault) P Q is each = each fault is
 module _ (script : Script) (names : TellsNames script) where
   -- where no line feed is left, no line is
   pub out_at_end : (due : Due) (bytes : List ℕ) → list_any (λ b. b == 10) bytes ≡ false → IsOut script due bytes
-  out_at_end due bytes lacks rest line = no_cut 10 bytes (join_with_byte 32 line.words) rest lacks (line.begin ∙ line_behind line.words rest)
+  out_at_end due bytes lacks rest line = no_cut 10 bytes (join_with_byte 32 line.words) rest lacks (line.begin ∙ line_after line.words rest)
 
   -- a line whose text is none that is due is out of form
   pub out_here : (due : Due) (bytes text after : List ℕ) → HasWords due → bytes ≡ text ++ 10 ∷ after → list_any (λ b. b == 10) text ≡ false → ((words : List (List ℕ)) → IsDue script due words → text ≡ join_with_byte 32 words → ⊥) → IsOut script due bytes
@@ -66,11 +66,11 @@ module _ (script : Script) (names : TellsNames script) where
   pub got_line : (due : Due) (words : List (List ℕ)) (text : List ℕ) (before after : List ℕ × ℕ) → IsDue script due words → text ≡ join_with_byte 32 words → before.0 ≡ text ++ 10 ∷ after.0 → after.1 ≡ before.1 + 1 → HasGot script (due ∷ []) (words ∷ []) before after
   got_line due words text before after is same begin number = record {
     are_due = (is, tt);
-    begin = begin ∙ ap (λ text. text ++ 10 ∷ after.0) same ∙ sym (line_behind words after.0) ∙ ap (λ text. text ++ after.0) (sym (append-nil (line_text words)));
+    begin = begin ∙ ap (λ text. text ++ 10 ∷ after.0) same ∙ sym (line_after words after.0) ∙ ap (λ text. text ++ after.0) (sym (append-nil (line_text words)));
     number = number;
   }
 
--- ---- one part behind another
+-- ---- one part after another
 
 module _ (script : Script) where
   -- what was got of one part and then of another
@@ -94,12 +94,12 @@ module _ (script : Script) where
   fault_before dues others before (Form line) is = (is.0, is.1, out_before script dues others is.0 before.0 is.2)
   fault_before dues others before NoMemory is = tt
 
-  -- and so is one of the second part behind the first
-  pub fault_behind : (dues others : List Due) (lines : List (List (List ℕ))) (before middle : List ℕ × ℕ) (fault : ReportFault) → HasGot script dues lines before middle → IsPartFault script others middle fault → IsPartFault script (dues ++ others) before fault
-  fault_behind dues others lines before middle (Form line) got is =
+  -- and so is one of the second part after the first
+  pub fault_after : (dues others : List Due) (lines : List (List (List ℕ))) (before middle : List ℕ × ℕ) (fault : ReportFault) → HasGot script dues lines before middle → IsPartFault script others middle fault → IsPartFault script (dues ++ others) before fault
+  fault_after dues others lines before middle (Form line) got is =
       let number : line ≡ before.1 + (length dues + is.0) = omega (arith, got.number, is.1) in
-      (length dues + is.0, number, out_behind script dues others is.0 before.0 middle.0 (got_read dues lines before middle got) is.2)
-  fault_behind dues others lines before middle NoMemory got is = tt
+      (length dues + is.0, number, out_after script dues others is.0 before.0 middle.0 (got_read dues lines before middle got) is.2)
+  fault_after dues others lines before middle NoMemory got is = tt
 
 -- ---- item by item
 
@@ -161,7 +161,7 @@ answers_next script level commands before count now after answers pushed command
 -- where one of the lines of a session is out of form
 pub answers_fault : (script : Script) (level : Level) (commands : List Line) (before : List ℕ × ℕ) (count : ℕ) (now : List ℕ × ℕ) (answers : List Answer) (command : Line) (fault : ReportFault) → count < length commands → command ≡ get_or commands count command → AreAnswersSo script level commands before count now answers → IsPartFault script (Answered level command ∷ []) now fault → IsPartFault script (map (Answered level) commands) before fault
 answers_fault script level commands before count now answers command fault within is so out =
-    let here = fault_behind script (map (Answered level) (take count commands)) (Answered level command ∷ []) (answers_lines script (take count commands) answers) before now fault so.got out in
+    let here = fault_after script (map (Answered level) (take count commands)) (Answered level command ∷ []) (answers_lines script (take count commands) answers) before now fault so.got out in
     let more = fault_before script (map (Answered level) (take count commands) ++ Answered level command ∷ []) (map (Answered level) (drop (suc count) commands)) before fault here in
     subst (λ dues. IsPartFault script dues before fault) (all_of (Answered level) commands count command within is) more
 
@@ -199,7 +199,7 @@ sessions_room script plans before count now others plan most within is so room =
 pub sessions_fault : (script : Script) (plans : List SessionPlan) (before : List ℕ × ℕ) (count : ℕ) (now : List ℕ × ℕ) (others : List (List Answer)) (plan : SessionPlan) (fault : ReportFault) → count < length plans → plan ≡ get_or plans count plan → AreSessionsSo script plans before count now others → IsPartFault script (session_dues plan) now fault → IsPartFault script (flat_map session_dues plans) before fault
 sessions_fault script plans before count now others plan fault within is so out =
     let front = take count plans in
-    let here = fault_behind script (flat_map session_dues front) (session_dues plan) (sessions_lines script front others) before now fault so.got out in
+    let here = fault_after script (flat_map session_dues front) (session_dues plan) (sessions_lines script front others) before now fault so.got out in
     let more = fault_before script (flat_map session_dues front ++ session_dues plan) (flat_map session_dues (drop (suc count) plans)) before fault here in
     let dues : (flat_map session_dues front ++ session_dues plan) ++ flat_map session_dues (drop (suc count) plans) ≡ flat_map session_dues plans =
     ap (λ dues. dues ++ flat_map session_dues (drop (suc count) plans)) (sym (dues_push front plan)) ∙ sym (flat_map-append session_dues (front ++ plan ∷ []) (drop (suc count) plans)) ∙ ap (flat_map session_dues) (parts_of plans count plan within is) in
@@ -234,6 +234,6 @@ finals_next script places before count now after cells pushed place cell within 
 -- where one of the final cells is out of form
 pub finals_fault : (script : Script) (places : List (ℕ × ℕ)) (before : List ℕ × ℕ) (count : ℕ) (now : List ℕ × ℕ) (cells : List FinalCell) (place : ℕ × ℕ) (fault : ReportFault) → count < length places → place ≡ get_or places count place → AreFinalsSo script places before count now cells → IsPartFault script (FinalOf place.0 place.1 ∷ []) now fault → IsPartFault script (finals_dues places) before fault
 finals_fault script places before count now cells place fault within is so out =
-    let here = fault_behind script (finals_dues (take count places)) (FinalOf place.0 place.1 ∷ []) (map (final_words script) cells) before now fault so.got out in
+    let here = fault_after script (finals_dues (take count places)) (FinalOf place.0 place.1 ∷ []) (map (final_words script) cells) before now fault so.got out in
     let more = fault_before script (finals_dues (take count places) ++ FinalOf place.0 place.1 ∷ []) (finals_dues (drop (suc count) places)) before fault here in
     subst (λ dues. IsPartFault script dues before fault) (all_of (λ (place : ℕ × ℕ). FinalOf place.0 place.1) places count place within is) more

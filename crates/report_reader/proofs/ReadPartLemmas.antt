@@ -1,4 +1,4 @@
--- The parts of a report got one behind another, where its final cells stand, and how many lines it has.
+-- The parts of a report got one after another, where its final cells stand, and how many lines it has.
 use Rattle.std.specs.Prelude.{◌≡◌, ℕ, ◌+◌, ◌*◌, ◌≤◌, ◌==◌, Bool, true, false, List, [], ◌∷◌, ◌++◌, filter, length, map, codes, sum_by, Result, Ok, Err, IfErr}
 use Rattle.std.specs.List.{flat_map, join_with_byte, list_any, range_with_len}
 use Rattle.std.proofs.Common.{refl, sym, ap, ◌∙◌, arith}
@@ -17,11 +17,11 @@ use Rattle.session_known.specs.declared.script.SessionPlan.{SessionPlan}
 use Rattle.report_lines.proofs.LinesLemmas.{session_line}
 use Rattle.report_lines.proofs.NamesLemmas.{TellsNames}
 use Rattle.report_reader.specs.ReadLines.{Due, Exactly, Answered, IsOut, HasGot, IsPartFault, session_dues, finals_dues, report_dues}
-use Rattle.report_lines.proofs.RenderingLemmas.{line_behind}
+use Rattle.report_lines.proofs.RenderingLemmas.{line_after}
 use Rattle.report_lines.specs.Text.{level_word}
 use Rattle.report_reader.specs.declared.ReportFault.{ReportFault}
 use Rattle.report_reader.specs.declared.ReportFault.TheVariants.{Form}
-use Rattle.report_reader.proofs.ReadLineLemmas.{is_not, line_lacks, got_both, fault_first, fault_before, fault_behind}
+use Rattle.report_reader.proofs.ReadLineLemmas.{is_not, line_lacks, got_both, fault_first, fault_before, fault_after}
 use Rattle.report_reader.proofs.ReadRows.{lacks_failing}
 
 -- ---- lines that are wanted
@@ -29,7 +29,7 @@ use Rattle.report_reader.proofs.ReadRows.{lacks_failing}
 -- where a line that is wanted does not stand, no line that is due does
 pub wanted_out : (script : Script) (words : List (List ℕ)) (wanted bytes : List ℕ) → wanted ≡ join_with_byte 32 words → ((rest : List ℕ) → bytes ≡ wanted ++ 10 ∷ rest → ⊥) → IsOut script (Exactly words) bytes
 wanted_out script words wanted bytes is none rest line =
-    none rest (line.begin ∙ line_behind line.words rest ∙ ap (λ text. text ++ 10 ∷ rest) (ap (join_with_byte 32) line.is_due ∙ sym is))
+    none rest (line.begin ∙ line_after line.words rest ∙ ap (λ text. text ++ 10 ∷ rest) (ap (join_with_byte 32) line.is_due ∙ sym is))
 
 -- the line of a session has no line feed
 pub session_lacks : (script : Script) → TellsNames script → (plan : SessionPlan) → IsName plan.name → list_any (λ b. b == 10) (join_with_byte 32 (codes "session" ∷ plan.name ∷ level_word plan.level ∷ [])) ≡ false
@@ -135,43 +135,43 @@ abbrev pub end_word : List (List ℕ)
 end_word = codes "end" ∷ []
 
 module _ (script : Script) (table : List (List ℕ)) (before first : List ℕ × ℕ) (first_got : HasGot script (Exactly first_words ∷ []) (first_words ∷ []) before first) where
-  -- what is due behind the sessions, and behind the word before the final cells
-  abbrev cells_behind : List Due
-  cells_behind = finals_dues (final_places script table) ++ Exactly end_word ∷ []
+  -- what is due after the sessions, and after the word before the final cells
+  abbrev cells_after : List Due
+  cells_after = finals_dues (final_places script table) ++ Exactly end_word ∷ []
 
   -- where a line of a session is out of form
   pub fault_in_sessions : (fault : ReportFault) → IsPartFault script (flat_map session_dues script.sessions) first fault → IsPartFault script (report_dues script table) before fault
   fault_in_sessions fault out =
-      fault_behind script (Exactly first_words ∷ []) (flat_map session_dues script.sessions ++ (Exactly final_word ∷ cells_behind)) (first_words ∷ []) before first fault first_got (fault_before script (flat_map session_dues script.sessions) (Exactly final_word ∷ cells_behind) first fault out)
+      fault_after script (Exactly first_words ∷ []) (flat_map session_dues script.sessions ++ (Exactly final_word ∷ cells_after)) (first_words ∷ []) before first fault first_got (fault_before script (flat_map session_dues script.sessions) (Exactly final_word ∷ cells_after) first fault out)
 
-  module _ (sessions : List (List (List ℕ))) (behind : List ℕ × ℕ) (sessions_got : HasGot script (flat_map session_dues script.sessions) sessions first behind) where
+  module _ (sessions : List (List (List ℕ))) (later : List ℕ × ℕ) (sessions_got : HasGot script (flat_map session_dues script.sessions) sessions first later) where
     -- the sessions with the first line
-    sessions_too : HasGot script (Exactly first_words ∷ flat_map session_dues script.sessions) (first_words ∷ sessions) before behind
-    sessions_too = got_both script (Exactly first_words ∷ []) (flat_map session_dues script.sessions) (first_words ∷ []) sessions before first behind first_got sessions_got
+    sessions_too : HasGot script (Exactly first_words ∷ flat_map session_dues script.sessions) (first_words ∷ sessions) before later
+    sessions_too = got_both script (Exactly first_words ∷ []) (flat_map session_dues script.sessions) (first_words ∷ []) sessions before first later first_got sessions_got
 
     -- where the word before the final cells is out of form
-    pub fault_at_final : (line : ℕ) → line ≡ behind.1 → IsOut script (Exactly final_word) behind.0 → IsPartFault script (report_dues script table) before (Form line)
+    pub fault_at_final : (line : ℕ) → line ≡ later.1 → IsOut script (Exactly final_word) later.0 → IsPartFault script (report_dues script table) before (Form line)
     fault_at_final line is out =
-        fault_behind script (Exactly first_words ∷ flat_map session_dues script.sessions) (Exactly final_word ∷ cells_behind) (first_words ∷ sessions) before behind (Form line) sessions_too (fault_first script (Exactly final_word) cells_behind behind line is out)
+        fault_after script (Exactly first_words ∷ flat_map session_dues script.sessions) (Exactly final_word ∷ cells_after) (first_words ∷ sessions) before later (Form line) sessions_too (fault_first script (Exactly final_word) cells_after later line is out)
 
-    module _ (cells_first : List ℕ × ℕ) (final_got : HasGot script (Exactly final_word ∷ []) (final_word ∷ []) behind cells_first) where
+    module _ (cells_first : List ℕ × ℕ) (final_got : HasGot script (Exactly final_word ∷ []) (final_word ∷ []) later cells_first) where
       -- where a final cell is out of form
       pub fault_in_finals : (fault : ReportFault) → IsPartFault script (finals_dues (final_places script table)) cells_first fault → IsPartFault script (report_dues script table) before fault
       fault_in_finals fault out =
-          fault_behind script (Exactly first_words ∷ flat_map session_dues script.sessions) (Exactly final_word ∷ cells_behind) (first_words ∷ sessions) before behind fault sessions_too
-          (fault_behind script (Exactly final_word ∷ []) cells_behind (final_word ∷ []) behind cells_first fault final_got (fault_before script (finals_dues (final_places script table)) (Exactly end_word ∷ []) cells_first fault out))
+          fault_after script (Exactly first_words ∷ flat_map session_dues script.sessions) (Exactly final_word ∷ cells_after) (first_words ∷ sessions) before later fault sessions_too
+          (fault_after script (Exactly final_word ∷ []) cells_after (final_word ∷ []) later cells_first fault final_got (fault_before script (finals_dues (final_places script table)) (Exactly end_word ∷ []) cells_first fault out))
 
       module _ (cells : List (List (List ℕ))) (last : List ℕ × ℕ) (cells_got : HasGot script (finals_dues (final_places script table)) cells cells_first last) where
         -- where the last word is out of form
         pub fault_at_end : (line : ℕ) → line ≡ last.1 → IsOut script (Exactly end_word) last.0 → IsPartFault script (report_dues script table) before (Form line)
         fault_at_end line is out =
-            fault_behind script (Exactly first_words ∷ flat_map session_dues script.sessions) (Exactly final_word ∷ cells_behind) (first_words ∷ sessions) before behind (Form line) sessions_too
-            (fault_behind script (Exactly final_word ∷ []) cells_behind (final_word ∷ []) behind cells_first (Form line) final_got
-            (fault_behind script (finals_dues (final_places script table)) (Exactly end_word ∷ []) cells cells_first last (Form line) cells_got (fault_first script (Exactly end_word) [] last line is out)))
+            fault_after script (Exactly first_words ∷ flat_map session_dues script.sessions) (Exactly final_word ∷ cells_after) (first_words ∷ sessions) before later (Form line) sessions_too
+            (fault_after script (Exactly final_word ∷ []) cells_after (final_word ∷ []) later cells_first (Form line) final_got
+            (fault_after script (finals_dues (final_places script table)) (Exactly end_word ∷ []) cells cells_first last (Form line) cells_got (fault_first script (Exactly end_word) [] last line is out)))
 
         -- where all was got
         pub all_got : (after : List ℕ × ℕ) → HasGot script (Exactly end_word ∷ []) (end_word ∷ []) last after → HasGot script (report_dues script table) (first_words ∷ (sessions ++ (final_word ∷ (cells ++ end_word ∷ [])))) before after
         all_got after end_got =
-            got_both script (Exactly first_words ∷ flat_map session_dues script.sessions) (Exactly final_word ∷ cells_behind) (first_words ∷ sessions) (final_word ∷ (cells ++ end_word ∷ [])) before behind after sessions_too
-            (got_both script (Exactly final_word ∷ []) cells_behind (final_word ∷ []) (cells ++ end_word ∷ []) behind cells_first after final_got
+            got_both script (Exactly first_words ∷ flat_map session_dues script.sessions) (Exactly final_word ∷ cells_after) (first_words ∷ sessions) (final_word ∷ (cells ++ end_word ∷ [])) before later after sessions_too
+            (got_both script (Exactly final_word ∷ []) cells_after (final_word ∷ []) (cells ++ end_word ∷ []) later cells_first after final_got
             (got_both script (finals_dues (final_places script table)) (Exactly end_word ∷ []) cells (end_word ∷ []) cells_first last after cells_got end_got))

@@ -1,4 +1,4 @@
--- Rows of items with a byte between each two, read one item behind another: what was read and what is left make up what is written.
+-- Rows of items with a byte between each two, read one item after another: what was read and what is left make up what is written.
 use Rattle.std.specs.Prelude.{◌==◌, cond, not, IfOk, IsTrue}
 use Rattle.std.proofs.Common.{◌≡◌, ◌↔◌, ℕ, ◌+◌, ◌<◌, ◌≤◌, Bool, true, false, List, [], ◌∷◌, ◌++◌, map, drop, length, get_or, Option, None, Some, Result, Ok, Err, sym, ap, refl, subst, ◌∙◌, arith}
 use Rattle.std.specs.declared.cmp.Ordering.{Ordering}
@@ -47,7 +47,7 @@ lacks_passes c (b ∷ text) lacks =
     let both = or_parts (b == c) (list_any (λ b. b == c) text) lacks in
     and_from (not (b == c)) (list_all (λ b. not (b == c)) text) (ap not both.0) (lacks_passes c text both.1)
 
--- Two texts in which a byte does not stand are told from what they begin, where the byte or nothing stands behind them.
+-- Two texts in which a byte does not stand are told from what they begin, where the byte or nothing stands after them.
 cut_apart : (c : ℕ) (xs ys us vs : List ℕ) → Lacks c xs → Lacks c ys → Stops c us → Stops c vs → xs ++ us ≡ ys ++ vs → (xs ≡ ys) × (us ≡ vs)
 cut_apart c xs ys us vs lacks_xs lacks_ys stops_us stops_vs same = cut_at (λ b. not (b == c)) c (not_other c) xs ys us vs (lacks_passes c xs lacks_xs) (lacks_passes c ys lacks_ys) stops_us stops_vs same
 
@@ -65,7 +65,7 @@ no_cut c text xs ys lacks same = not_passes (λ b. not (b == c)) c (not_other c)
 
 -- ---- rows
 
--- behind a text of a row that is not the last stands the byte
+-- after a text of a row that is not the last stands the byte
 join_onto : (c : ℕ) (text : List ℕ) (texts : List (List ℕ)) (first : List ℕ) (more : List (List ℕ)) → join_with_byte c (text ∷ (texts ++ first ∷ more)) ≡ text ++ c ∷ join_with_byte c (texts ++ first ∷ more)
 join_onto c text [] first more = refl
 join_onto c text (next ∷ texts) first more = refl
@@ -77,7 +77,7 @@ join_again c (text ∷ texts) first other more others same =
     join_onto c text texts first more ∙ ap (λ rest. text ++ c ∷ rest) (join_again c texts first other more others same) ∙ sym (join_onto c text texts other others)
 
 -- a row begins with its first text
-row_begins : (c : ℕ) (text : List ℕ) (texts : List (List ℕ)) → (behind : List ℕ) × Stops c behind × (join_with_byte c (text ∷ texts) ≡ text ++ behind)
+row_begins : (c : ℕ) (text : List ℕ) (texts : List (List ℕ)) → (later : List ℕ) × Stops c later × (join_with_byte c (text ∷ texts) ≡ text ++ later)
 row_begins c text [] = ([], tt, sym (append-nil text))
 row_begins c text (next ∷ texts) = (c ∷ join_with_byte c (next ∷ texts), refl, refl)
 
@@ -91,7 +91,7 @@ all_last : {X : Type 0} (P : X → Type 0) (xs : List X) (x : X) → AllByRecurs
 all_last P [] x all = all.0
 all_last P (other ∷ xs) x all = all_last P xs x all.1
 
--- What a row is read by: a list in form has items, each of which is told from its text where the byte or nothing stands behind it,
+-- What a row is read by: a list in form has items, each of which is told from its text where the byte or nothing stands after it,
 -- and what comes first in a list in form is in form.
 pub record RowLaws {X : Type 0} (InForm : List X → Type 0) (IsItem : X → Type 0) (c : ℕ) (text : X → List ℕ) : Type 0 where
   pub items : (xs : List X) → InForm xs → AllByRecursion IsItem xs
@@ -106,7 +106,7 @@ pub record AreRead {X : Type 0} (IsItem : X → Type 0) (c : ℕ) (text : X → 
 
 -- what is left begins with the item of this piece, if it begins with one
 abbrev pub IsNext : {X : Type 0} → (X → Type 0) → ℕ → (X → List ℕ) → List (List ℕ) → (X → List ℕ) → List ℕ → Type 0
-IsNext {X} IsItem c text left written piece = (x : X) (behind : List ℕ) → IsItem x → Stops c behind → join_with_byte c left ≡ text x ++ behind → piece ≡ written x
+IsNext {X} IsItem c text left written piece = (x : X) (later : List ℕ) → IsItem x → Stops c later → join_with_byte c left ≡ text x ++ later → piece ≡ written x
 
 -- the bytes are those of no row
 abbrev pub IsNoRow : {X : Type 0} → (List X → Type 0) → ℕ → (X → List ℕ) → List ℕ → Type 0
@@ -121,8 +121,8 @@ front_told IsItem c text tells (item ∷ items) first more x [] all_items all_xs
     absurd cc
 front_told IsItem c text tells (item ∷ items) first more x (next ∷ xs) all_items all_xs same =
     let cut = tells item x (c ∷ join_with_byte c (map text items ++ first ∷ more)) (c ∷ join_with_byte c (map text (next ∷ xs))) all_items.0 all_xs.0 refl refl (sym (join_onto c (text item) (map text items) first more) ∙ same) in
-    let behind : join_with_byte c (map text items ++ first ∷ more) ≡ join_with_byte c (map text (next ∷ xs)) = cc in
-    let others = front_told IsItem c text tells items first more next xs all_items.1 all_xs.1 behind in
+    let later : join_with_byte c (map text items ++ first ∷ more) ≡ join_with_byte c (map text (next ∷ xs)) = cc in
+    let others = front_told IsItem c text tells items first more next xs all_items.1 all_xs.1 later in
     let whole : x ∷ next ∷ xs ≡ item ∷ (items ++ others.0 ∷ others.1) = λ i. sym cut.0 i ∷ others.2 i in
     (others.0, others.1, whole, others.3)
 
@@ -150,8 +150,8 @@ module _ {X : Type 0} {IsItem : X → Type 0} {c : ℕ} {text : X → List ℕ} 
   all_read InForm read form = (row_of InForm items (omega (arith, read.some)) form, read.same ∙ ap (join_with_byte c) (append-nil (map text items)))
 
   module _ {InForm : List X → Type 0} {first : List ℕ} {more : List (List ℕ)} (laws : RowLaws InForm IsItem c text) (read : AreRead IsItem c text bytes items (first ∷ more)) where
-    -- Where what is left begins with no item that is in form behind the others, the bytes are those of no row.
-    pub no_row : ((x : X) (behind : List ℕ) → InForm (items ++ x ∷ []) → IsItem x → Stops c behind → join_with_byte c (first ∷ more) ≡ text x ++ behind → ⊥) → IsNoRow InForm c text bytes
+    -- Where what is left begins with no item that is in form after the others, the bytes are those of no row.
+    pub no_row : ((x : X) (later : List ℕ) → InForm (items ++ x ∷ []) → IsItem x → Stops c later → join_with_byte c (first ∷ more) ≡ text x ++ later → ⊥) → IsNoRow InForm c text bytes
     no_row none [] some same = absurd some
     no_row none (x ∷ xs) some same =
         let told = front_told IsItem c text laws.tells items first more x xs read.are_items (laws.items (x ∷ xs) some) (sym read.same ∙ same) in
@@ -161,14 +161,14 @@ module _ {X : Type 0} {IsItem : X → Type 0} {c : ℕ} {text : X → List ℕ} 
 
     -- Where the next piece is that of no item, neither.
     pub no_item : {result : Option X} (written : X → List ℕ) (piece : List ℕ) → IsNext IsItem c text (first ∷ more) written piece → Reads IsItem written piece result → result ≡ None → IsNoRow InForm c text bytes
-    no_item {result} written piece next reads none = no_row (λ x behind form is stops same. none_reads IsItem written piece result reads none x is (next x behind is stops same))
+    no_item {result} written piece next reads none = no_row (λ x later form is stops same. none_reads IsItem written piece result reads none x is (next x later is stops same))
 
-    -- Where the next item does not go behind the others, neither.
+    -- Where the next item does not go after the others, neither.
     pub no_place : {pushed : Bool} (P : List X → Type 0) (written : X → List ℕ) (piece : List ℕ) (item : X) (new : List X) → ((xs : List X) → InForm xs → P xs) → ((x y : X) → IsItem x → IsItem y → written x ≡ written y → x ≡ y)
         → IsNext IsItem c text (first ∷ more) written piece → IsItem item → piece ≡ written item → IsPushed P items item new pushed → pushed ≡ false → IsNoRow InForm c text bytes
-    no_place P written piece item new weaker told next is_item is push refused = no_row (λ x behind form is_x stops same.
+    no_place P written piece item new weaker told next is_item is push refused = no_row (λ x later form is_x stops same.
         let fails : (new ≡ items) × (P (items ++ item ∷ []) → ⊥) = subst (IsPushed P items item new) refused push in
-        let here : x ≡ item = sym (told item x is_item is_x (sym is ∙ next x behind is_x stops same)) in
+        let here : x ≡ item = sym (told item x is_item is_x (sym is ∙ next x later is_x stops same)) in
         fails.1 (weaker (items ++ item ∷ []) (subst (λ x. InForm (items ++ x ∷ [])) here form)))
 
 -- ---- rows read by the pieces between the places of the byte
@@ -232,10 +232,10 @@ module _ {R X : Type 0} {now : R → List ℕ} {IsItem : X → Type 0} {c : ℕ}
 
     -- and the next item is that of the piece
     next_piece : ((x : X) → IsItem x → Lacks c (text x)) → IsNext IsItem c text (now (get_or pieces count d) ∷ drop (count + 1) (map now pieces)) text (now (get_or pieces count d))
-    next_piece whole x behind is stops same =
+    next_piece whole x later is stops same =
         let begins = row_begins c (now (get_or pieces count d)) (drop (count + 1) (map now pieces)) in
         let lacks : Lacks c (now (get_or pieces count d)) = subst (Lacks c) (get_or-map now pieces count d [] within) (read.lack count [] (omega (arith, length-map pieces now))) in
-        (cut_apart c (now (get_or pieces count d)) (text x) begins.0 behind lacks (whole x is) begins.1 stops (sym begins.2 ∙ same)).0
+        (cut_apart c (now (get_or pieces count d)) (text x) begins.0 later lacks (whole x is) begins.1 stops (sym begins.2 ∙ same)).0
 
     module _ {result : Option X} (reads : Reads IsItem text (now (get_or pieces count d)) result) where
       -- One piece more was read as an item.
@@ -251,7 +251,7 @@ module _ {R X : Type 0} {now : R → List ℕ} {IsItem : X → Type 0} {c : ℕ}
       pub no_piece : {InForm : List X → Type 0} → PieceLaws InForm IsItem c text → result ≡ None → IsNoRow InForm c text bytes
       no_piece laws none = no_item (row_laws laws) left_first text (now (get_or pieces count d)) (next_piece laws.whole) reads none
 
-      -- Where its item does not go behind the others, neither.
+      -- Where its item does not go after the others, neither.
       pub no_piece_place : {InForm : List X → Type 0} {pushed : Bool} (P : List X → Type 0) (x : X) (new : List X) → PieceLaws InForm IsItem c text → ((xs : List X) → InForm xs → P xs) → result ≡ Some x → IsPushed P items x new pushed → pushed ≡ false → IsNoRow InForm c text bytes
       no_piece_place P x new laws weaker is push refused =
           let item : IsItem x × (now (get_or pieces count d) ≡ text x) = subst (Reads IsItem text (now (get_or pieces count d))) is reads in

@@ -37,12 +37,12 @@ field_parts text front rest field cut is same = same_cut 61 text front rest fiel
 pub stamped_parts : (script : Script) (text front rest : List ℕ) (stamped : Stamped) → IsCut 47 text front rest → IsStampedIn script stamped → text ≡ stamped_text script stamped → (front ≡ stamped.word) × (rest ≡ stamp_text script (stamped.number, stamped.session, stamped.place))
 stamped_parts script text front rest stamped cut is same = same_cut 47 text front rest stamped.word _ cut (word_lacks 47 refl stamped.word is.0.is_word) same
 
--- where what is behind the word is no stamp, the text is no stamped word
+-- where what is after the word is no stamp, the text is no stamped word
 pub no_stamp : (script : Script) (text front rest : List ℕ) → IsCut 47 text front rest → ((stamp : ℕ × ℕ × ℕ) → IsStampIn script stamp → rest ≡ stamp_text script stamp → ⊥) → (stamped : Stamped) → IsStampedIn script stamped → text ≡ stamped_text script stamped → ⊥
 no_stamp script text front rest cut none stamped is same =
     none (stamped.number, stamped.session, stamped.place) (is.0.number_fits, is.1, is.0.place_fits) (stamped_parts script text front rest stamped cut is same).1
 
--- the number of a stamp, and what is behind it
+-- the number of a stamp, and what is after it
 pub stamp_parts : (script : Script) (text front rest : List ℕ) (stamp : ℕ × ℕ × ℕ) → IsCut 47 text front rest → text ≡ stamp_text script stamp → (front ≡ decimal stamp.0) × (rest ≡ session_name script stamp.1 ++ 47 ∷ decimal stamp.2)
 stamp_parts script text front rest stamp cut same = same_cut 47 text front rest (decimal stamp.0) _ cut (lacks_failing _ 47 refl (decimal stamp.0) (decimal_spelled stamp.0)) same
 

@@ -40,9 +40,9 @@ pub cut_first : (byte : ℕ) (text : List ℕ) (at : ℕ) → position (λ b. b 
 cut_first byte text at found =
     let is = position-Some (λ b. b == byte) text at 0 found in
     let same : get_or text at 0 ≡ byte = let h = is.1 in grind (arith, nat_tests) in
-    let behind : drop at text ≡ byte ∷ take (length text - (at + 1)) (drop (at + 1) text) =
+    let later : drop at text ≡ byte ∷ take (length text - (at + 1)) (drop (at + 1) text) =
     drop_more text at 0 is.0 ∙ ap (λ b. b ∷ drop (at + 1) text) same ∙ ap (λ rest. byte ∷ rest) (sym (take_rest text (at + 1))) in (
-      sym (take-append-drop at text) ∙ ap (λ rest. take at text ++ rest) behind,
+      sym (take-append-drop at text) ∙ ap (λ rest. take at text ++ rest) later,
       none_before (λ b. b == byte) text at is.0 (λ k d lt. (position-Some (λ b. b == byte) text at d found).2 k lt),
     )
 

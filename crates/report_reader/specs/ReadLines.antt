@@ -1,4 +1,4 @@
--- The lines of a report read one behind another: what each may be, and where the first that is not in form stands.
+-- The lines of a report read one after another: what each may be, and where the first that is not in form stands.
 use Rattle.std.specs.Prelude.{◌≡◌, ℕ, zero, suc, ◌+◌, List, [], ◌∷◌, ◌++◌, map, length, flat_map, codes, ⊤}
 use Rattle.std.specs.List.{AllZip}
 use Rattle.session_known.specs.Form.{Fits, IsFinalIn, final_places}
@@ -47,16 +47,16 @@ report_dues script table =
     ++ (Exactly (codes "final" ∷ []) ∷ (finals_dues (final_places script table)
     ++ Exactly (codes "end" ∷ []) ∷ [])))
 
--- the bytes begin with a line that is due, and the rest is behind it
+-- the bytes begin with a line that is due, and the rest is after it
 pub record IsLineRead (script : Script) (due : Due) (bytes rest : List ℕ) : Type 0 where
   pub words : List (List ℕ)
   pub is_due : IsDue script due words
   pub begin : bytes ≡ line_text words ++ rest
 
--- the bytes begin with the lines that are due, and the rest is behind them
+-- the bytes begin with the lines that are due, and the rest is after them
 abbrev pub AreLinesRead : Script → List Due → List ℕ → List ℕ → Type 0
 AreLinesRead script [] bytes rest = bytes ≡ rest
-AreLinesRead script (due ∷ dues) bytes rest = (behind : List ℕ) × IsLineRead script due bytes behind × AreLinesRead script dues behind rest
+AreLinesRead script (due ∷ dues) bytes rest = (later : List ℕ) × IsLineRead script due bytes later × AreLinesRead script dues later rest
 
 -- the bytes begin with no line that is due
 abbrev pub IsOut : Script → Due → List ℕ → Type 0
@@ -66,9 +66,9 @@ IsOut script due bytes = (rest : List ℕ) → IsLineRead script due bytes rest 
 abbrev pub IsOutAt : Script → List Due → ℕ → List ℕ → Type 0
 IsOutAt script [] place bytes = ⊥
 IsOutAt script (due ∷ dues) zero bytes = IsOut script due bytes
-IsOutAt script (due ∷ dues) (suc place) bytes = (behind : List ℕ) × IsLineRead script due bytes behind × IsOutAt script dues place behind
+IsOutAt script (due ∷ dues) (suc place) bytes = (later : List ℕ) × IsLineRead script due bytes later × IsOutAt script dues place later
 
--- What is left of a text, with the number of its next line: what stood before these lines, which were due, and what stands behind.
+-- What is left of a text, with the number of its next line: what stood before these lines, which were due, and what stands after.
 pub record HasGot (script : Script) (dues : List Due) (lines : List (List (List ℕ))) (before after : List ℕ × ℕ) : Type 0 where
   pub are_due : AllZip (IsDue script) dues lines
   pub begin : before.0 ≡ flat_map line_text lines ++ after.0

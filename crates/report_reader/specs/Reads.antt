@@ -16,11 +16,11 @@ Reads InForm written text None = (x : _) → InForm x → text ≡ written x →
 -- the bytes begin with the first lines, so many, of the report's text
 pub record BeginsWith (script : Script) (report : Report) (count : ℕ) (bytes : List ℕ) : Type 0 where
   pub some : count ≤ length (report_lines script report)
-  pub behind : List ℕ
-  pub begin : bytes ≡ flat_map line_text (take count (report_lines script report)) ++ behind
+  pub later : List ℕ
+  pub begin : bytes ≡ flat_map line_text (take count (report_lines script report)) ++ later
 
 -- The line, counted from 1, is the first that is not in form: all lines before it are those of a report in form, and with this
--- one they are those of none. A last line without a line feed is not in form, and behind the last line the next is not there.
+-- one they are those of none. A last line without a line feed is not in form, and after the last line the next is not there.
 pub record IsFirstOutOfForm (script : Script) (table : List (List ℕ)) (bytes : List ℕ) (line : ℕ) : Type 0 where
   pub counted : 1 ≤ line
   pub before : (report : Report) × HasForm script table report × BeginsWith script report (line - 1) bytes

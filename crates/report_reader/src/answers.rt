@@ -77,7 +77,7 @@ fn read_put(script: &Script, level: Level, key: u16, words: &[&[u8]]) -> Option<
     read_put_end(level, said)
 }
 
-/// Reads what stands behind the key in the answer to a put.
+/// Reads what stands after the key in the answer to a put.
 fn read_put_end(level: Level, words: &[&[u8]]) -> Option<Answer>
     ensures { (script : Script) (key : ℕ) (payload : Payload) → Reads (Fits script level (lines.Put key payload)) (answer_words script (lines.Put key payload)) (codes "put" ∷ key_name script key ∷ map (λ word. word.now) words.now) result }
 {
@@ -135,7 +135,7 @@ fn read_get(
     read_get_end(alloc, script, level, key, first, said)
 }
 
-/// Reads what stands behind the key in the answer to a get, whose first word is given.
+/// Reads what stands after the key in the answer to a get, whose first word is given.
 fn read_get_end(
     alloc: Global,
     script: &Script,
@@ -190,7 +190,7 @@ fn read_await(
     read_await_end(alloc, script, level, key, said)
 }
 
-/// Reads what stands behind the number in the answer to an await.
+/// Reads what stands after the number in the answer to an await.
 fn read_await_end(
     alloc: Global,
     script: &Script,
@@ -253,7 +253,7 @@ fn read_commit(words: &[&[u8]]) -> Option<Answer>
     }
 }
 
-/// Reads the word behind a commit that has no Lamport number.
+/// Reads the word after a commit that has no Lamport number.
 fn read_unnumbered(word: &[u8]) -> Option<Answer>
     ensures { (script : Script) (level : Level) → Reads (Fits script level lines.Commit) (answer_words script lines.Commit) (codes "commit" ∷ word.now ∷ []) result }
 {
@@ -334,13 +334,13 @@ fn read_shown_cell(
     requires key { IsOneOf (length script.now.config.keys) key }
     ensures { IfOk result (Reads (IsShownCellIn script.now level key) (shown_cell_words script.now) (map (λ word. word.now) words.now)) }
 {
-    let Some((cell, behind)) = words.split_at_checked(6) else {
+    let Some((cell, later)) = words.split_at_checked(6) else {
         return Ok(None);
     };
     let Some(cell) = read_cell(alloc, script, key, cell)? else {
         return Ok(None);
     };
-    let Some(needs) = read_shown_needs(alloc, script, level, behind)? else {
+    let Some(needs) = read_shown_needs(alloc, script, level, later)? else {
         return Ok(None);
     };
     Ok(Some(Shown {
@@ -351,7 +351,7 @@ fn read_shown_cell(
     }))
 }
 
-/// Reads the needs behind a cell, which are there exactly in a causal session.
+/// Reads the needs after a cell, which are there exactly in a causal session.
 fn read_shown_needs(
     alloc: Global,
     script: &Script,
@@ -368,7 +368,7 @@ fn read_shown_needs(
     }
 }
 
-/// Reads the needs behind a cell in a causal session.
+/// Reads the needs after a cell in a causal session.
 fn read_causal_needs(
     alloc: Global,
     script: &Script,

@@ -22,7 +22,7 @@ pub(crate) struct Cell {
     pub(crate) value: Value,
 }
 
-/// The word behind the first, where that is the given name, and what stands behind both.
+/// The word after the first, where that is the given name, and what stands after both.
 pub(crate) fn named<'w, 'a>(
     words: &'w [&'a [u8]],
     name: &[u8],

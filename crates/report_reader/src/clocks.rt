@@ -92,14 +92,14 @@ fn read_each_need(alloc: Global, script: &Script, text: &[u8]) -> Result<Option<
 {
     let mut needs = Needs::new(alloc);
     let mut rest = text;
-    while let Some((entry, behind)) = cut_at(rest, b'}') {
+    while let Some((entry, later)) = cut_at(rest, b'}') {
         let Some((key, clock)) = read_open(alloc, script, entry)? else {
             return Ok(None);
         };
         if !needs.push(key, clock)? {
             return Ok(None);
         }
-        match behind {
+        match later {
             [] => {
                 needs.attest();
                 return Ok(Some(needs));

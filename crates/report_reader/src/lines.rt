@@ -16,6 +16,7 @@ use crate::answers::{read_answer, read_final};
 use crate::words::cut_at;
 use lattice_laws::{Items, NoMemory};
 use placement::Placement;
+use report_lines::level_text;
 use session_known::{Answer, FinalCell, Level, Line, Report, Script, SessionPlan};
 use std::alloc::Global;
 use std::marker::Model;
@@ -133,17 +134,6 @@ fn read_answers(
         answers.push(read_answer_line(alloc, script, level, line, lines)?)?;
     }
     Ok(answers)
-}
-
-/// The word of a level.
-fn level_text(level: Level) -> &'static [u8]
-    ensures { result.now ≡ level_word level }
-{
-    match level {
-        Level::Eventual => b"eventual",
-        Level::Committed => b"committed",
-        Level::Causal => b"causal",
-    }
 }
 
 /// The line that a session begins with, without its line feed.

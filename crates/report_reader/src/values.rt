@@ -225,8 +225,8 @@ fn read_stamp(script: &Script, text: &[u8]) -> Option<(u64, u16, u32)>
     requires { (table : List (List ℕ)) × IsValidScript script.now table }
     ensures { Reads (IsStampIn script.now) (stamp_text script.now) text.now result }
 {
-    let (number, behind) = cut_at(text, b'/')?;
-    let (session, place) = cut_at(behind, b'/')?;
+    let (number, later) = cut_at(text, b'/')?;
+    let (session, place) = cut_at(later, b'/')?;
     let number = read_number(number)?;
     let session = read_session(script, session)?;
     let place = read_small_number(place)?;
@@ -274,10 +274,10 @@ fn read_version(alloc: Global, script: &Script, text: &[u8]) -> Result<Option<Ve
     requires { (table : List (List ℕ)) × IsValidScript script.now table }
     ensures { IfOk result (Reads (IsVersionIn script.now) (version_text script.now) text.now) }
 {
-    let Some((word, behind)) = cut_at(text, b'(') else {
+    let Some((word, later)) = cut_at(text, b'(') else {
         return Ok(None);
     };
-    let Some(clock) = before_parenthesis(behind) else {
+    let Some(clock) = before_parenthesis(later) else {
         return Ok(None);
     };
     let Some(clock) = read_clock(alloc, script, clock)? else {

@@ -61,11 +61,11 @@ sessions_text script (plan ∷ plans) (answers ∷ others) =
     ∙ sym (append_assoc head (flat_map line_text lines) (flat_map (λ pair. session_text script pair.0 pair.1) (zip plans others)))
 
 -- the text of the final cells and of the end, cell by cell
-finals_text : (script : Script) (finals : List FinalCell) (behind : List (List (List ℕ))) → flat_map line_text (map (final_words script) finals ++ behind) ≡ flat_map (λ cell. line_text (final_words script cell)) finals ++ flat_map line_text behind
-finals_text script [] behind = refl
-finals_text script (cell ∷ finals) behind =
-    ap (λ rest. line_text (final_words script cell) ++ rest) (finals_text script finals behind)
-    ∙ sym (append_assoc (line_text (final_words script cell)) (flat_map (λ cell. line_text (final_words script cell)) finals) (flat_map line_text behind))
+finals_text : (script : Script) (finals : List FinalCell) (later : List (List (List ℕ))) → flat_map line_text (map (final_words script) finals ++ later) ≡ flat_map (λ cell. line_text (final_words script cell)) finals ++ flat_map line_text later
+finals_text script [] later = refl
+finals_text script (cell ∷ finals) later =
+    ap (λ rest. line_text (final_words script cell) ++ rest) (finals_text script finals later)
+    ∙ sym (append_assoc (line_text (final_words script cell)) (flat_map (λ cell. line_text (final_words script cell)) finals) (flat_map line_text later))
 
 -- the text of a report, by what is written one after another
 pub report_text : (script : Script) (report : Report) → text_of script report ≡ codes "anna report 1\n" ++ (flat_map line_text (sessions_lines script script.sessions report.answers) ++ (codes "final\n" ++ (flat_map (λ cell. line_text (final_words script cell)) report.finals ++ codes "end\n")))

@@ -23,7 +23,8 @@ use session_known::{Answer, Line, Script, Shown};
 #[tactic(auto, using(crate::proofs::WritesLemmas::words))]
 fn write_shown_needs<K: Sink>(out: &mut Out<'_, K>, script: &Script, shown: &Shown)
     requires { IsShown script.now shown.now }
-    ensures { Adds K.written K.faults out.old out.new (spaced (needs_words script.now shown.now.needs)) }
+    ensures { Adds K.written K.faults out.old out.new
+        (spaced (needs_words script.now shown.now.needs)) }
 {
     if let Some(needs) = &shown.needs {
         write_spaced(out, b"needs");
@@ -35,7 +36,8 @@ fn write_shown_needs<K: Sink>(out: &mut Out<'_, K>, script: &Script, shown: &Sho
 /// Writes what a worker showed.
 fn write_shown<K: Sink>(out: &mut Out<'_, K>, script: &Script, worker: u16, shown: &Shown)
     requires { IsShown script.now shown.now }
-    ensures { Adds K.written K.faults out.old out.new (spaced (shown_words script.now worker shown.now)) }
+    ensures { Adds K.written K.faults out.old out.new
+        (spaced (shown_words script.now worker shown.now)) }
 {
     write_spaced_worker(out, worker);
     write_cell(out, script, &shown.clock, shown.top, &shown.value);
@@ -52,7 +54,8 @@ fn write_again<K: Sink>(
     clock: &Clock,
 )
     requires { NamesSessions script.now clock.now }
-    ensures { Adds K.written K.faults out.old out.new (spaced (again_words script.now asks worker clock.now)) }
+    ensures { Adds K.written K.faults out.old out.new
+        (spaced (again_words script.now asks worker clock.now)) }
 {
     write_spaced(out, b"after");
     write_spaced_number(out, asks);
@@ -63,7 +66,8 @@ fn write_again<K: Sink>(
 /// Writes a number and the Lamport number of a put or of a commit.
 #[tactic(auto, using(crate::proofs::WritesLemmas::words))]
 fn write_stamp<K: Sink, N: Integer>(out: &mut Out<'_, K>, number: N, lamport: u64)
-    ensures { Adds K.written K.faults out.old out.new (spaced (N.text number ∷ codes "at" ∷ decimal lamport ∷ [])) }
+    ensures { Adds K.written K.faults out.old out.new
+        (spaced (N.text number ∷ codes "at" ∷ decimal lamport ∷ [])) }
 {
     write_spaced_number(out, number);
     write_spaced(out, b"at");
@@ -75,7 +79,9 @@ fn write_stamp<K: Sink, N: Integer>(out: &mut Out<'_, K>, number: N, lamport: u6
 /// Writes the line of a put that was accepted.
 fn write_put<K: Sink>(out: &mut Out<'_, K>, script: &Script, key: u16, number: u64, lamport: u64)
     requires { IsOneOf (length script.now.config.keys) key }
-    ensures { Adds K.written K.faults out.old out.new (line_text (codes "put" ∷ key_name script.now key ∷ decimal number ∷ codes "at" ∷ decimal lamport ∷ [])) }
+    ensures { Adds K.written K.faults out.old out.new
+        (line_text (codes "put" ∷ key_name script.now key
+        ∷ decimal number ∷ codes "at" ∷ decimal lamport ∷ [])) }
 {
     out.write(b"put");
     write_spaced_key(out, script, key);
@@ -86,7 +92,8 @@ fn write_put<K: Sink>(out: &mut Out<'_, K>, script: &Script, key: u16, number: u
 /// Writes the line of a put that was not accepted yet, or not at all, with the word that says so.
 fn write_other_put<K: Sink>(out: &mut Out<'_, K>, script: &Script, key: u16, word: &[u8])
     requires { IsOneOf (length script.now.config.keys) key }
-    ensures { Adds K.written K.faults out.old out.new (line_text (codes "put" ∷ key_name script.now key ∷ word.now ∷ [])) }
+    ensures { Adds K.written K.faults out.old out.new
+        (line_text (codes "put" ∷ key_name script.now key ∷ word.now ∷ [])) }
 {
     out.write(b"put");
     write_spaced_key(out, script, key);
@@ -100,7 +107,9 @@ fn write_other_put<K: Sink>(out: &mut Out<'_, K>, script: &Script, key: u16, wor
 fn write_got<K: Sink>(out: &mut Out<'_, K>, script: &Script, key: u16, worker: u16, shown: &Shown)
     requires key { IsOneOf (length script.now.config.keys) key }
     requires shown { IsShown script.now shown.now }
-    ensures { Adds K.written K.faults out.old out.new (line_text (codes "get" ∷ key_name script.now key ∷ shown_words script.now worker shown.now)) }
+    ensures { Adds K.written K.faults out.old out.new
+        (line_text (codes "get" ∷ key_name script.now key
+        ∷ shown_words script.now worker shown.now)) }
 {
     out.write(b"get");
     write_spaced_key(out, script, key);
@@ -119,7 +128,9 @@ fn write_get_again<K: Sink>(
 )
     requires key { IsOneOf (length script.now.config.keys) key }
     requires clock { NamesSessions script.now clock.now }
-    ensures { Adds K.written K.faults out.old out.new (line_text (codes "again" ∷ key_name script.now key ∷ again_words script.now asks worker clock.now)) }
+    ensures { Adds K.written K.faults out.old out.new
+        (line_text (codes "again" ∷ key_name script.now key
+        ∷ again_words script.now asks worker clock.now)) }
 {
     out.write(b"again");
     write_spaced_key(out, script, key);
@@ -134,7 +145,8 @@ fn write_get_again<K: Sink>(
 fn write_awaited<K: Sink>(out: &mut Out<'_, K>, script: &Script, key: u16, session: u16, count: u64)
     requires key { IsOneOf (length script.now.config.keys) key }
     requires session { IsOneOf (length script.now.sessions) session }
-    ensures { Adds K.written K.faults out.old out.new (spaced (key_name script.now key ∷ session_name script.now session ∷ decimal count ∷ [])) }
+    ensures { Adds K.written K.faults out.old out.new
+        (spaced (key_name script.now key ∷ session_name script.now session ∷ decimal count ∷ [])) }
 {
     write_spaced_key(out, script, key);
     write_spaced_session(out, script, session);
@@ -151,7 +163,8 @@ fn write_gave_up<K: Sink>(
     clock: &Clock,
 )
     requires { NamesSessions script.now clock.now }
-    ensures { Adds K.written K.faults out.old out.new (spaced (codes "gave" ∷ codes "up" ∷ again_words script.now asks worker clock.now)) }
+    ensures { Adds K.written K.faults out.old out.new
+        (spaced (codes "gave" ∷ codes "up" ∷ again_words script.now asks worker clock.now)) }
 {
     write_spaced(out, b"gave");
     write_spaced(out, b"up");
@@ -162,7 +175,9 @@ fn write_gave_up<K: Sink>(
 
 /// Writes the line of a commit.
 fn write_commit<K: Sink>(out: &mut Out<'_, K>, puts: u32, lamport: u64)
-    ensures { Adds K.written K.faults out.old out.new (line_text (if puts == 0 then (codes "commit" ∷ codes "0" ∷ []) else (codes "commit" ∷ decimal puts ∷ codes "at" ∷ decimal lamport ∷ []))) }
+    ensures { Adds K.written K.faults out.old out.new
+        (line_text (if puts == 0 then (codes "commit" ∷ codes "0" ∷ [])
+        else (codes "commit" ∷ decimal puts ∷ codes "at" ∷ decimal lamport ∷ []))) }
 {
     if puts == 0 {
         out.write(b"commit 0\n");
@@ -175,7 +190,8 @@ fn write_commit<K: Sink>(out: &mut Out<'_, K>, puts: u32, lamport: u64)
 
 /// Writes the line of an abort.
 fn write_abort<K: Sink>(out: &mut Out<'_, K>, puts: u32)
-    ensures { Adds K.written K.faults out.old out.new (line_text (codes "abort" ∷ decimal puts ∷ [])) }
+    ensures { Adds K.written K.faults out.old out.new
+        (line_text (codes "abort" ∷ decimal puts ∷ [])) }
 {
     out.write(b"abort");
     write_spaced_number(out, puts);
@@ -192,7 +208,8 @@ pub(crate) fn write_answer<K: Sink>(
     answer: &Answer,
 )
     requires { MayAnswer script.now line.now answer.now }
-    ensures { Adds K.written K.faults out.old out.new (line_text (answer_words script.now line.now answer.now)) }
+    ensures { Adds K.written K.faults out.old out.new
+        (line_text (answer_words script.now line.now answer.now)) }
 {
     match (line, answer) {
         (Line::Put { key, .. }, Answer::Put { number, lamport }) => {

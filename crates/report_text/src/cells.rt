@@ -57,7 +57,8 @@ pub(crate) fn write_spaced_key<K: Sink>(out: &mut Out<'_, K>, script: &Script, k
 #[tactic(auto, using(crate::proofs::WritesLemmas::words))]
 pub(crate) fn write_spaced_session<K: Sink>(out: &mut Out<'_, K>, script: &Script, session: u16)
     requires { IsOneOf (length script.now.sessions) session }
-    ensures { Adds K.written K.faults out.old out.new (spaced (session_name script.now session ∷ [])) }
+    ensures { Adds K.written K.faults out.old out.new
+        (spaced (session_name script.now session ∷ [])) }
 {
     out.write(b" ");
     write_session(out, script, session);
@@ -97,7 +98,8 @@ fn write_count<K: Sink>(out: &mut Out<'_, K>, script: &Script, session: u16, cou
 /// Writes the counts of a clock between commas.
 fn write_counts<K: Sink>(out: &mut Out<'_, K>, script: &Script, clock: &Clock)
     requires { NamesSessions script.now clock.now }
-    ensures { Adds K.written K.faults out.old out.new (join_with_byte 44 (map (count_text script.now) clock.now)) }
+    ensures { Adds K.written K.faults out.old out.new
+        (join_with_byte 44 (map (count_text script.now) clock.now)) }
 {
     for i in 0..clock.len() {
         let Some((session, count)) = clock.at(i) else {
@@ -139,7 +141,8 @@ fn write_need<K: Sink>(out: &mut Out<'_, K>, script: &Script, key: u16, clock: &
 fn write_each_need<K: Sink>(out: &mut Out<'_, K>, script: &Script, needs: &Needs)
     requires keys { All (λ entry. IsOneOf (length script.now.config.keys) entry.0) needs.now }
     requires clocks { All (λ entry. NamesSessions script.now entry.1) needs.now }
-    ensures { Adds K.written K.faults out.old out.new (join_with_byte 44 (map (need_text script.now) needs.now)) }
+    ensures { Adds K.written K.faults out.old out.new
+        (join_with_byte 44 (map (need_text script.now) needs.now)) }
 {
     for i in 0..needs.len() {
         let Some((key, clock)) = needs.at(i) else {
@@ -181,7 +184,8 @@ fn write_greatest<K: Sink>(out: &mut Out<'_, K>, number: &MaxNum)
 
 /// Writes whether a flag is on.
 fn write_flag<K: Sink>(out: &mut Out<'_, K>, flag: &Flag)
-    ensures { Adds K.written K.faults out.old out.new (if flag.now then codes "on" else codes "none") }
+    ensures { Adds K.written K.faults out.old out.new
+        (if flag.now then codes "on" else codes "none") }
 {
     if flag.0 {
         out.write(b"on")
@@ -229,7 +233,8 @@ fn write_field<K: Sink>(out: &mut Out<'_, K>, field: &Word, number: &MaxNum)
 
 /// Writes the fields of a map between commas.
 fn write_fields<K: Sink>(out: &mut Out<'_, K>, fields: &FieldMax)
-    ensures { Adds K.written K.faults out.old out.new (join_with_byte 44 (map field_text fields.now)) }
+    ensures { Adds K.written K.faults out.old out.new
+        (join_with_byte 44 (map field_text fields.now)) }
 {
     for i in 0..fields.len() {
         let Some((field, number)) = fields.at(i) else {
@@ -272,7 +277,8 @@ fn write_stamped<K: Sink>(out: &mut Out<'_, K>, script: &Script, stamped: &Stamp
 #[tactic(auto, using(crate::proofs::WritesLemmas::parts))]
 fn write_version<K: Sink>(out: &mut Out<'_, K>, script: &Script, clock: &Clock, word: &Word)
     requires { NamesSessions script.now clock.now }
-    ensures { Adds K.written K.faults out.old out.new (version_text script.now (record { clock = clock.now; word = word.now })) }
+    ensures { Adds K.written K.faults out.old out.new
+        (version_text script.now (record { clock = clock.now; word = word.now })) }
 {
     write_word(out, word);
     out.write(b"(");
@@ -283,7 +289,8 @@ fn write_version<K: Sink>(out: &mut Out<'_, K>, script: &Script, clock: &Clock, 
 /// Writes versions between vertical bars.
 fn write_each_version<K: Sink>(out: &mut Out<'_, K>, script: &Script, versions: &Versions)
     requires { All (λ version. NamesSessions script.now version.clock) versions.now }
-    ensures { Adds K.written K.faults out.old out.new (join_with_byte 124 (map (version_text script.now) versions.now)) }
+    ensures { Adds K.written K.faults out.old out.new
+        (join_with_byte 124 (map (version_text script.now) versions.now)) }
 {
     for i in 0..versions.len() {
         let Some((clock, word)) = versions.at(i) else {
@@ -328,7 +335,8 @@ pub(crate) fn write_value<K: Sink>(out: &mut Out<'_, K>, script: &Script, value:
 #[tactic(auto, using(crate::proofs::WritesLemmas::words))]
 pub(crate) fn write_clock_words<K: Sink>(out: &mut Out<'_, K>, script: &Script, clock: &Clock)
     requires { NamesSessions script.now clock.now }
-    ensures { Adds K.written K.faults out.old out.new (spaced (codes "clock" ∷ clock_word script.now clock.now ∷ [])) }
+    ensures { Adds K.written K.faults out.old out.new
+        (spaced (codes "clock" ∷ clock_word script.now clock.now ∷ [])) }
 {
     write_spaced(out, b"clock");
     out.write(b" ");
@@ -339,7 +347,8 @@ pub(crate) fn write_clock_words<K: Sink>(out: &mut Out<'_, K>, script: &Script, 
 #[tactic(auto, using(crate::proofs::WritesLemmas::words))]
 pub(crate) fn write_value_words<K: Sink>(out: &mut Out<'_, K>, script: &Script, value: &Value)
     requires { ValueNamesSessions script.now value.now }
-    ensures { Adds K.written K.faults out.old out.new (spaced (codes "value" ∷ value_word script.now value.now ∷ [])) }
+    ensures { Adds K.written K.faults out.old out.new
+        (spaced (codes "value" ∷ value_word script.now value.now ∷ [])) }
 {
     write_spaced(out, b"value");
     out.write(b" ");
@@ -357,7 +366,8 @@ pub(crate) fn write_cell<K: Sink>(
 )
     requires clock { NamesSessions script.now clock.now }
     requires value { ValueNamesSessions script.now value.now }
-    ensures { Adds K.written K.faults out.old out.new (spaced (cell_words script.now clock.now top value.now [])) }
+    ensures { Adds K.written K.faults out.old out.new
+        (spaced (cell_words script.now clock.now top value.now [])) }
 {
     write_clock_words(out, script, clock);
     write_spaced(out, b"top");

@@ -13,14 +13,17 @@ use crate::cells::{
     write_cell, write_clock_words, write_key, write_name, write_spaced_worker, write_value_words,
 };
 use lattice_laws::Items;
+use report_lines::level_text;
 use script_reader::outside::{Failed, Out, Sink};
 use session_known::{Answer, FinalCell, Level, Line, Report, Script, SessionPlan};
 
 /// Writes the text of a report of the script's form. `Failed` comes only where the sink's count of
 /// faults rose; then a front of the text was written. Takes no memory.
 pub fn write_report<K: Sink>(script: &Script, report: &Report, sink: &mut K) -> Result<(), Failed>
-    requires valid { (table : List (List ℕ)) × IsValidScript script.now table × HasForm script.now table report.now }
-    ensures wrote { Wrote (K.written sink.old) (K.written sink.new) (text_of script.now report.now) result }
+    requires valid { (table : List (List ℕ)) × IsValidScript script.now table
+        × HasForm script.now table report.now }
+    ensures wrote { Wrote (K.written sink.old) (K.written sink.new)
+        (text_of script.now report.now) result }
     ensures cause { HasCause (K.faults sink.old) (K.faults sink.new) result }
 {
     let mut out = Out::new(sink);
@@ -40,7 +43,8 @@ pub fn write_final<K: Sink>(script: &Script, cell: &FinalCell, sink: &mut K) -> 
     requires key { IsOneOf (length script.now.config.keys) cell.now.key }
     requires worker { IsOneOf script.now.config.workers cell.now.worker }
     requires cell { IsFinalIn script.now cell.now }
-    ensures wrote { Wrote (K.written sink.old) (K.written sink.new) (line_text (final_words script.now cell.now)) result }
+    ensures wrote { Wrote (K.written sink.old) (K.written sink.new)
+        (line_text (final_words script.now cell.now)) result }
     ensures cause { HasCause (K.faults sink.old) (K.faults sink.new) result }
 {
     let mut out = Out::new(sink);
@@ -56,7 +60,8 @@ pub fn write_short<K: Sink>(script: &Script, cell: &FinalCell, sink: &mut K) -> 
     requires key { IsOneOf (length script.now.config.keys) cell.now.key }
     requires worker { IsOneOf script.now.config.workers cell.now.worker }
     requires cell { IsFinalIn script.now cell.now }
-    ensures wrote { Wrote (K.written sink.old) (K.written sink.new) (line_text (short_words script.now cell.now)) result }
+    ensures wrote { Wrote (K.written sink.old) (K.written sink.new)
+        (line_text (short_words script.now cell.now)) result }
     ensures cause { HasCause (K.faults sink.old) (K.faults sink.new) result }
 {
     let mut out = Out::new(sink);
@@ -70,16 +75,13 @@ pub fn write_short<K: Sink>(script: &Script, cell: &FinalCell, sink: &mut K) -> 
 fn write_level<K: Sink>(out: &mut Out<'_, K>, level: Level)
     ensures { Adds K.written K.faults out.old out.new (level_word level) }
 {
-    match level {
-        Level::Eventual => out.write(b"eventual"),
-        Level::Committed => out.write(b"committed"),
-        Level::Causal => out.write(b"causal"),
-    }
+    out.write(level_text(level));
 }
 
 /// Writes the line that a session begins with.
 fn write_session_line<K: Sink>(out: &mut Out<'_, K>, plan: &SessionPlan)
-    ensures { Adds K.written K.faults out.old out.new (line_text (codes "session" ∷ plan.now.name ∷ level_word plan.now.level ∷ [])) }
+    ensures { Adds K.written K.faults out.old out.new
+        (line_text (codes "session" ∷ plan.now.name ∷ level_word plan.now.level ∷ [])) }
 {
     out.write(b"session");
     out.write(b" ");
@@ -92,7 +94,8 @@ fn write_session_line<K: Sink>(out: &mut Out<'_, K>, plan: &SessionPlan)
 /// Writes the lines of a session's answers.
 fn write_answers<K: Sink>(out: &mut Out<'_, K>, script: &Script, lines: &[Line], answers: &[Answer])
     requires { AllZip (MayAnswer script.now) lines.now answers.now }
-    ensures { Adds K.written K.faults out.old out.new (flat_map line_text (answers_lines script.now lines.now answers.now)) }
+    ensures { Adds K.written K.faults out.old out.new
+        (flat_map line_text (answers_lines script.now lines.now answers.now)) }
 {
     for (line, answer) in lines.iter().zip(answers) {
         write_answer(out, script, line, answer);
@@ -107,7 +110,8 @@ fn write_session_part<K: Sink>(
     answers: &[Answer],
 )
     requires { AllZip (MayAnswer script.now) plan.now.lines answers.now }
-    ensures { Adds K.written K.faults out.old out.new (session_text script.now plan.now answers.now) }
+    ensures { Adds K.written K.faults out.old out.new
+        (session_text script.now plan.now answers.now) }
 {
     write_session_line(out, plan);
     write_answers(out, script, plan.lines.as_slice(), answers);
@@ -115,8 +119,10 @@ fn write_session_part<K: Sink>(
 
 /// Writes the lines of the sessions.
 fn write_sessions<K: Sink>(out: &mut Out<'_, K>, script: &Script, answers: &[Items<Answer>])
-    requires { AllZip (λ plan answers. AllZip (MayAnswer script.now) plan.lines answers) script.now.sessions answers.now }
-    ensures { Adds K.written K.faults out.old out.new (flat_map line_text (sessions_lines script.now script.now.sessions answers.now)) }
+    requires { AllZip (λ plan answers. AllZip (MayAnswer script.now) plan.lines answers)
+        script.now.sessions answers.now }
+    ensures { Adds K.written K.faults out.old out.new
+        (flat_map line_text (sessions_lines script.now script.now.sessions answers.now)) }
 {
     for (plan, answers) in script.sessions.as_slice().iter().zip(answers) {
         write_session_part(out, script, plan, answers.as_slice());
@@ -129,7 +135,8 @@ fn write_sessions<K: Sink>(out: &mut Out<'_, K>, script: &Script, answers: &[Ite
 fn write_final_line<K: Sink>(out: &mut Out<'_, K>, script: &Script, cell: &FinalCell)
     requires key { IsOneOf (length script.now.config.keys) cell.now.key }
     requires cell { IsFinalIn script.now cell.now }
-    ensures { Adds K.written K.faults out.old out.new (line_text (final_words script.now cell.now)) }
+    ensures { Adds K.written K.faults out.old out.new
+        (line_text (final_words script.now cell.now)) }
 {
     write_key(out, script, cell.key);
     write_spaced_worker(out, cell.worker);
@@ -141,7 +148,8 @@ fn write_final_line<K: Sink>(out: &mut Out<'_, K>, script: &Script, cell: &Final
 fn write_short_line<K: Sink>(out: &mut Out<'_, K>, script: &Script, cell: &FinalCell)
     requires key { IsOneOf (length script.now.config.keys) cell.now.key }
     requires cell { IsFinalIn script.now cell.now }
-    ensures { Adds K.written K.faults out.old out.new (line_text (short_words script.now cell.now)) }
+    ensures { Adds K.written K.faults out.old out.new
+        (line_text (short_words script.now cell.now)) }
 {
     write_key(out, script, cell.key);
     write_clock_words(out, script, &cell.clock);
@@ -153,7 +161,8 @@ fn write_short_line<K: Sink>(out: &mut Out<'_, K>, script: &Script, cell: &Final
 fn write_finals<K: Sink>(out: &mut Out<'_, K>, script: &Script, finals: &[FinalCell])
     requires keys { All (λ cell. IsOneOf (length script.now.config.keys) cell.key) finals.now }
     requires cells { All (IsFinalIn script.now) finals.now }
-    ensures { Adds K.written K.faults out.old out.new (flat_map (λ cell. line_text (final_words script.now cell)) finals.now) }
+    ensures { Adds K.written K.faults out.old out.new
+        (flat_map (λ cell. line_text (final_words script.now cell)) finals.now) }
 {
     for cell in finals {
         write_final_line(out, script, cell);

@@ -25,7 +25,7 @@ pub returns-in-empty : goal.returns-in-empty
 returns-in-empty c =
     let names = tells_names c.args.script.now c.requires.0 c.requires.1 in
     let entry : ℕ × List (ℕ × ℕ) = (c.in-Some-2.key, c.in-Some-2.clock) in
-    let none = sym (append-nil (need_text c.args.script.now entry)) ∙ ap (λ rest. need_text c.args.script.now entry ++ rest) (sym (empty_below c.in-Some.behind.now c.in-empty.len_below)) in
+    let none = sym (append-nil (need_text c.args.script.now entry)) ∙ ap (λ rest. need_text c.args.script.now entry ++ rest) (sym (empty_below c.in-Some.later.now c.in-empty.len_below)) in
     let read = need_read c.args.script.now names c.loop-entry.invariant _ _ entry [] c.in-Some.ensures (rw c.in-Some-2.is at c.in_ok-key.ensures) none (rw c.if-not-branch.false at c.in_ok-push.ensures.pushed) in
     all_read (AreNeedsIn c.args.script.now) read (needs_formed c.args.script.now c.push.new.self c.attest.ensures read.are_items)
 
@@ -33,13 +33,13 @@ pub loop-entry-preserved : goal.loop-entry-preserved
 loop-entry-preserved c =
     let names = tells_names c.args.script.now c.requires.0 c.requires.1 in
     let entry : ℕ × List (ℕ × ℕ) = (c.in-Some-2.key, c.in-Some-2.clock) in
-    let comma = sym (ap (λ rest. need_text c.args.script.now entry ++ rest) (comma_first c.in-Some.behind.now c.in-44.len_at_least (omega arith))) in
+    let comma = sym (ap (λ rest. need_text c.args.script.now entry ++ rest) (comma_first c.in-Some.later.now c.in-44.len_at_least (omega arith))) in
     need_read c.args.script.now names c.loop-entry.invariant _ _ entry _ c.in-Some.ensures (rw c.in-Some-2.is at c.in_ok-key.ensures) comma (rw c.if-not-branch.false at c.in_ok-push.ensures.pushed)
 
-pub returns-in_default-behind : goal.returns-in_default-behind
-returns-in_default-behind c =
+pub returns-in_default-later : goal.returns-in_default-later
+returns-in_default-later c =
     let names = tells_names c.args.script.now c.requires.0 c.requires.1 in
-    no_comma c.args.script.now names c.loop-entry.invariant _ _ c.in-Some.ensures (other_first c.in-Some.behind.now c.in_default-behind.len_at_least (λ comma. omega (arith, comma)))
+    no_comma c.args.script.now names c.loop-entry.invariant _ _ c.in-Some.ensures (other_first c.in-Some.later.now c.in_default-later.len_at_least (λ comma. omega (arith, comma)))
 
 pub returns : goal.returns
 returns c = no_brace c.args.script.now (tells_names c.args.script.now c.requires.0 c.requires.1) c.loop-entry.invariant c.in_default.ensures

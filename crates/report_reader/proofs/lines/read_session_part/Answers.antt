@@ -3,7 +3,7 @@ use Rattle.std.specs.List.{list_any}
 use Rattle.report_lines.proofs.NamesLemmas.{tells_names}
 use Rattle.report_reader.specs.ReadLines.{Exactly, Answered, IsPartFault, session_dues}
 use Rattle.report_lines.specs.Text.{level_word}
-use Rattle.report_reader.proofs.ReadLineLemmas.{fault_first, fault_on, fault_behind, got_line}
+use Rattle.report_reader.proofs.ReadLineLemmas.{fault_first, fault_on, fault_after, got_line}
 use Rattle.report_reader.proofs.ReadPartLemmas.{fault_so, wanted_out, session_lacks}
 use Rattle.report_reader.proofs.lines.read_session_part.Goals as goal
 
@@ -28,4 +28,4 @@ returns-clause-fault c =
     let names = tells_names c.args.script.now c.requires.valid.0 c.requires.valid.1 in
     let got = got_line c.args.script.now names (Exactly words) words c.deref.result.now c.args.lines.now c.read_exactly.new.lines refl (c.deref.ensures.value ∙ c.in_ok-line.ensures.line) c.in_ok-read_exactly.ensures.ok.0 c.in_ok-read_exactly.ensures.ok.1 in
     fault_so c.read_answers.result (IsPartFault c.args.script.now (session_dues plan) c.args.lines.now) _ c.read_answers.ensures.fault
-    (λ fault out. fault_behind c.args.script.now (Exactly words ∷ []) (map (Answered plan.level) plan.lines) (words ∷ []) c.args.lines.now c.read_exactly.new.lines fault got (subst (λ lines. IsPartFault c.args.script.now (map (Answered plan.level) lines) c.read_exactly.new.lines fault) c.as_slice.ensures out))
+    (λ fault out. fault_after c.args.script.now (Exactly words ∷ []) (map (Answered plan.level) plan.lines) (words ∷ []) c.args.lines.now c.read_exactly.new.lines fault got (subst (λ lines. IsPartFault c.args.script.now (map (Answered plan.level) lines) c.read_exactly.new.lines fault) c.as_slice.ensures out))

@@ -8,8 +8,8 @@ returns-clause-bytes c =
     let bytes = c.deref.result.now in
     let at = c.self.inside.at in
     let n = c.move_front-moved.result in
-    let behind : take (length bytes - at) (drop at bytes) ≡ drop at bytes = take_all (length bytes - at) (drop at bytes) (omega (arith, length-drop at bytes)) in
-    let left : take (length bytes - at) (drop at bytes) ≡ c.args.self.now = behind ∙ ap (drop at) c.deref.ensures.value ∙ c.self.view_is in
+    let later : take (length bytes - at) (drop at bytes) ≡ drop at bytes = take_all (length bytes - at) (drop at bytes) (omega (arith, length-drop at bytes)) in
+    let left : take (length bytes - at) (drop at bytes) ≡ c.args.self.now = later ∙ ap (drop at) c.deref.ensures.value ∙ c.self.view_is in
     Takes-front c.self.inside.bytes.items c.args.self.now c.move_front-moved.new.into at n (length c.args.into.now) c.self.view_is
     (c.move_front-moved.ensures.moved ∙ ap (λ xs. min (length c.args.into.now) (length xs)) left)
     c.requires
