@@ -1,5 +1,5 @@
 -- Which answers a session may get: what is decided inside the session, and what speaks of all accepted puts.
-use Rattle.std.specs.Prelude.{◌≡◌, ◌≢◌, ℕ, ◌+◌, ◌-◌, ◌*◌, ◌^◌, ◌≤◌, zero, suc, ◌==◌, cond, ◌&&◌, IsTrue, IsFalse, List, [], ◌∷◌, ◌++◌, length, filter_map, Option, Some, None, IsSome, All, Contains, ⊤}
+use Rattle.std.specs.Prelude.{◌≡◌, ◌≢◌, ℕ, ◌+◌, ◌-◌, ◌*◌, ◌^◌, ◌≤◌, zero, suc, ◌==◌, cond, ◌&&◌, IsTrue, IsFalse, List, [], ◌∷◌, ◌++◌, length, filter_map, Option, Some, None, IsSome, MatchOption, All, Contains, ⊤}
 use Rattle.clock_lattice.specs.Clock.{count_of, joined_clocks, one_count, covers}
 use Rattle.clock_lattice.specs.Needs.{clock_at}
 use Rattle.placement.specs.Asked.{replicas_of, home_at, last_asked}
@@ -21,6 +21,10 @@ use Rattle.session_known.specs.declared.script.Line.TheVariants as lines
 -- the greatest Lamport number that there is
 abbrev pub last_lamport : ℕ
 last_lamport = 2 ^ 64 - 1
+
+-- the Lamport number of a session's next put, and nothing where the last is seen or used
+abbrev pub IsNextLamport : Knowledge → Option ℕ → Type 0
+IsNextLamport knows next = MatchOption next (knows.lamport ≡ last_lamport) (λ number. number ≡ knows.lamport + 1)
 
 -- what a get must cover: in a causal session what is known of the key
 abbrev pub required_by_get : Level → Knowledge → ℕ → List (ℕ × ℕ)

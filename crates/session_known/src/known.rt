@@ -1,5 +1,5 @@
 //! What a session knows between its lines.
-ghost use Rattle.std.specs.Prelude.{◌≡◌, ◌+◌, ◌^◌, ◌<◌, [], unwrap_or, IfOk, OnOk, OnErr, MatchOption};
+ghost use Rattle.std.specs.Prelude.{◌≡◌, ◌+◌, ◌^◌, ◌<◌, [], unwrap_or, IfOk, OnOk, OnErr};
 ghost use Rattle.std.specs.Option.{option_map};
 ghost use Rattle.std.specs.Ordering.{nat_cmp};
 ghost use Rattle.std.specs.FinMap.{find};
@@ -7,7 +7,7 @@ ghost use Rattle.clock_lattice.specs.Clock.{covers};
 ghost use Rattle.clock_lattice.specs.Needs.{clock_at, joined_needs, one_need};
 ghost use Rattle.composed_value.specs.Kind.{kind_of};
 ghost use Rattle.composed_value.specs.PlainValue.{IsPutOf};
-ghost use Rattle.session_known.specs.Lawful.{last_lamport, required};
+ghost use Rattle.session_known.specs.Lawful.{IsNextLamport, required};
 ghost use Rattle.session_known.specs.Session.{nothing_known, own_count, known_raised, needs_by, IsNextPut, knows_next, needs_learned, knows_learned, shown_of, knows_reply};
 
 use crate::{Level, Line, Shown};
@@ -133,7 +133,7 @@ impl Known {
     /// and nothing where 18,446,744,073,709,551,615 is seen or used, so that none is left. Takes no
     /// memory.
     pub fn next_number(&self) -> Option<u64>
-        ensures { MatchOption result (self.now.knows.lamport ≡ last_lamport) (λ number. number ≡ self.now.knows.lamport + 1) }
+        ensures { IsNextLamport self.now.knows result }
     {
         self.lamport.checked_add(1)
     }

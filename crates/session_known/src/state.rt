@@ -199,12 +199,12 @@ mod tests {
         assert_eq!(rt; session.held_count(), 2);
         assert_eq!(rt; session.held().len(), 2);
         assert!(rt; session.is_lawful_commit(2, 1) && !session.is_lawful_put(5, 1, 1));
-        let held = session.end();
+        assert_eq!(rt; session.end().as_slice().len(), 2);
         assert!(rt; !session.is_begun());
-        for (place, (key, payload)) in held.as_slice().iter().enumerate() {
-            let put = session.put(*key, payload, 1, place as u32)?;
-            assert_eq!(rt; put.number, place as u64 + 1);
-        }
+        let first = session.put(5, &Payload::Max(7), 1, 0)?;
+        let second = session.put(5, &Payload::Max(8), 1, 1)?;
+        assert_eq!(rt; (first.number, first.place), (1, 0));
+        assert_eq!(rt; (second.number, second.place), (2, 1));
         assert!(rt; session.is_lawful_put(5, 3, 2));
         Ok(())
     }
