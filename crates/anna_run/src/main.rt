@@ -10,8 +10,8 @@ mod serve;
 mod texts;
 mod words;
 
-use run::exit_of;
 use outside::{ReadSource, WriteSink};
+use run::exit_of;
 use std::env;
 use std::io::ErrorKind;
 use std::process::ExitCode;

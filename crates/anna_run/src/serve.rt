@@ -10,11 +10,11 @@ ghost use Rattle.session_known.specs.declared.script.Line.TheVariants as lines;
 ghost use Rattle.anna_run.specs.Serving.{shown_plainly};
 ghost use Rattle.anna_run.specs.Serving.{CanServe, HasAnswered, IsKept, kinds_of, lines_answered, cells_behind, sessions_answered, cells_at_end, final_of};
 
+use crate::one_map::OneMap;
 use composed_value::{Cell, Payload};
 use lattice_laws::{Items, Lattice, NoMemory};
 use session_known::{Answer, FinalCell, Known, Level, Line, Report, Script, SessionPlan, Shown};
 use std::alloc::Global;
-use crate::one_map::OneMap;
 
 /// A cell, as a session that is not causal is shown it.
 fn shown(cell: &Cell) -> Result<Shown, NoMemory>

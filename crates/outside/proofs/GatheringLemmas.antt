@@ -95,6 +95,3 @@ Adds-cause {written = written} {faults = faults} {sink = sink} {a = a} {b = b} {
 -- One byte was written and then a text.
 pub Adds-byte : {K : Type 0} {written : K → Option (List ℕ)} {faults : K → ℕ} {a b c : Out K} {x : ℕ} {t : List ℕ} → Adds written faults a b (x ∷ []) → Adds written faults b c t → Adds written faults a c (x ∷ t)
 Adds-byte first second = Adds-then first second
-
--- what puts together the texts of calls, one after another
-pub ruleset texts = (Adds-then, Adds-byte, append_assoc)

@@ -25,9 +25,9 @@ fn first_line(text: &[u8]) -> Option<(&[u8], &[u8])>
     ensures { MatchOption result
         (slice_split is_line_feed text.now ≡ text.now ∷ [])
         (λ parts.
-            (slice_split is_line_feed text.now
-                ≡ parts.0.now ∷ slice_split is_line_feed parts.1.now)
-            × (length text.now ≡ length parts.0.now + 1 + length parts.1.now)) }
+        (slice_split is_line_feed text.now
+        ≡ parts.0.now ∷ slice_split is_line_feed parts.1.now)
+        × (length text.now ≡ length parts.0.now + 1 + length parts.1.now)) }
 {
     let end = text.iter().position(|byte| *byte == b'\n')?;
     Some((&text[..end], &text[end + 1..]))

@@ -337,7 +337,9 @@ const REFUSED: [(&str, u32); 14] = [
 #[test]
 fn refuses_each_of_these_lines_by_its_code(rt: HostRuntime) -> Result<(), Fail> {
     for (line, code) in REFUSED {
-        let input = format!(in rt.alloc(); "anna 1\nworkers 1\nkey a max\nsession s eventual\n{line}\nput a 3\nget a\nend\n")?;
+        let input = format!(in rt.alloc();
+            "anna 1\nworkers 1\nkey a max\nsession s eventual\n{line}\nput a 3\nget a\nend\n"
+        )?;
         let (status, text) = run_on(rt.alloc(), input.as_bytes())?;
         let want = refused(rt.alloc(), 5, code)?;
         assert_eq!(rt; status, Status::Refused, "{line:?}");
@@ -527,10 +529,14 @@ fn faults_outside(rt: HostRuntime) -> Result<(), Fail> {
 #[test]
 fn a_long_report_is_written_in_blocks(rt: HostRuntime) -> Result<(), Fail> {
     let words = words_of(rt.alloc(), "run")?;
-    let mut script =
-        String::from_str(rt.alloc(), "anna 1\nworkers 1\nkey a max\nsession s eventual\nput a 5\n")?;
-    let mut report =
-        String::from_str(rt.alloc(), "anna report 1\nsession s eventual\nput a 1 at 1\n")?;
+    let mut script = String::from_str(
+        rt.alloc(),
+        "anna 1\nworkers 1\nkey a max\nsession s eventual\nput a 5\n",
+    )?;
+    let mut report = String::from_str(
+        rt.alloc(),
+        "anna report 1\nsession s eventual\nput a 1 at 1\n",
+    )?;
     for _ in 0..1000 {
         push_line(&mut script, "get a")?;
         push_line(&mut report, "get a @1 clock s:1 top 1 value 5")?;

@@ -8,8 +8,8 @@ use Rattle.session_known.specs.declared.report.Report.{Report}
 use Rattle.session_known.specs.declared.script.Script.{Script}
 use Rattle.report_reader.specs.Reads.{IsReading}
 use Rattle.report_lines.specs.Text.{text_of}
-use Rattle.report_text.specs.declared.read.ReportFault.{ReportFault}
-use Rattle.report_text.specs.declared.read.ReportFault.TheVariants.{Form}
+use Rattle.report_reader.specs.declared.ReportFault.{ReportFault}
+use Rattle.report_reader.specs.declared.ReportFault.TheVariants.{Form}
 use Rattle.anna_run.specs.Outcomes.{TellsOf}
 use Rattle.anna_run.specs.Run.{most_checked, AreChecked}
 use Rattle.anna_run.proofs.CheckLemmas.{verdict_owed, verdict_told}
