@@ -5,7 +5,6 @@ use Rattle.std.proofs.Common.{◌⊎◌}
 use Rattle.composed_value.specs.declared.kind.Kind.{Kind}
 use Rattle.composed_value.specs.declared.put.Put as puts
 use Rattle.session_known.specs.Accepted.{accepted, client_of}
-use Rattle.session_known.specs.Form.{HasForm}
 use Rattle.session_known.specs.Lawful.{IsLawful, AreLawful, IsTrueOf}
 use Rattle.session_known.specs.Legal.{AreLawfulFrom, IsLawfulFinal, IsLegalAt}
 use Rattle.session_known.specs.Script.{IsValidScript}
@@ -90,10 +89,6 @@ IsVerdict table script report (Final key worker) =
     IsLawfulInside table script report × IsTrueOfPuts script report × IsFirstUnlawfulFinal script.kinds (accepted script report) report.finals key worker
 
 -- ---- wherever the keys live
-
--- the report has the form of the script, which is valid where its keys live so
-abbrev pub HasFormSomewhere : Script → Report → Type 0
-HasFormSomewhere script report = (table : List (List ℕ)) × IsValidScript script table × HasForm script table report
 
 -- the verdict is that of the report wherever the script is valid
 abbrev pub IsVerdictWherever : Script → Report → Verdict → Type 0

@@ -40,7 +40,8 @@ impl PutsOn {
 
     fn add(&mut self, put: Put) -> Result<(), NoMemory>
         requires { IsPutOf self.old.kind put }
-        ensures { OnOk result (self.new ≡ record { kind = self.old.kind; puts = self.old.puts ++ put ∷ [] }) }
+        ensures { OnOk result (self.new
+            ≡ record { kind = self.old.kind; puts = self.old.puts ++ put ∷ [] }) }
     {
         self.puts.push(put)
     }

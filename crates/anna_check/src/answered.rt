@@ -26,7 +26,8 @@ fn accept(
     ensures held { session.new.state.held ≡ session.old.state.held }
     ensures knows { OnOk result (session.new.state.knows ≡ knows_one session.old key lamport) }
     ensures kinds { OnOk result (kinds_of accepted.new ≡ kinds_of accepted.old) }
-    ensures puts { HasAdded result accepted.old (one_made session.old key payload.now lamport place) accepted.new }
+    ensures puts { HasAdded result accepted.old
+        (one_made session.old key payload.now lamport place) accepted.new }
 {
     let put = session.put(key, payload, lamport, place)?;
     accepted.add(key, put)
@@ -46,7 +47,8 @@ fn accept_held(
     ensures held { OnOk result (session.new.state.held ≡ session.old.state.held) }
     ensures knows { OnOk result (session.new.state.knows ≡ knows_all session.old lamport held.now) }
     ensures kinds { OnOk result (kinds_of accepted.new ≡ kinds_of accepted.old) }
-    ensures puts { HasAdded result accepted.old (all_made session.old lamport held.now) accepted.new }
+    ensures puts { HasAdded result accepted.old
+        (all_made session.old lamport held.now) accepted.new }
 {
     for (place, (key, payload)) in held.iter().enumerate() {
         accept(accepted, session, *key, payload, lamport, place as u32)?;
@@ -69,7 +71,8 @@ pub(crate) fn take_in(
     ensures client { session.new.client ≡ session.old.client }
     ensures state { OnOk result (session.new.state ≡ state_after session.old line.now answer.now) }
     ensures kinds { OnOk result (kinds_of accepted.new ≡ kinds_of accepted.old) }
-    ensures puts { HasAdded result accepted.old (made_by session.old line.now answer.now) accepted.new }
+    ensures puts { HasAdded result accepted.old
+        (made_by session.old line.now answer.now) accepted.new }
 {
     match (line, answer) {
         (Line::Put { key, payload }, Answer::Put { lamport, .. }) => {

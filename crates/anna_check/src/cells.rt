@@ -50,7 +50,8 @@ fn newly_counted_cell(
     clock: &Clock,
 ) -> Result<Cell, NoMemory>
     requires { All (IsPutOf kind) puts.now }
-    ensures { IfOk result (λ cell. cell ≡ cell_of kind (filter (is_newly_counted before.now clock.now) puts.now)) }
+    ensures { IfOk result (λ cell. cell ≡ cell_of kind
+        (filter (is_newly_counted before.now clock.now) puts.now)) }
 {
     let mut cell = Cell::empty(alloc, kind);
     for put in puts {
@@ -106,7 +107,8 @@ pub(crate) fn is_cell_shown(cell: &Cell, shown: &Shown) -> bool
 
 /// Whether a clock counts no more puts of any session than there are among these.
 pub(crate) fn counts_only(clock: &Clock, puts: &[Put]) -> bool
-    ensures { IsTrue result ↔ ((session : ℕ) → count_of session clock.now ≤ length (puts_of_session session puts.now)) }
+    ensures { IsTrue result ↔ ((session : ℕ)
+        → count_of session clock.now ≤ length (puts_of_session session puts.now)) }
 {
     clock.attest();
     for i in 0..clock.len() {

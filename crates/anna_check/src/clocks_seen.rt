@@ -76,8 +76,12 @@ impl ClocksSeen {
 
 /// The key, the worker and the clock that the line's answer had, if it had one.
 fn clock_had<'a>(line: &Line, answer: &'a Answer) -> Option<(u16, u16, &'a Clock)>
-    ensures had { MatchOption result ((key worker : ℕ) → had_from key worker (line.now, answer.now) ≡ None) (λ had. (key worker : ℕ) → had_from key worker (line.now, answer.now) ≡ cond ((had.0 == key) && (had.1 == worker)) (Some had.2.now) None) }
-    ensures worker { (workers : ℕ) → NamesWorker workers answer.now → IfSome result (λ had. IsOneOf workers had.1) }
+    ensures had { MatchOption result ((key worker : ℕ)
+        → had_from key worker (line.now, answer.now) ≡ None)
+        (λ had. (key worker : ℕ) → had_from key worker (line.now, answer.now)
+        ≡ cond ((had.0 == key) && (had.1 == worker)) (Some had.2.now) None) }
+    ensures worker { (workers : ℕ) → NamesWorker workers answer.now
+        → IfSome result (λ had. IsOneOf workers had.1) }
 {
     match (line, answer) {
         (Line::Get { key, .. } | Line::Await { key, .. }, Answer::Got { worker, shown }) => {

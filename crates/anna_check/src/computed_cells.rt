@@ -77,7 +77,8 @@ impl ComputedCells {
         requires worker { HasCellAt self.old key worker }
         requires puts { All (IsPutOf kind) puts.now }
         requires cell { IsOfItsPuts kind puts.now (cell_at self.old key worker) }
-        ensures ok { OnOk result (self.new ≡ with_counted self.old key worker kind puts.now clock.now) }
+        ensures ok { OnOk result (self.new ≡ with_counted self.old key worker kind puts.now
+            clock.now) }
         ensures err { OnErr result (self.new ≡ self.old) }
     {
         let cell = &mut self.by_key[usize::from(key) - 1][usize::from(worker) - 1];

@@ -31,7 +31,8 @@ pub(crate) fn first_unlawful(
     requires judged { CanBeJudged (kinds_of accepted.old) workers lines.now answers.now }
     ensures lawful { FindsUnlawful placement.now session level lines.now answers.now result }
     ensures kinds { OnOk result (kinds_of accepted.new ≡ kinds_of accepted.old) }
-    ensures puts { HasAddedAll result accepted.old (made_by_all session level lines.now answers.now) accepted.new }
+    ensures puts { HasAddedAll result accepted.old
+        (made_by_all session level lines.now answers.now) accepted.new }
 {
     let mut judged = SessionState::new(alloc, session, level);
     let mut seen = ClocksSeen::new(alloc, workers)?;
@@ -59,7 +60,8 @@ pub(crate) fn find_unlawful(
     requires form { AnswersFit script.now answers.now }
     requires kinds { kinds_of accepted.old ≡ script.now.kinds }
     ensures lawful { FindsUnlawfulFrom placement.now script.now.sessions answers.now result }
-    ensures puts { HasAddedAll result accepted.old (accepted_from 1 script.now.sessions answers.now) accepted.new }
+    ensures puts { HasAddedAll result accepted.old
+        (accepted_from 1 script.now.sessions answers.now) accepted.new }
 {
     let workers = script.config.workers;
     for (i, plan) in script.sessions.as_slice().iter().enumerate() {

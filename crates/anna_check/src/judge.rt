@@ -1,11 +1,11 @@
 //! The judge.
 ghost use Rattle.std.specs.Prelude.{◌≤◌, IfOk, length};
 ghost use Rattle.session_known.specs.Accepted as made;
-ghost use Rattle.session_known.specs.Form.{HasForm};
+ghost use Rattle.session_known.specs.Form.{HasForm, HasFormSomewhere};
 ghost use Rattle.session_known.specs.Script.{IsValidScript};
 ghost use Rattle.anna_check.specs.AgainstPuts.{AreAllNext, CanHoldAllAnswers, CanHoldAllFinals};
 ghost use Rattle.anna_check.specs.ByKey.{AreByKey};
-ghost use Rattle.anna_check.specs.Unlawful.{HasFormSomewhere, IsVerdict, IsVerdictWherever, IsVerdictOfPuts};
+ghost use Rattle.anna_check.specs.Unlawful.{IsVerdict, IsVerdictWherever, IsVerdictOfPuts};
 
 use crate::accepted::Accepted;
 use crate::against_puts::{find_unlawful_final, find_untrue};

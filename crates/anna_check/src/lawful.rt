@@ -22,7 +22,8 @@ fn may_reply(
 ) -> bool
     requires session { 1 ≤ known.now.client.session }
     requires key { IsOneOf (length placement.now) key }
-    ensures { IsTrue result ↔ MayReply known.now.client.level placement.now known.now.client.session key named worker }
+    ensures { IsTrue result ↔ MayReply known.now.client.level placement.now known.now.client.session
+        key named worker }
 {
     match known.level() {
         Level::Causal => placement.replicas(key).contains(&worker),
@@ -71,7 +72,8 @@ fn is_lawful_reply(
     requires session { 1 ≤ known.now.client.session }
     requires key { IsOneOf (length placement.now) key }
     requires worker { IsOneOf (length seen.now) worker }
-    ensures { TellsReply seen.now placement.now known.now line.now key named worker clock.now result }
+    ensures { TellsReply seen.now placement.now known.now line.now key named worker clock.now
+        result }
 {
     let may_reply = may_reply(placement, known, key, named, worker);
     let is_clock = is_clock_from(placement, known, seen, key, worker, clock);
@@ -102,7 +104,8 @@ fn is_lawful_again(
     requires session { 1 ≤ known.now.client.session }
     requires key { IsOneOf (length placement.now) key }
     requires worker { IsOneOf (length seen.now) worker }
-    ensures { TellsAgain seen.now placement.now known.now line.now key asks worker clock.now result }
+    ensures { TellsAgain seen.now placement.now known.now line.now key asks worker clock.now
+        result }
 {
     let is_causal = known.level() == Level::Causal;
     let is_asked = is_asks_of(asks, placement.replicas(key).len());

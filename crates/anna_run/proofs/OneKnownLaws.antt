@@ -46,7 +46,7 @@ found_or_empty sessions None is = no_clock_of sessions
 found_or_empty sessions (Some clock) is = is
 
 -- What a session had seen at its put on a key is a clock of the script's sessions.
-pub seen_is_of : (sessions : ℕ) (knows : Knowledge) (key session number : ℕ) → AreNeedsOf sessions knows.known → IsOneOf sessions session → number < 2 ^ 64 → IsClockOf sessions (known_raised knows key session number)
+pub seen_is_of : (sessions : ℕ) (knows : Knowledge) (key session number : ℕ) → AreNeedsOf sessions knows.clocks → IsOneOf sessions session → number < 2 ^ 64 → IsClockOf sessions (known_raised knows key session number)
 seen_is_of sessions knows key session number are is fits =
-    let known = found_or_empty sessions (find nat_cmp key knows.known) (found_is_value nat_cmp (λ _. ⊤) (IsClockOf sessions) key knows.known are.are_entries) in
-    ((clock_of_laws sessions).closed (clock_at key knows.known) (one_count session number) known (one_count_of sessions session number is fits) tt).0
+    let known = found_or_empty sessions (find nat_cmp key knows.clocks) (found_is_value nat_cmp (λ _. ⊤) (IsClockOf sessions) key knows.clocks are.are_entries) in
+    ((clock_of_laws sessions).closed (clock_at key knows.clocks) (one_count session number) known (one_count_of sessions session number is fits) tt).0

@@ -21,11 +21,12 @@ use Rattle.session_known.specs.declared.script.Level.TheVariants.{Eventual, Caus
 use Rattle.session_known.specs.declared.script.Line.{Line}
 use Rattle.session_known.specs.declared.script.Line.TheVariants as lines
 use Rattle.session_known.specs.declared.script.Script.{Script}
+use Rattle.anna_run.specs.Serving.{eventual}
 use Rattle.anna_run.proofs.OneWorker.{shown_at, answer_of, session_answers}
 use Rattle.anna_run.proofs.OneCellFormLaws.{clock_is_in, value_is_in}
 use Rattle.anna_run.proofs.OneCellLaws.{cell_is, count_is}
 use Rattle.anna_run.proofs.OnePlaceLaws.{only_one, replicas_are_one, home_is_one}
-use Rattle.anna_run.proofs.OneSessionLaws.{eventual, AreMade, IsReached, next_put, next_is_put, put_reaches, get_reaches}
+use Rattle.anna_run.proofs.OneSessionLaws.{AreMade, IsReached, next_put, next_is_put, put_reaches, get_reaches}
 
 -- a valid script with one worker
 pub record HasOneWorker (script : Script) : Type 0 where

@@ -26,15 +26,12 @@ use Rattle.session_known.specs.declared.script.Level.TheVariants.{Eventual}
 use Rattle.session_known.specs.declared.script.Line.{Line}
 use Rattle.session_known.specs.declared.script.Line.TheVariants as lines
 use Rattle.session_known.specs.declared.script.Script.{Script}
+use Rattle.anna_run.specs.Serving.{eventual}
 use Rattle.anna_run.proofs.OneWorker.{cell_at, shown_at}
 use Rattle.anna_run.proofs.OneCellFormLaws.{clock_of_cell, clock_of_is_clock, one_count_of}
 use Rattle.anna_run.proofs.OneCellLaws.{cell_is, covers_before, top_at_most}
 use Rattle.anna_run.proofs.OneKnownLaws.{AreNeedsOf, no_needs_of, needs_with, seen_is_of}
 use Rattle.anna_run.proofs.OnePutsLaws.{IsPutIn, ArePutsIn, none_made, next_put_in}
-
--- an eventual session
-abbrev pub eventual : ℕ → Client
-eventual session = record { session = session; level = Eventual }
 
 -- puts so far: of sessions below a number, at Lamport numbers up to how many there are
 pub record AreMade (script : Script) (next : ℕ) (done : List (ℕ × puts.Put)) : Type 0 where
@@ -48,7 +45,7 @@ pub record IsReached (script : Script) (session : ℕ) (done : List (ℕ × puts
   pub held : state.held ≡ None
   pub own : (key : ℕ) → own_count state.knows key ≡ length (made_on session key done)
   pub lamport : state.knows.lamport ≤ length done
-  pub known : AreNeedsOf (length script.sessions) state.knows.known
+  pub known : AreNeedsOf (length script.sessions) state.knows.clocks
   pub covered : (key : ℕ) → All (λ before. IsTrue (covers (cell_at script.kinds done key).clock before)) (earlier_from key 1 earlier)
 
 -- none so far
@@ -163,7 +160,7 @@ put_reaches script session done state earlier key payload few is_session room is
       held = reached.held;
       own = own_behind_put script session done state earlier key payload reached;
       lamport = omega (arith, reached.lamport, longer);
-      known = needs_with (length script.sessions) key state.knows.known (one_count session (own_count state.knows key + 1)) reached.known (one_count_of (length script.sessions) session (own_count state.knows key + 1) is_session is.of_kind.is_put.number_fits);
+      known = needs_with (length script.sessions) key state.knows.clocks (one_count session (own_count state.knows key + 1)) reached.known (one_count_of (length script.sessions) session (own_count state.knows key + 1) is_session is.of_kind.is_put.number_fits);
       covered = λ q.
           let P : List (ℕ × ℕ) → Type 0 = λ before. IsTrue (covers (cell_at script.kinds (done ++ (key, put) ∷ []) q).clock before) in
           earlier_push P q 1 earlier (lines.Put key payload, answers.Put (own_count state.knows key + 1) (state.knows.lamport + 1))
@@ -183,7 +180,7 @@ get_reaches script session done state earlier key named reached = record {
   held = reached.held;
   own = reached.own;
   lamport = omega (arith, reached.lamport, top_at_most script done key (length done) reached.made.puts reached.made.lamports);
-  known = needs_with (length script.sessions) key state.knows.known (cell_at script.kinds done key).clock reached.known (clock_of_cell script done key reached.made.puts);
+  known = needs_with (length script.sessions) key state.knows.clocks (cell_at script.kinds done key).clock reached.known (clock_of_cell script done key reached.made.puts);
   covered = λ q.
       let P : List (ℕ × ℕ) → Type 0 = λ before. IsTrue (covers (cell_at script.kinds done q).clock before) in
       earlier_push P q 1 earlier (lines.Get key named, answers.Got 1 (shown_at script.kinds done key)) (reached.covered q) (had_as q (key == q) refl);

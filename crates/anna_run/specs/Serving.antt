@@ -14,6 +14,7 @@ use Rattle.session_known.specs.declared.report.Answer.{Answer}
 use Rattle.session_known.specs.declared.report.Answer.TheVariants as answers
 use Rattle.session_known.specs.declared.report.FinalCell.{FinalCell}
 use Rattle.session_known.specs.declared.report.Shown.{Shown}
+use Rattle.session_known.specs.declared.script.Level.TheVariants.{Eventual}
 use Rattle.session_known.specs.declared.script.Line.{Line}
 use Rattle.session_known.specs.declared.script.Line.TheVariants as lines
 use Rattle.session_known.specs.declared.script.SessionPlan.{SessionPlan}
@@ -36,6 +37,10 @@ abbrev pub CanServe : List Kind → Line → Type 0
 CanServe kinds (lines.Put key payload) = IsOneOf (length kinds) key × (kind_of payload ≡ kind_at kinds key)
 CanServe kinds (lines.Get key named) = IsOneOf (length kinds) key
 CanServe kinds line = ⊥
+
+-- an eventual session
+abbrev pub eventual : ℕ → Client
+eventual session = record { session = session; level = Eventual }
 
 -- a session outside a transaction
 abbrev pub outside : Knowledge → State

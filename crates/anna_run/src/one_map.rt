@@ -44,7 +44,8 @@ impl OneMap {
     pub(crate) fn put(&mut self, key: u16, put: &Put) -> Result<(), NoMemory>
         requires some { 1 ≤ key }
         requires known { key ≤ length self.old }
-        requires kind { kind_of_value (cell_for self.old key put.now).value ≡ kind_of put.now.payload }
+        requires kind { kind_of_value (cell_for self.old key put.now).value
+            ≡ kind_of put.now.payload }
         requires number { 0 < put.now.number }
         ensures ok { OnOk result (self.new ≡ cells_with self.old key put.now) }
         ensures err { OnErr result (self.new ≡ self.old) }

@@ -81,10 +81,12 @@ enum Outcome {
 
 /// Reads a script and serves it.
 fn run_script<S: Source>(alloc: Global, src: &mut S) -> Result<Outcome, NoMemory>
-    ensures owed { IfOk result (IsOwed (Some Command.Run) (use_of S.left S.faults src.old src.new)) }
+    ensures owed { IfOk result (IsOwed (Some Command.Run)
+        (use_of S.left S.faults src.old src.new)) }
     ensures bounded { IsBounded (Some Command.Run) (use_of S.left S.faults src.old src.new) }
     ensures count { S.faults src.old ≤ S.faults src.new }
-    ensures complete { (input : List ℕ) (script : Script) → S.left src.old ≡ Some input → IsScript served_forms input script
+    ensures complete { (input : List ℕ) (script : Script) → S.left src.old ≡ Some input
+        → IsScript served_forms input script
         → (Rose (S.faults src.old) (S.faults src.new) → ⊥) → IfOk result IsReport }
 {
     let bytes = match read_all(alloc, src, MOST_BYTES + 1) {
@@ -108,10 +110,12 @@ fn run_script<S: Source>(alloc: Global, src: &mut S) -> Result<Outcome, NoMemory
 
 /// Reads a script and the report behind it, and judges the report.
 fn check_input<S: Source>(alloc: Global, src: &mut S) -> Result<Outcome, NoMemory>
-    ensures owed { IfOk result (IsOwed (Some Command.Check) (use_of S.left S.faults src.old src.new)) }
+    ensures owed { IfOk result (IsOwed (Some Command.Check)
+        (use_of S.left S.faults src.old src.new)) }
     ensures bounded { IsBounded (Some Command.Check) (use_of S.left S.faults src.old src.new) }
     ensures count { S.faults src.old ≤ S.faults src.new }
-    ensures complete { (input : List ℕ) (script : Script) (report : reports.Report) → S.left src.old ≡ Some input → AreChecked input script report
+    ensures complete { (input : List ℕ) (script : Script) (report : reports.Report)
+        → S.left src.old ≡ Some input → AreChecked input script report
         → (Rose (S.faults src.old) (S.faults src.new) → ⊥) → IfOk result (TellsOf script report) }
 {
     let bytes = match read_all(alloc, src, MOST_CHECKED + 1) {
@@ -127,7 +131,8 @@ fn check_input<S: Source>(alloc: Global, src: &mut S) -> Result<Outcome, NoMemor
 /// Judges the report that the bytes say behind their script.
 fn check_bytes(alloc: Global, bytes: &[u8]) -> Result<Outcome, NoMemory>
     ensures owed { IfOk result (IsOwedOf bytes.now) }
-    ensures complete { (script : Script) (report : reports.Report) → AreChecked bytes.now script report → IfOk result (TellsOf script report) }
+    ensures complete { (script : Script) (report : reports.Report)
+        → AreChecked bytes.now script report → IfOk result (TellsOf script report) }
 {
     if bytes.len() > MOST_CHECKED {
         return Ok(Outcome::Line(Status::Refused, refusal(alloc, 0, TOO_LONG)?));
@@ -173,14 +178,17 @@ fn status_of(verdict: Verdict) -> Status
 
 /// What is owed to these words and this source.
 fn outcome_of<S: Source>(alloc: Global, words: &[String], src: &mut S) -> Result<Outcome, NoMemory>
-    ensures owed { IfOk result (IsOwed (command_in words.now) (use_of S.left S.faults src.old src.new)) }
+    ensures owed { IfOk result (IsOwed (command_in words.now)
+        (use_of S.left S.faults src.old src.new)) }
     ensures bounded { IsBounded (command_in words.now) (use_of S.left S.faults src.old src.new) }
-    ensures untouched { command_in words.now ≡ None → IsUntouched (use_of S.left S.faults src.old src.new) }
+    ensures untouched { command_in words.now ≡ None
+        → IsUntouched (use_of S.left S.faults src.old src.new) }
     ensures count { S.faults src.old ≤ S.faults src.new }
     ensures complete { (input : List ℕ) (script : Script) → command_in words.now ≡ Some Command.Run
         → S.left src.old ≡ Some input → IsScript served_forms input script
         → (Rose (S.faults src.old) (S.faults src.new) → ⊥) → IfOk result IsReport }
-    ensures judges { (input : List ℕ) (script : Script) (report : reports.Report) → command_in words.now ≡ Some Command.Check
+    ensures judges { (input : List ℕ) (script : Script) (report : reports.Report)
+        → command_in words.now ≡ Some Command.Check
         → S.left src.old ≡ Some input → AreChecked input script report
         → (Rose (S.faults src.old) (S.faults src.new) → ⊥) → IfOk result (TellsOf script report) }
 {
@@ -206,7 +214,8 @@ pub fn run<S: Source, K: Sink>(alloc: Global, words: &[String], src: &mut S, sin
 
     // No more than one byte more than the input may have is taken, and nothing at words of no accepted form.
     ensures bounded { IsBounded (command_in words.now) (use_of S.left S.faults src.old src.new) }
-    ensures untouched { command_in words.now ≡ None → IsUntouched (use_of S.left S.faults src.old src.new) }
+    ensures untouched { command_in words.now ≡ None
+        → IsUntouched (use_of S.left S.faults src.old src.new) }
 
     // A script is served, unless an end failed or memory ran out.
     ensures complete { IsComplete (command_in words.now) (use_of S.left S.faults src.old src.new)

@@ -7,8 +7,7 @@ ghost use Rattle.session_known.specs.Script.{IsValidScript};
 ghost use Rattle.session_known.specs.Session.{nothing_known};
 ghost use Rattle.session_known.specs.declared.script.Level.TheVariants.{Eventual};
 ghost use Rattle.session_known.specs.declared.script.Line.TheVariants as lines;
-ghost use Rattle.anna_run.specs.Serving.{shown_plainly};
-ghost use Rattle.anna_run.specs.Serving.{CanServe, HasAnswered, IsKept, kinds_of, lines_answered, cells_behind, sessions_answered, cells_at_end, final_of};
+ghost use Rattle.anna_run.specs.Serving.{shown_plainly, eventual, CanServe, HasAnswered, IsKept, kinds_of, lines_answered, cells_behind, sessions_answered, cells_at_end, final_of};
 
 use crate::one_map::OneMap;
 use composed_value::{Cell, Payload};
@@ -37,7 +36,8 @@ fn put(
 ) -> Result<Answer, NoMemory>
     requires line { CanServe (kinds_of cells.old) (lines.Put key payload.now) }
     requires kept { IsKept known.old.knows }
-    ensures { IfOk result (λ answer. HasAnswered cells.old known.old (lines.Put key payload.now) answer cells.new known.new) }
+    ensures { IfOk result (λ answer. HasAnswered cells.old known.old
+        (lines.Put key payload.now) answer cells.new known.new) }
 {
     let Some(lamport) = known.next_number() else {
         return Ok(Answer::Worn);
@@ -56,7 +56,8 @@ fn get(cells: &OneMap, known: &mut Known, key: u16, worker: Option<u16>) -> Resu
     requires line { CanServe (kinds_of cells.now) (lines.Get key worker) }
     requires level { known.old.client.level ≡ Eventual }
     requires kept { IsKept known.old.knows }
-    ensures { IfOk result (λ answer. HasAnswered cells.now known.old (lines.Get key worker) answer cells.now known.new) }
+    ensures { IfOk result (λ answer. HasAnswered cells.now known.old
+        (lines.Get key worker) answer cells.now known.new) }
 {
     let Some(cell) = cells.cell(key) else {
         unreachable!()
@@ -73,7 +74,8 @@ fn answer(cells: &mut OneMap, known: &mut Known, line: &Line) -> Result<Answer, 
     requires line { CanServe (kinds_of cells.old) line.now }
     requires level { known.old.client.level ≡ Eventual }
     requires kept { IsKept known.old.knows }
-    ensures { IfOk result (λ answer. HasAnswered cells.old known.old line.now answer cells.new known.new) }
+    ensures { IfOk result (λ answer. HasAnswered cells.old known.old line.now answer cells.new
+        known.new) }
 {
     match line {
         Line::Put { key, payload } => put(cells, known, *key, payload),
@@ -91,8 +93,10 @@ fn serve_session(
     lines: &[Line],
 ) -> Result<Items<Answer>, NoMemory>
     requires { All (CanServe (kinds_of cells.old)) lines.now }
-    ensures answers { IfOk result (λ answers. answers ≡ lines_answered (record { session = session; level = Eventual }) cells.old nothing_known lines.now) }
-    ensures cells { IfOk result (λ _. cells.new ≡ cells_behind (record { session = session; level = Eventual }) cells.old nothing_known lines.now) }
+    ensures answers { IfOk result (λ answers. answers
+        ≡ lines_answered (eventual session) cells.old nothing_known lines.now) }
+    ensures cells { IfOk result (λ _. cells.new
+        ≡ cells_behind (eventual session) cells.old nothing_known lines.now) }
     ensures kinds { IfOk result (λ _. kinds_of cells.new ≡ kinds_of cells.old) }
 {
     let mut known = Known::new(alloc, session, Level::Eventual);
@@ -112,7 +116,8 @@ fn serve_sessions(
     requires few { length sessions.now ≤ 16 }
     requires levels { All (λ plan. plan.level ≡ Eventual) sessions.now }
     requires lines { All (λ plan. All (CanServe (kinds_of cells.old)) plan.lines) sessions.now }
-    ensures answers { IfOk result (λ answers. answers ≡ sessions_answered 1 cells.old sessions.now) }
+    ensures answers { IfOk result (λ answers. answers
+        ≡ sessions_answered 1 cells.old sessions.now) }
     ensures cells { IfOk result (λ _. cells.new ≡ cells_at_end 1 cells.old sessions.now) }
 {
     let mut answers = Items::new(Vec::new(alloc));

@@ -61,7 +61,8 @@ pub(crate) fn verdict_line(
 
 /// The line with a name between two texts.
 fn named_line(alloc: Global, before: &str, name: &[u8], behind: &str) -> Result<Vec<u8>, NoMemory>
-    ensures { IfOk result (λ line. line.items ≡ before.now ++ (name.now ++ (behind.now ++ 10 ∷ []))) }
+    ensures { IfOk result (λ line. line.items ≡ before.now
+        ++ (name.now ++ (behind.now ++ 10 ∷ []))) }
 {
     let mut line = Vec::from_slice(alloc, before.as_bytes())?;
     line.extend_from_slice(name)?;

@@ -3,7 +3,7 @@ use Rattle.std.proofs.Common.{◌≡◌, ℕ, ◌+◌, ◌≤◌, List, Result, 
 use Rattle.std.proofs.lemmas.List.{append-nil, length-append, take-append-le}
 use Rattle.std.proofs.Math.Seq.{take-append-add}
 use Rattle.outside.proofs.OutsideLemmas.{Grew-more, Grew-none}
-use Rattle.outside.specs.Gathering.{Passes, Adds, Begins, Ends, EndsAs, Wrote}
+use Rattle.outside.specs.Gathering.{Passes, Adds, Begins, HasEnded, EndsAs, Wrote}
 use Rattle.outside.specs.Outside.{Grew, GrewByFront, HasCause, Rose}
 use Rattle.outside.specs.declared.Failed.{Failed}
 use Rattle.outside.specs.declared.out.Out.{Out}
@@ -77,7 +77,7 @@ ended written faults sink now false y text (Err failed) fails passes = absurd (c
 
 -- A text that was begun, written and ended: what the sink has of it in the end.
 pub Adds-wrote : {K : Type 0} {written : K → Option (List ℕ)} {faults : K → ℕ} {sink now : K} {a b c : Out K} {text : List ℕ} (result : Result (Unit {0}) Failed)
-    → c.sink.now ≡ now → Begins sink a → Adds written faults a b text → Adds written faults b c [] → Ends c result → Wrote (written sink) (written now) text result
+    → c.sink.now ≡ now → Begins sink a → Adds written faults a b text → Adds written faults b c [] → HasEnded c result → Wrote (written sink) (written now) text result
 Adds-wrote {written = written} {faults = faults} {sink = sink} {a = a} {b = b} {c = c} {text = text} result same begins first last ends =
     let whole : Adds written faults a c text = Adds-as (append-nil text) (Adds-then first last) in
     let passes = begun written faults sink a.sink.now c.sink.now a.failed c.failed a.held c.held text begins.0 begins.1 begins.2 whole.passes in
@@ -85,7 +85,7 @@ Adds-wrote {written = written} {faults = faults} {sink = sink} {a = a} {b = b} {
 
 -- It failed only where the sink's count of faults rose.
 pub Adds-cause : {K : Type 0} {written : K → Option (List ℕ)} {faults : K → ℕ} {sink now : K} {a b c : Out K} {text : List ℕ} (result : Result (Unit {0}) Failed)
-    → c.sink.now ≡ now → Begins sink a → Adds written faults a b text → Adds written faults b c [] → Ends c result → HasCause (faults sink) (faults now) result
+    → c.sink.now ≡ now → Begins sink a → Adds written faults a b text → Adds written faults b c [] → HasEnded c result → HasCause (faults sink) (faults now) result
 Adds-cause {written = written} {faults = faults} {sink = sink} {a = a} {b = b} {c = c} {text = text} result same begins first last ends =
     let whole : Adds written faults a c (text ++ []) = Adds-then first last in
     let passes = begun written faults sink a.sink.now c.sink.now a.failed c.failed a.held c.held (text ++ []) begins.0 begins.1 begins.2 whole.passes in

@@ -30,8 +30,8 @@ abbrev pub EndsAs : Bool → List ℕ → Result (Unit {0}) Failed → Type 0
 EndsAs failed held (Ok done) = (failed ≡ false) × (held ≡ [])
 EndsAs failed held (Err fault) = failed ≡ true
 
-abbrev pub Ends : {K : Type 0} → Out K → Result (Unit {0}) Failed → Type 0
-Ends out result = EndsAs out.failed out.held result
+abbrev pub HasEnded : {K : Type 0} → Out K → Result (Unit {0}) Failed → Type 0
+HasEnded out result = EndsAs out.failed out.held result
 
 -- The text was written whole, or a front of it where the sink failed.
 abbrev pub Wrote : Option (List ℕ) → Option (List ℕ) → List ℕ → Result (Unit {0}) Failed → Type 0

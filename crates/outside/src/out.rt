@@ -17,7 +17,7 @@ pub struct Out<'a, K> {
 
 impl<'a, K: Sink> Out<'a, K> {
     ghost use Rattle.std.specs.Prelude.{◌≡◌, [], ◌-◌, length, take, min};
-    ghost use Rattle.outside.specs.Gathering.{Adds, Begins, Ends};
+    ghost use Rattle.outside.specs.Gathering.{Adds, Begins, HasEnded};
     ghost use Rattle.outside.specs.Outside.{block_size};
 
     /// Begins a text. Nothing is given to the sink yet.
@@ -46,7 +46,7 @@ impl<'a, K: Sink> Out<'a, K> {
     /// Gives what is left to the sink, and says whether the sink failed at any time.
     pub fn finish(&mut self) -> Result<(), Failed>
         ensures adds { Adds K.written K.faults self.old self.new [] }
-        ensures ends { Ends self.new result }
+        ensures ends { HasEnded self.new result }
     {
         self.flush();
         if self.failed {

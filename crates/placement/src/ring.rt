@@ -38,7 +38,9 @@ pub fn walk(alloc: Global, points: &[Point], hash: u64, factor: u16) -> Result<V
 /// Goes on past these points, and adds each worker that is new until there are `factor`. The clause
 /// says so of any points that were met before.
 fn meet(workers: &mut Vec<u16>, points: &[Point], factor: u16) -> Result<(), NoMemory>
-    ensures { IfOk result (λ _. (before : List Point) → workers.old.items ≡ take factor (workers_met before) → workers.new.items ≡ take factor (workers_met (before ++ points.now))) }
+    ensures { IfOk result (λ _. (before : List Point)
+        → workers.old.items ≡ take factor (workers_met before)
+        → workers.new.items ≡ take factor (workers_met (before ++ points.now))) }
 {
     for point in points {
         if workers.len() >= usize::from(factor) {
@@ -66,7 +68,8 @@ pub(crate) fn points_of_all(alloc: Global, workers: u16) -> Result<Vec<Point>, N
 
 /// Adds the points of one worker.
 fn push_points(alloc: Global, points: &mut Vec<Point>, worker: u16) -> Result<(), NoMemory>
-    ensures { IfOk result (λ _. points.new.items ≡ points.old.items ++ map (point_of worker) (range_with_len 0 16)) }
+    ensures { IfOk result (λ _. points.new.items ≡ points.old.items ++ map (point_of worker)
+        (range_with_len 0 16)) }
 {
     for index in 0..POINTS_EACH {
         points.push(hashed_point(alloc, worker, index)?)?;

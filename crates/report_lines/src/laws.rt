@@ -8,5 +8,7 @@ ghost use Rattle.report_lines.specs.Text.{text_of};
 
 /// A text is that of one report of the script's form at most.
 pub fn texts_tell_reports_apart()
-    ensures { (script : Script) (table : List (List ℕ)) (a b : Report) → IsValidScript script table → HasForm script table a → HasForm script table b → text_of script a ≡ text_of script b → a ≡ b }
+    ensures { (script : Script) (table : List (List ℕ)) (a b : Report) → IsValidScript script table
+        → HasForm script table a → HasForm script table b → text_of script a ≡ text_of script b
+        → a ≡ b }
 {}

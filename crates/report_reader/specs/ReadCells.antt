@@ -12,5 +12,5 @@ pub record IsCellIn (script : Script) (kind : Kind) (cell : Cell) : Type 0 where
   pub value_is : IsValueIn script kind cell.value
 
 -- a cell whose clock, top and value are these words
-abbrev pub cell_of : List ℕ → List ℕ → List ℕ → List (List ℕ)
-cell_of clock top value = codes "clock" ∷ clock ∷ codes "top" ∷ top ∷ codes "value" ∷ value ∷ []
+abbrev pub parts_of_cell : List ℕ → List ℕ → List ℕ → List (List ℕ)
+parts_of_cell clock top value = codes "clock" ∷ clock ∷ codes "top" ∷ top ∷ codes "value" ∷ value ∷ []

@@ -1,15 +1,16 @@
 //! Lines of answers and of final cells, read. A line is read without its line feed.
-ghost use Rattle.std.specs.Prelude.{◌≡◌, ◌↔◌, ◌∷◌, [], ℕ, List, Option, IfOk, IsTrue, MatchOption, codes, decimal, length, map};
+ghost use Rattle.std.specs.Prelude.{◌≡◌, ◌↔◌, ◌∷◌, [], ℕ, List, Option, IfOk, IsTrue, MatchOption, codes, decimal, length};
 ghost use Rattle.std.specs.List.{join_with_byte};
 ghost use Rattle.composed_value.specs.declared.payload.Payload.{Payload};
 ghost use Rattle.session_known.specs.Form.{Fits, NeedsFit};
-ghost use Rattle.session_known.specs.Script.{IsOneOf, IsValidScript, MayStand};
+ghost use Rattle.session_known.specs.Script.{IsOneOf, MayStand, IsValid, IsValidScript};
 ghost use Rattle.session_known.specs.declared.script.Level.{Level};
 ghost use Rattle.session_known.specs.declared.script.Level.TheVariants as levels;
 ghost use Rattle.session_known.specs.declared.script.Line.TheVariants as lines;
 ghost use Rattle.session_known.specs.declared.script.Script.{Script};
 ghost use Rattle.report_reader.specs.ReadAnswers.{IsEndedIn, IsGotIn, IsShownCellIn, again_of, ended_words, got_words, shown_cell_words};
 ghost use Rattle.report_reader.specs.ReadLines.{IsFinalAt};
+ghost use Rattle.script_reader.specs.Words.{texts};
 ghost use Rattle.report_reader.specs.Reads.{Reads};
 ghost use Rattle.report_lines.specs.Text.{key_name, session_name, needs_words, answer_words, final_words, worker_word};
 
@@ -29,8 +30,10 @@ pub(crate) fn read_answer(
     line: &Line,
     text: &[u8],
 ) -> Result<Option<Answer>, NoMemory>
-    requires { (table : List (List ℕ)) × IsValidScript script.now table × MayStand script.now table level line.now }
-    ensures { IfOk result (Reads (Fits script.now level line.now) (λ answer. join_with_byte 32 (answer_words script.now line.now answer)) text.now) }
+    requires { (table : List (List ℕ)) × IsValidScript script.now table
+        × MayStand script.now table level line.now }
+    ensures { IfOk result (Reads (Fits script.now level line.now)
+        (λ answer. join_with_byte 32 (answer_words script.now line.now answer)) text.now) }
 {
     let words = pieces_of(alloc, text, b' ')?;
     read_answer_words(alloc, script, level, line, words.as_slice())
@@ -44,8 +47,10 @@ fn read_answer_words(
     line: &Line,
     words: &[&[u8]],
 ) -> Result<Option<Answer>, NoMemory>
-    requires { (table : List (List ℕ)) × IsValidScript script.now table × MayStand script.now table level line.now }
-    ensures { IfOk result (Reads (Fits script.now level line.now) (answer_words script.now line.now) (map (λ word. word.now) words.now)) }
+    requires { (table : List (List ℕ)) × IsValidScript script.now table
+        × MayStand script.now table level line.now }
+    ensures { IfOk result (Reads (Fits script.now level line.now) (answer_words script.now line.now)
+        (texts words.now)) }
 {
     match line {
         Line::Put { key, .. } => Ok(read_put(script, level, *key, words)),
@@ -66,7 +71,8 @@ fn read_answer_words(
 /// Reads the answer to a put.
 fn read_put(script: &Script, level: Level, key: u16, words: &[&[u8]]) -> Option<Answer>
     requires { IsOneOf (length script.now.config.keys) key }
-    ensures { (payload : Payload) → Reads (Fits script.now level (lines.Put key payload)) (answer_words script.now (lines.Put key payload)) (map (λ word. word.now) words.now) result }
+    ensures { (payload : Payload) → Reads (Fits script.now level (lines.Put key payload))
+        (answer_words script.now (lines.Put key payload)) (texts words.now) result }
 {
     let Some((name, said)) = named(words, b"put") else {
         return None;
@@ -79,7 +85,10 @@ fn read_put(script: &Script, level: Level, key: u16, words: &[&[u8]]) -> Option<
 
 /// Reads what stands after the key in the answer to a put.
 fn read_put_end(level: Level, words: &[&[u8]]) -> Option<Answer>
-    ensures { (script : Script) (key : ℕ) (payload : Payload) → Reads (Fits script level (lines.Put key payload)) (answer_words script (lines.Put key payload)) (codes "put" ∷ key_name script key ∷ map (λ word. word.now) words.now) result }
+    ensures { (script : Script) (key : ℕ) (payload : Payload)
+        → Reads (Fits script level (lines.Put key payload))
+        (answer_words script (lines.Put key payload))
+        (codes "put" ∷ key_name script key ∷ texts words.now) result }
 {
     match words {
         [word] => read_unaccepted(level, word),
@@ -90,7 +99,10 @@ fn read_put_end(level: Level, words: &[&[u8]]) -> Option<Answer>
 
 /// Reads the word that stands in place of the numbers where a put is not accepted yet, or not at all.
 fn read_unaccepted(level: Level, word: &[u8]) -> Option<Answer>
-    ensures { (script : Script) (key : ℕ) (payload : Payload) → Reads (Fits script level (lines.Put key payload)) (answer_words script (lines.Put key payload)) (codes "put" ∷ key_name script key ∷ word.now ∷ []) result }
+    ensures { (script : Script) (key : ℕ) (payload : Payload)
+        → Reads (Fits script level (lines.Put key payload))
+        (answer_words script (lines.Put key payload))
+        (codes "put" ∷ key_name script key ∷ word.now ∷ []) result }
 {
     match (level, word) {
         (Level::Committed, b"held") => Some(Answer::Held),
@@ -101,7 +113,10 @@ fn read_unaccepted(level: Level, word: &[u8]) -> Option<Answer>
 
 /// Reads the numbers of an accepted put.
 fn read_accepted(number: &[u8], lamport: &[u8]) -> Option<Answer>
-    ensures { (script : Script) (level : Level) (key : ℕ) (payload : Payload) → Reads (Fits script level (lines.Put key payload)) (answer_words script (lines.Put key payload)) (codes "put" ∷ key_name script key ∷ number.now ∷ codes "at" ∷ lamport.now ∷ []) result }
+    ensures { (script : Script) (level : Level) (key : ℕ) (payload : Payload)
+        → Reads (Fits script level (lines.Put key payload))
+        (answer_words script (lines.Put key payload))
+        (codes "put" ∷ key_name script key ∷ number.now ∷ codes "at" ∷ lamport.now ∷ []) result }
 {
     let Some(number) = read_number(number) else {
         return None;
@@ -122,9 +137,11 @@ fn read_get(
     key: u16,
     words: &[&[u8]],
 ) -> Result<Option<Answer>, NoMemory>
-    requires valid { (table : List (List ℕ)) × IsValidScript script.now table }
+    requires valid { IsValid script.now }
     requires key { IsOneOf (length script.now.config.keys) key }
-    ensures { IfOk result (λ read. (named : Option ℕ) → Reads (Fits script.now level (lines.Get key named)) (answer_words script.now (lines.Get key named)) (map (λ word. word.now) words.now) read) }
+    ensures { IfOk result (λ read. (named : Option ℕ)
+        → Reads (Fits script.now level (lines.Get key named))
+        (answer_words script.now (lines.Get key named)) (texts words.now) read) }
 {
     let [first, name, said @ ..] = words else {
         return Ok(None);
@@ -144,9 +161,12 @@ fn read_get_end(
     first: &[u8],
     words: &[&[u8]],
 ) -> Result<Option<Answer>, NoMemory>
-    requires valid { (table : List (List ℕ)) × IsValidScript script.now table }
+    requires valid { IsValid script.now }
     requires key { IsOneOf (length script.now.config.keys) key }
-    ensures { IfOk result (λ read. (named : Option ℕ) → Reads (Fits script.now level (lines.Get key named)) (answer_words script.now (lines.Get key named)) (first.now ∷ key_name script.now key ∷ map (λ word. word.now) words.now) read) }
+    ensures { IfOk result (λ read. (named : Option ℕ)
+        → Reads (Fits script.now level (lines.Get key named))
+        (answer_words script.now (lines.Get key named))
+        (first.now ∷ key_name script.now key ∷ texts words.now) read) }
 {
     match first {
         b"get" => read_shown(alloc, script, level, key, words),
@@ -167,10 +187,11 @@ fn read_await(
     count: u64,
     words: &[&[u8]],
 ) -> Result<Option<Answer>, NoMemory>
-    requires valid { (table : List (List ℕ)) × IsValidScript script.now table }
+    requires valid { IsValid script.now }
     requires key { IsOneOf (length script.now.config.keys) key }
     requires session { IsOneOf (length script.now.sessions) session }
-    ensures { IfOk result (Reads (Fits script.now level (lines.Await key session count)) (answer_words script.now (lines.Await key session count)) (map (λ word. word.now) words.now)) }
+    ensures { IfOk result (Reads (Fits script.now level (lines.Await key session count))
+        (answer_words script.now (lines.Await key session count)) (texts words.now)) }
 {
     let Some((name, words)) = named(words, b"await") else {
         return Ok(None);
@@ -198,9 +219,13 @@ fn read_await_end(
     key: u16,
     words: &[&[u8]],
 ) -> Result<Option<Answer>, NoMemory>
-    requires valid { (table : List (List ℕ)) × IsValidScript script.now table }
+    requires valid { IsValid script.now }
     requires key { IsOneOf (length script.now.config.keys) key }
-    ensures { IfOk result (λ read. (session count : ℕ) → Reads (Fits script.now level (lines.Await key session count)) (answer_words script.now (lines.Await key session count)) (codes "await" ∷ key_name script.now key ∷ session_name script.now session ∷ decimal count ∷ map (λ word. word.now) words.now) read) }
+    ensures { IfOk result (λ read. (session count : ℕ)
+        → Reads (Fits script.now level (lines.Await key session count))
+        (answer_words script.now (lines.Await key session count))
+        (codes "await" ∷ key_name script.now key ∷ session_name script.now session ∷ decimal count
+        ∷ texts words.now) read) }
 {
     let Some((up, ended)) = named(words, b"gave") else {
         return read_shown(alloc, script, level, key, words);
@@ -231,7 +256,9 @@ fn is_number(number: u64, word: &[u8]) -> bool
 
 /// Reads the answer to the begin of a transaction.
 fn read_begin(words: &[&[u8]]) -> Option<Answer>
-    ensures { (script : Script) (level : Level) → Reads (Fits script level lines.Begin) (answer_words script lines.Begin) (map (λ word. word.now) words.now) result }
+    ensures { (script : Script) (level : Level)
+        → Reads (Fits script level lines.Begin) (answer_words script lines.Begin)
+        (texts words.now) result }
 {
     match words {
         [word] if *word == b"begin".as_slice() => Some(Answer::Begun),
@@ -241,7 +268,9 @@ fn read_begin(words: &[&[u8]]) -> Option<Answer>
 
 /// Reads the answer to a commit.
 fn read_commit(words: &[&[u8]]) -> Option<Answer>
-    ensures { (script : Script) (level : Level) → Reads (Fits script level lines.Commit) (answer_words script lines.Commit) (map (λ word. word.now) words.now) result }
+    ensures { (script : Script) (level : Level)
+        → Reads (Fits script level lines.Commit) (answer_words script lines.Commit)
+        (texts words.now) result }
 {
     let Some((word, words)) = named(words, b"commit") else {
         return None;
@@ -255,7 +284,9 @@ fn read_commit(words: &[&[u8]]) -> Option<Answer>
 
 /// Reads the word after a commit that has no Lamport number.
 fn read_unnumbered(word: &[u8]) -> Option<Answer>
-    ensures { (script : Script) (level : Level) → Reads (Fits script level lines.Commit) (answer_words script lines.Commit) (codes "commit" ∷ word.now ∷ []) result }
+    ensures { (script : Script) (level : Level)
+        → Reads (Fits script level lines.Commit) (answer_words script lines.Commit)
+        (codes "commit" ∷ word.now ∷ []) result }
 {
     match word {
         b"0" => Some(Answer::Committed {
@@ -269,7 +300,9 @@ fn read_unnumbered(word: &[u8]) -> Option<Answer>
 
 /// Reads the numbers of a commit of some puts.
 fn read_committed(puts: &[u8], lamport: &[u8]) -> Option<Answer>
-    ensures { (script : Script) (level : Level) → Reads (Fits script level lines.Commit) (answer_words script lines.Commit) (codes "commit" ∷ puts.now ∷ codes "at" ∷ lamport.now ∷ []) result }
+    ensures { (script : Script) (level : Level)
+        → Reads (Fits script level lines.Commit) (answer_words script lines.Commit)
+        (codes "commit" ∷ puts.now ∷ codes "at" ∷ lamport.now ∷ []) result }
 {
     let Some(puts) = read_small_number(puts) else {
         return None;
@@ -285,7 +318,9 @@ fn read_committed(puts: &[u8], lamport: &[u8]) -> Option<Answer>
 
 /// Reads the answer to an abort.
 fn read_abort(words: &[&[u8]]) -> Option<Answer>
-    ensures { (script : Script) (level : Level) → Reads (Fits script level lines.Abort) (answer_words script lines.Abort) (map (λ word. word.now) words.now) result }
+    ensures { (script : Script) (level : Level)
+        → Reads (Fits script level lines.Abort) (answer_words script lines.Abort)
+        (texts words.now) result }
 {
     let Some((puts, [])) = named(words, b"abort") else {
         return None;
@@ -306,9 +341,10 @@ fn read_shown(
     key: u16,
     words: &[&[u8]],
 ) -> Result<Option<Answer>, NoMemory>
-    requires valid { (table : List (List ℕ)) × IsValidScript script.now table }
+    requires valid { IsValid script.now }
     requires key { IsOneOf (length script.now.config.keys) key }
-    ensures { IfOk result (Reads (IsGotIn script.now level key) (got_words script.now) (map (λ word. word.now) words.now)) }
+    ensures { IfOk result (Reads (IsGotIn script.now level key) (got_words script.now)
+        (texts words.now)) }
 {
     let [worker, said @ ..] = words else {
         return Ok(None);
@@ -330,9 +366,10 @@ fn read_shown_cell(
     key: u16,
     words: &[&[u8]],
 ) -> Result<Option<Shown>, NoMemory>
-    requires valid { (table : List (List ℕ)) × IsValidScript script.now table }
+    requires valid { IsValid script.now }
     requires key { IsOneOf (length script.now.config.keys) key }
-    ensures { IfOk result (Reads (IsShownCellIn script.now level key) (shown_cell_words script.now) (map (λ word. word.now) words.now)) }
+    ensures { IfOk result (Reads (IsShownCellIn script.now level key) (shown_cell_words script.now)
+        (texts words.now)) }
 {
     let Some((cell, later)) = words.split_at_checked(6) else {
         return Ok(None);
@@ -358,8 +395,9 @@ fn read_shown_needs(
     level: Level,
     words: &[&[u8]],
 ) -> Result<Option<Option<Needs>>, NoMemory>
-    requires { (table : List (List ℕ)) × IsValidScript script.now table }
-    ensures { IfOk result (Reads (NeedsFit script.now level) (needs_words script.now) (map (λ word. word.now) words.now)) }
+    requires { IsValid script.now }
+    ensures { IfOk result (Reads (NeedsFit script.now level) (needs_words script.now)
+        (texts words.now)) }
 {
     match (level, words) {
         (Level::Causal, words) => read_causal_needs(alloc, script, words),
@@ -374,8 +412,9 @@ fn read_causal_needs(
     script: &Script,
     words: &[&[u8]],
 ) -> Result<Option<Option<Needs>>, NoMemory>
-    requires { (table : List (List ℕ)) × IsValidScript script.now table }
-    ensures { IfOk result (Reads (NeedsFit script.now levels.Causal) (needs_words script.now) (map (λ word. word.now) words.now)) }
+    requires { IsValid script.now }
+    ensures { IfOk result (Reads (NeedsFit script.now levels.Causal) (needs_words script.now)
+        (texts words.now)) }
 {
     let Some((needs, [])) = named(words, b"needs") else {
         return Ok(None);
@@ -388,7 +427,9 @@ fn read_causal_needs(
 
 /// The number of asks, the worker and the clock in the words of an end of asking.
 fn again_parts<'a>(words: &[&'a [u8]]) -> Option<(&'a [u8], &'a [u8], &'a [u8])>
-    ensures { MatchOption result ((asks worker clock : List ℕ) → map (λ word. word.now) words.now ≡ again_of asks worker clock → ⊥) (λ parts. map (λ word. word.now) words.now ≡ again_of parts.0.now parts.1.now parts.2.now) }
+    ensures { MatchOption result ((asks worker clock : List ℕ)
+        → texts words.now ≡ again_of asks worker clock → ⊥)
+        (λ parts. texts words.now ≡ again_of parts.0.now parts.1.now parts.2.now) }
 {
     let Some((asks, words)) = named(words, b"after") else {
         return None;
@@ -406,8 +447,9 @@ fn read_again(
     level: Level,
     words: &[&[u8]],
 ) -> Result<Option<Answer>, NoMemory>
-    requires { (table : List (List ℕ)) × IsValidScript script.now table }
-    ensures { IfOk result (Reads (IsEndedIn script.now level) (ended_words script.now) (map (λ word. word.now) words.now)) }
+    requires { IsValid script.now }
+    ensures { IfOk result (Reads (IsEndedIn script.now level) (ended_words script.now)
+        (texts words.now)) }
 {
     let Some((asks, worker, clock)) = again_parts(words) else {
         return Ok(None);
@@ -441,10 +483,11 @@ pub(crate) fn read_final(
     worker: u16,
     text: &[u8],
 ) -> Result<Option<FinalCell>, NoMemory>
-    requires valid { (table : List (List ℕ)) × IsValidScript script.now table }
+    requires valid { IsValid script.now }
     requires key { IsOneOf (length script.now.config.keys) key }
     requires worker { IsOneOf script.now.config.workers worker }
-    ensures { IfOk result (Reads (IsFinalAt script.now key worker) (λ cell. join_with_byte 32 (final_words script.now cell)) text.now) }
+    ensures { IfOk result (Reads (IsFinalAt script.now key worker)
+        (λ cell. join_with_byte 32 (final_words script.now cell)) text.now) }
 {
     let words = pieces_of(alloc, text, b' ')?;
     read_final_words(alloc, script, key, worker, words.as_slice())
@@ -458,10 +501,11 @@ fn read_final_words(
     worker: u16,
     words: &[&[u8]],
 ) -> Result<Option<FinalCell>, NoMemory>
-    requires valid { (table : List (List ℕ)) × IsValidScript script.now table }
+    requires valid { IsValid script.now }
     requires key { IsOneOf (length script.now.config.keys) key }
     requires worker { IsOneOf script.now.config.workers worker }
-    ensures { IfOk result (Reads (IsFinalAt script.now key worker) (final_words script.now) (map (λ word. word.now) words.now)) }
+    ensures { IfOk result (Reads (IsFinalAt script.now key worker) (final_words script.now)
+        (texts words.now)) }
 {
     let [name, place, cell @ ..] = words else {
         return Ok(None);
@@ -486,7 +530,7 @@ fn read_final_words(
 
 /// Whether a word says a worker.
 fn is_worker(script: &Script, worker: u16, word: &[u8]) -> bool
-    requires valid { (table : List (List ℕ)) × IsValidScript script.now table }
+    requires valid { IsValid script.now }
     requires worker { IsOneOf script.now.config.workers worker }
     ensures { IsTrue result ↔ (word.now ≡ worker_word worker) }
 {

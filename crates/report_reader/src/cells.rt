@@ -1,7 +1,8 @@
 //! Cells, read: what answers and final cells share.
-ghost use Rattle.std.specs.Prelude.{◌≡◌, ◌↔◌, ◌∷◌, [], List, ℕ, IfOk, IsTrue, MatchOption, length, map};
-ghost use Rattle.session_known.specs.Script.{IsOneOf, IsValidScript, kind_at};
-ghost use Rattle.report_reader.specs.ReadCells.{IsCellIn, cell_of};
+ghost use Rattle.std.specs.Prelude.{◌≡◌, ◌↔◌, ◌∷◌, [], List, ℕ, IfOk, IsTrue, MatchOption, length};
+ghost use Rattle.session_known.specs.Script.{IsOneOf, kind_at, IsValid};
+ghost use Rattle.report_reader.specs.ReadCells.{IsCellIn, parts_of_cell};
+ghost use Rattle.script_reader.specs.Words.{texts};
 ghost use Rattle.report_reader.specs.Reads.{Reads};
 ghost use Rattle.report_lines.specs.Text.{cell_words, key_name};
 
@@ -27,7 +28,9 @@ pub(crate) fn named<'w, 'a>(
     words: &'w [&'a [u8]],
     name: &[u8],
 ) -> Option<(&'a [u8], &'w [&'a [u8]])>
-    ensures { MatchOption result ((word : List ℕ) (rest : List (List ℕ)) → map (λ word. word.now) words.now ≡ name.now ∷ word ∷ rest → ⊥) (λ found. map (λ word. word.now) words.now ≡ name.now ∷ found.0.now ∷ map (λ word. word.now) found.1.now) }
+    ensures { MatchOption result ((word : List ℕ) (rest : List (List ℕ))
+        → texts words.now ≡ name.now ∷ word ∷ rest → ⊥)
+        (λ found. texts words.now ≡ name.now ∷ found.0.now ∷ texts found.1.now) }
 {
     let [first, word, rest @ ..] = words else {
         return None;
@@ -49,7 +52,7 @@ pub(crate) fn is_key(script: &Script, key: u16, word: &[u8]) -> bool
 
 /// The kind of a key.
 fn kind_of_key(script: &Script, key: u16) -> Kind
-    requires valid { (table : List (List ℕ)) × IsValidScript script.now table }
+    requires valid { IsValid script.now }
     requires key { IsOneOf (length script.now.config.keys) key }
     ensures { result ≡ kind_at script.now.kinds key }
 {
@@ -58,7 +61,9 @@ fn kind_of_key(script: &Script, key: u16) -> Kind
 
 /// The clock, the top and the value in the words of a cell.
 fn cell_parts<'a>(words: &[&'a [u8]]) -> Option<(&'a [u8], &'a [u8], &'a [u8])>
-    ensures { MatchOption result ((clock top value : List ℕ) → map (λ word. word.now) words.now ≡ cell_of clock top value → ⊥) (λ parts. map (λ word. word.now) words.now ≡ cell_of parts.0.now parts.1.now parts.2.now) }
+    ensures { MatchOption result ((clock top value : List ℕ)
+        → texts words.now ≡ parts_of_cell clock top value → ⊥)
+        (λ parts. texts words.now ≡ parts_of_cell parts.0.now parts.1.now parts.2.now) }
 {
     let Some((clock, words)) = named(words, b"clock") else {
         return None;
@@ -82,9 +87,10 @@ pub(crate) fn read_cell(
     key: u16,
     words: &[&[u8]],
 ) -> Result<Option<Cell>, NoMemory>
-    requires valid { (table : List (List ℕ)) × IsValidScript script.now table }
+    requires valid { IsValid script.now }
     requires key { IsOneOf (length script.now.config.keys) key }
-    ensures { IfOk result (Reads (IsCellIn script.now (kind_at script.now.kinds key)) (λ cell. cell_words script.now cell.clock cell.top cell.value []) (map (λ word. word.now) words.now)) }
+    ensures { IfOk result (Reads (IsCellIn script.now (kind_at script.now.kinds key))
+        (λ cell. cell_words script.now cell.clock cell.top cell.value []) (texts words.now)) }
 {
     let Some((clock, top, value)) = cell_parts(words) else {
         return Ok(None);

@@ -2,7 +2,7 @@
 ghost use Rattle.std.specs.Prelude.{IfOk, List, ℕ, map};
 ghost use Rattle.std.specs.List.{join_with_byte};
 ghost use Rattle.session_known.specs.Form.{IsClockIn, AreNeedsIn};
-ghost use Rattle.session_known.specs.Script.{IsValidScript};
+ghost use Rattle.session_known.specs.Script.{IsValid};
 ghost use Rattle.report_lines.specs.Parts.{IsCounted};
 ghost use Rattle.report_reader.specs.ReadNeeds.{IsNeedIn, open_text};
 ghost use Rattle.report_reader.specs.ReadRows.{IsRow};
@@ -23,7 +23,7 @@ pub(crate) fn read_clock(
     script: &Script,
     text: &[u8],
 ) -> Result<Option<Clock>, NoMemory>
-    requires { (table : List (List ℕ)) × IsValidScript script.now table }
+    requires { IsValid script.now }
     ensures { IfOk result (Reads (IsClockIn script.now) (clock_word script.now) text.now) }
 {
     if text == b"-".as_slice() {
@@ -34,8 +34,9 @@ pub(crate) fn read_clock(
 
 /// Reads the entries of a clock, of which there are some, between commas.
 fn read_counts(alloc: Global, script: &Script, text: &[u8]) -> Result<Option<Clock>, NoMemory>
-    requires { (table : List (List ℕ)) × IsValidScript script.now table }
-    ensures { IfOk result (Reads (IsRow (IsClockIn script.now)) (λ clock. join_with_byte 44 (map (count_text script.now) clock)) text.now) }
+    requires { IsValid script.now }
+    ensures { IfOk result (Reads (IsRow (IsClockIn script.now))
+        (λ clock. join_with_byte 44 (map (count_text script.now) clock)) text.now) }
 {
     let pieces = pieces_of(alloc, text, b',')?;
     let mut clock = Clock::new(alloc);
@@ -53,7 +54,7 @@ fn read_counts(alloc: Global, script: &Script, text: &[u8]) -> Result<Option<Clo
 
 /// Reads a session with a count.
 fn read_count(script: &Script, text: &[u8]) -> Option<(u16, u64)>
-    requires { (table : List (List ℕ)) × IsValidScript script.now table }
+    requires { IsValid script.now }
     ensures { Reads (IsCounted script.now) (count_text script.now) text.now result }
 {
     let Some((name, digits)) = cut_at(text, b':') else {
@@ -76,7 +77,7 @@ pub(crate) fn read_needs(
     script: &Script,
     text: &[u8],
 ) -> Result<Option<Needs>, NoMemory>
-    requires { (table : List (List ℕ)) × IsValidScript script.now table }
+    requires { IsValid script.now }
     ensures { IfOk result (Reads (AreNeedsIn script.now) (needs_word script.now) text.now) }
 {
     if text == b"-".as_slice() {
@@ -87,8 +88,9 @@ pub(crate) fn read_needs(
 
 /// Reads the entries of needs, of which there are some, between commas: each ends with its brace.
 fn read_each_need(alloc: Global, script: &Script, text: &[u8]) -> Result<Option<Needs>, NoMemory>
-    requires { (table : List (List ℕ)) × IsValidScript script.now table }
-    ensures { IfOk result (Reads (IsRow (AreNeedsIn script.now)) (λ needs. join_with_byte 44 (map (need_text script.now) needs)) text.now) }
+    requires { IsValid script.now }
+    ensures { IfOk result (Reads (IsRow (AreNeedsIn script.now))
+        (λ needs. join_with_byte 44 (map (need_text script.now) needs)) text.now) }
 {
     let mut needs = Needs::new(alloc);
     let mut rest = text;
@@ -113,7 +115,7 @@ fn read_each_need(alloc: Global, script: &Script, text: &[u8]) -> Result<Option<
 
 /// Reads a key with a clock, without the closing brace.
 fn read_open(alloc: Global, script: &Script, text: &[u8]) -> Result<Option<(u16, Clock)>, NoMemory>
-    requires { (table : List (List ℕ)) × IsValidScript script.now table }
+    requires { IsValid script.now }
     ensures { IfOk result (Reads (IsNeedIn script.now) (open_text script.now) text.now) }
 {
     let Some((name, word)) = cut_at(text, b'{') else {

@@ -7,7 +7,7 @@
 
 ghost use Rattle.std.specs.Prelude.{◌≡◌, List, ℕ};
 ghost use Rattle.session_known.specs.Form.{HasForm};
-ghost use Rattle.session_known.specs.Script.{IsValidScript};
+ghost use Rattle.session_known.specs.Script.{IsValid, IsValidScript};
 ghost use Rattle.session_known.specs.declared.report.Report.{Report};
 ghost use Rattle.report_reader.specs.Reads.{IsReading, IsReadAs};
 ghost use Rattle.report_lines.specs.Text.{text_of};
@@ -51,11 +51,14 @@ impl From<NoMemory> for ReportFault {
 /// Form is exactly what is the text of no such report. Takes time linear in the bytes up to a
 /// logarithm, where the versions of a value are few: each is compared with each.
 pub fn read_report(alloc: Global, script: &Script, bytes: &[u8]) -> Result<Report, ReportFault>
-    requires valid { (table : List (List ℕ)) × IsValidScript script.now table }
-    ensures reading { (table : List (List ℕ)) → IsValidScript script.now table → IsReading script.now table bytes.now result }
+    requires valid { IsValid script.now }
+    ensures reading { (table : List (List ℕ)) → IsValidScript script.now table
+        → IsReading script.now table bytes.now result }
 
     // What was written is read as the report that was written.
-    ensures accepts { (table : List (List ℕ)) (report : Report) → IsValidScript script.now table → HasForm script.now table report → bytes.now ≡ text_of script.now report → IsReadAs report result }
+    ensures accepts { (table : List (List ℕ)) (report : Report) → IsValidScript script.now table
+        → HasForm script.now table report → bytes.now ≡ text_of script.now report
+        → IsReadAs report result }
 {
     let placement = Placement::build(alloc, &script.config)?;
     read_text(alloc, script, &placement, bytes)

@@ -5,7 +5,7 @@ ghost use Rattle.basic_lattices.specs.TextSet.{IsTextSet};
 ghost use Rattle.basic_lattices.specs.Word.{IsWord};
 ghost use Rattle.composed_value.specs.Value.{IsFields, IsBottomOr};
 ghost use Rattle.session_known.specs.Form.{IsValueIn};
-ghost use Rattle.session_known.specs.Script.{IsValidScript};
+ghost use Rattle.session_known.specs.Script.{IsValid};
 ghost use Rattle.report_reader.specs.ReadRows.{IsRow};
 ghost use Rattle.report_reader.specs.ReadValues.{greatest_word, flag_word, IsField, IsStampIn, stamp_text, IsStampedIn, last_word, IsVersionIn, AreVersionsIn};
 ghost use Rattle.report_reader.specs.Reads.{Reads};
@@ -27,7 +27,7 @@ pub(crate) fn read_value(
     kind: Kind,
     text: &[u8],
 ) -> Result<Option<Value>, NoMemory>
-    requires { (table : List (List ℕ)) × IsValidScript script.now table }
+    requires { IsValid script.now }
     ensures { IfOk result (Reads (IsValueIn script.now kind) (value_word script.now) text.now) }
 {
     match kind {
@@ -58,7 +58,8 @@ fn read_word(text: &[u8]) -> Option<Word>
 
 /// What stands between the braces around it.
 fn in_braces(text: &[u8]) -> Option<&[u8]>
-    ensures { MatchOption result ((inner : List ℕ) → text.now ≡ codes "{" ++ (inner ++ codes "}") → ⊥) (λ inner. text.now ≡ codes "{" ++ (inner.now ++ codes "}")) }
+    ensures { MatchOption result ((inner : List ℕ) → text.now ≡ codes "{" ++ (inner ++ codes "}")
+        → ⊥) (λ inner. text.now ≡ codes "{" ++ (inner.now ++ codes "}")) }
 {
     let [b'{', inner @ .., b'}'] = text else {
         return None;
@@ -68,7 +69,8 @@ fn in_braces(text: &[u8]) -> Option<&[u8]>
 
 /// What stands before the parenthesis at the end.
 fn before_parenthesis(text: &[u8]) -> Option<&[u8]>
-    ensures { MatchOption result ((inner : List ℕ) → text.now ≡ inner ++ codes ")" → ⊥) (λ inner. text.now ≡ inner.now ++ codes ")") }
+    ensures { MatchOption result ((inner : List ℕ) → text.now ≡ inner ++ codes ")" → ⊥)
+        (λ inner. text.now ≡ inner.now ++ codes ")") }
 {
     let [inner @ .., b')'] = text else {
         return None;
@@ -149,7 +151,8 @@ fn read_map(alloc: Global, text: &[u8]) -> Result<Option<FieldMax>, NoMemory>
 
 /// Reads the fields of a map, of which there are some, between commas.
 fn read_fields(alloc: Global, text: &[u8]) -> Result<Option<FieldMax>, NoMemory>
-    ensures { IfOk result (Reads (IsRow IsFields) (λ fields. join_with_byte 44 (map field_text fields)) text.now) }
+    ensures { IfOk result (Reads (IsRow IsFields)
+        (λ fields. join_with_byte 44 (map field_text fields)) text.now) }
 {
     let pieces = pieces_of(alloc, text, b',')?;
     let mut fields = MapOf::new(alloc);
@@ -189,8 +192,9 @@ fn read_last(
     script: &Script,
     text: &[u8],
 ) -> Result<Option<Maybe<Stamped>>, NoMemory>
-    requires { (table : List (List ℕ)) × IsValidScript script.now table }
-    ensures { IfOk result (Reads (IsBottomOr (IsStampedIn script.now)) (last_word script.now) text.now) }
+    requires { IsValid script.now }
+    ensures { IfOk result (Reads (IsBottomOr (IsStampedIn script.now))
+        (last_word script.now) text.now) }
 {
     if is_none(text) {
         return Ok(Some(Maybe::Bottom));
@@ -200,7 +204,7 @@ fn read_last(
 
 /// Reads a stamped word, `WORD/NUMBER/SESSION/PLACE`.
 fn read_stamped(alloc: Global, script: &Script, text: &[u8]) -> Result<Option<Stamped>, NoMemory>
-    requires { (table : List (List ℕ)) × IsValidScript script.now table }
+    requires { IsValid script.now }
     ensures { IfOk result (Reads (IsStampedIn script.now) (stamped_text script.now) text.now) }
 {
     let Some((word, stamp)) = cut_at(text, b'/') else {
@@ -222,7 +226,7 @@ fn read_stamped(alloc: Global, script: &Script, text: &[u8]) -> Result<Option<St
 
 /// Reads a stamp, `NUMBER/SESSION/PLACE`.
 fn read_stamp(script: &Script, text: &[u8]) -> Option<(u64, u16, u32)>
-    requires { (table : List (List ℕ)) × IsValidScript script.now table }
+    requires { IsValid script.now }
     ensures { Reads (IsStampIn script.now) (stamp_text script.now) text.now result }
 {
     let (number, later) = cut_at(text, b'/')?;
@@ -237,7 +241,7 @@ fn read_stamp(script: &Script, text: &[u8]) -> Option<(u64, u16, u32)>
 
 /// Reads the versions of a register.
 fn read_versions(alloc: Global, script: &Script, text: &[u8]) -> Result<Option<Versions>, NoMemory>
-    requires { (table : List (List ℕ)) × IsValidScript script.now table }
+    requires { IsValid script.now }
     ensures { IfOk result (Reads (AreVersionsIn script.now) (versions_word script.now) text.now) }
 {
     if is_none(text) {
@@ -252,8 +256,9 @@ fn read_each_version(
     script: &Script,
     text: &[u8],
 ) -> Result<Option<Versions>, NoMemory>
-    requires { (table : List (List ℕ)) × IsValidScript script.now table }
-    ensures { IfOk result (Reads (IsRow (AreVersionsIn script.now)) (λ versions. join_with_byte 124 (map (version_text script.now) versions)) text.now) }
+    requires { IsValid script.now }
+    ensures { IfOk result (Reads (IsRow (AreVersionsIn script.now))
+        (λ versions. join_with_byte 124 (map (version_text script.now) versions)) text.now) }
 {
     let pieces = pieces_of(alloc, text, b'|')?;
     let mut versions = Versions::new(alloc);
@@ -271,7 +276,7 @@ fn read_each_version(
 
 /// Reads a version, `WORD(CLOCK)`.
 fn read_version(alloc: Global, script: &Script, text: &[u8]) -> Result<Option<Version>, NoMemory>
-    requires { (table : List (List ℕ)) × IsValidScript script.now table }
+    requires { IsValid script.now }
     ensures { IfOk result (Reads (IsVersionIn script.now) (version_text script.now) text.now) }
 {
     let Some((word, later)) = cut_at(text, b'(') else {

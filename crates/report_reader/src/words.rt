@@ -1,7 +1,7 @@
 //! Words of a report, read: numbers, names and workers, and texts cut at a byte.
 ghost use Rattle.std.specs.Prelude.{◌≡◌, ◌↔◌, List, ℕ, ◌<◌, ◌^◌, ◌==◌, ◌∷◌, ◌++◌, false, map, length, decimal, IfOk, IsTrue, MatchOption};
 ghost use Rattle.std.specs.List.{list_any, slice_split};
-ghost use Rattle.session_known.specs.Script.{IsOneOf, IsValidScript};
+ghost use Rattle.session_known.specs.Script.{IsOneOf, IsValid};
 ghost use Rattle.report_reader.specs.Reads.{Reads};
 ghost use Rattle.report_lines.specs.Text.{key_name, session_name, worker_word};
 
@@ -14,7 +14,9 @@ use std::alloc::Global;
 
 /// A text cut at the first place of a byte, which is in neither part.
 pub(crate) fn cut_at(text: &[u8], byte: u8) -> Option<(&[u8], &[u8])>
-    ensures { MatchOption result (list_any (λ b. b == byte) text.now ≡ false) (λ parts. (text.now ≡ parts.0.now ++ byte ∷ parts.1.now) × (list_any (λ b. b == byte) parts.0.now ≡ false)) }
+    ensures { MatchOption result (list_any (λ b. b == byte) text.now ≡ false)
+        (λ parts. (text.now ≡ parts.0.now ++ byte ∷ parts.1.now)
+        × (list_any (λ b. b == byte) parts.0.now ≡ false)) }
 {
     let Some(at) = text.iter().position(|b| *b == byte) else {
         return None;
@@ -24,7 +26,8 @@ pub(crate) fn cut_at(text: &[u8], byte: u8) -> Option<(&[u8], &[u8])>
 
 /// What stands between the places of a byte, an empty text too.
 pub(crate) fn pieces_of(alloc: Global, text: &[u8], byte: u8) -> Result<Vec<&[u8]>, NoMemory>
-    ensures { IfOk result (λ pieces. map (λ piece. piece.now) pieces.items ≡ slice_split (λ b. b == byte) text.now) }
+    ensures { IfOk result (λ pieces. map (λ piece. piece.now) pieces.items
+        ≡ slice_split (λ b. b == byte) text.now) }
 {
     Ok(text.split(|b| *b == byte).collect(alloc)?)
 }
@@ -72,8 +75,9 @@ fn is_written(number: u64, text: &[u8]) -> bool
 
 /// Reads the name of a session.
 pub(crate) fn read_session(script: &Script, text: &[u8]) -> Option<u16>
-    requires { (table : List (List ℕ)) × IsValidScript script.now table }
-    ensures { Reads (IsOneOf (length script.now.sessions)) (session_name script.now) text.now result }
+    requires { IsValid script.now }
+    ensures { Reads (IsOneOf (length script.now.sessions))
+        (session_name script.now) text.now result }
 {
     let sessions = script.sessions.as_slice();
     let Some(place) = sessions
@@ -87,8 +91,9 @@ pub(crate) fn read_session(script: &Script, text: &[u8]) -> Option<u16>
 
 /// Reads the name of a key.
 pub(crate) fn read_key(script: &Script, text: &[u8]) -> Option<u16>
-    requires { (table : List (List ℕ)) × IsValidScript script.now table }
-    ensures { Reads (IsOneOf (length script.now.config.keys)) (key_name script.now) text.now result }
+    requires { IsValid script.now }
+    ensures { Reads (IsOneOf (length script.now.config.keys))
+        (key_name script.now) text.now result }
 {
     let keys = script.config.keys.as_slice();
     let Some(place) = keys.iter().position(|key| key.name.as_bytes() == text) else {
@@ -99,7 +104,7 @@ pub(crate) fn read_key(script: &Script, text: &[u8]) -> Option<u16>
 
 /// Reads a worker, `@` and its number.
 pub(crate) fn read_worker(script: &Script, text: &[u8]) -> Option<u16>
-    requires { (table : List (List ℕ)) × IsValidScript script.now table }
+    requires { IsValid script.now }
     ensures { Reads (IsOneOf script.now.config.workers) worker_word text.now result }
 {
     let [b'@', digits @ ..] = text else {

@@ -1,8 +1,8 @@
 //! Writes reports.
 ghost use Rattle.std.specs.Prelude.{List, ℕ, [], ◌∷◌, All, codes, length};
 ghost use Rattle.std.specs.List.{AllZip, flat_map};
-ghost use Rattle.session_known.specs.Form.{HasForm, IsFinalIn};
-ghost use Rattle.session_known.specs.Script.{IsValidScript, IsOneOf};
+ghost use Rattle.session_known.specs.Form.{HasFormSomewhere, IsFinalIn};
+ghost use Rattle.session_known.specs.Script.{IsOneOf, IsValid};
 ghost use Rattle.outside.specs.Gathering.{Adds, Wrote};
 ghost use Rattle.outside.specs.Outside.{HasCause};
 ghost use Rattle.report_lines.specs.Text.{level_word, answers_lines, sessions_lines, text_of, line_text, final_words, short_words};
@@ -20,8 +20,7 @@ use session_known::{Answer, FinalCell, Level, Line, Report, Script, SessionPlan}
 /// Writes the text of a report of the script's form. `Failed` comes only where the sink's count of
 /// faults rose; then a front of the text was written. Takes no memory.
 pub fn write_report<K: Sink>(script: &Script, report: &Report, sink: &mut K) -> Result<(), Failed>
-    requires valid { (table : List (List ℕ)) × IsValidScript script.now table
-        × HasForm script.now table report.now }
+    requires valid { HasFormSomewhere script.now report.now }
     ensures wrote { Wrote (K.written sink.old) (K.written sink.new)
         (text_of script.now report.now) result }
     ensures cause { HasCause (K.faults sink.old) (K.faults sink.new) result }
@@ -39,7 +38,7 @@ pub fn write_report<K: Sink>(script: &Script, report: &Report, sink: &mut K) -> 
 /// are the script's, and its value is of the key's kind. `Failed` as for [`write_report`]. Takes no
 /// memory.
 pub fn write_final<K: Sink>(script: &Script, cell: &FinalCell, sink: &mut K) -> Result<(), Failed>
-    requires valid { (table : List (List ℕ)) × IsValidScript script.now table }
+    requires valid { IsValid script.now }
     requires key { IsOneOf (length script.now.config.keys) cell.now.key }
     requires worker { IsOneOf script.now.config.workers cell.now.worker }
     requires cell { IsFinalIn script.now cell.now }
@@ -56,7 +55,7 @@ pub fn write_final<K: Sink>(script: &Script, cell: &FinalCell, sink: &mut K) -> 
 /// cell's key, worker and sessions are the script's, and its value is of the key's kind. `Failed` as
 /// for [`write_report`]. Takes no memory.
 pub fn write_short<K: Sink>(script: &Script, cell: &FinalCell, sink: &mut K) -> Result<(), Failed>
-    requires valid { (table : List (List ℕ)) × IsValidScript script.now table }
+    requires valid { IsValid script.now }
     requires key { IsOneOf (length script.now.config.keys) cell.now.key }
     requires worker { IsOneOf script.now.config.workers cell.now.worker }
     requires cell { IsFinalIn script.now cell.now }

@@ -11,13 +11,13 @@ use Rattle.script_reader.proofs.FaultsLaws.{none_here}
 use Rattle.script_reader.specs.Grammar.{AreInOrder}
 use Rattle.script_reader.specs.Keywords.{is_end}
 use Rattle.script_reader.specs.Lines.{Statement, statement_of, statements_of, is_end_line}
-use Rattle.script_reader.specs.Steps.{after}
+use Rattle.script_reader.specs.Steps.{next_context}
 use Rattle.script_reader.proofs.StepsLaws.{context_after}
 use Rattle.script_reader.specs.declared.code.Code.TheVariants as codes_of
 use Rattle.script_reader.specs.declared.keyword.Keyword.{Keyword}
 
 -- Holds may depend on whether an end is among the lines before. Behind an end no line with words is read.
-module _ (Holds : Bool → Context → Type 0) (step : (context : Context) (keyword : Keyword) (words : List (List ℕ)) → Holds false context → code_of context keyword words ≡ None → Holds (is_end keyword) (after context keyword words)) where
+module _ (Holds : Bool → Context → Type 0) (step : (context : Context) (keyword : Keyword) (words : List (List ℕ)) → Holds false context → code_of context keyword words ≡ None → Holds (is_end keyword) (next_context context keyword words)) where
   -- it holds after these statements
   abbrev Behind : Setting → List Statement → Type 0
   Behind setting front = Holds (list_any is_end_line front) (context_of setting front)

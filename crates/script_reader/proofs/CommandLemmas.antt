@@ -27,7 +27,7 @@ use Rattle.script_reader.proofs.FaultsLaws.{code_limit, code_transaction, code_n
 use Rattle.script_reader.specs.Keywords.{is_factor, is_round}
 use Rattle.script_reader.specs.Reader.{seen, plans_of, begun_of, with_added, begun_behind, AreKept, IsKept, SuitsPlace, IsFaultOf, HasRead, HasAdded, Reads, IsKeyAt, MayBound, IsBoundFault}
 use Rattle.script_reader.specs.Said.{place_of, number_in, payload_for, line_said}
-use Rattle.script_reader.specs.Steps.{after, with_line, with_sessions, with_command, script_after, begun_after}
+use Rattle.script_reader.specs.Steps.{next_context, with_line, with_sessions, with_command, script_after, begun_after}
 use Rattle.script_reader.specs.Words.{is_payload_too_great, number_of, number_said, payload_said}
 use Rattle.script_reader.specs.declared.code.Code.TheVariants as codes_of
 use Rattle.script_reader.specs.declared.entry.Entry.{Entry}
@@ -150,7 +150,7 @@ added_is_after : (old : Reader) (keyword : Keyword) (words : List (List ℕ)) (l
       has_round = old.has_round;
       script = with_sessions (with_line line (seen old).script.sessions) (seen old).script;
       begun = begun_behind (seen old).begun line;
-    } ≡ after (seen old) keyword words
+    } ≡ next_context (seen old) keyword words
 added_is_after old keyword words line kept stands says =
     let header : old.has_header ≡ true = kept.headed stands.workers in
     let workers : old.has_workers ≡ old.has_header = stands.workers ∙ sym header in

@@ -9,7 +9,7 @@ use Rattle.script_reader.specs.Faults.{Context, context_of, level_of, may_follow
 use Rattle.script_reader.proofs.FaultsLaws.{word_fine, limit_fine}
 use Rattle.script_reader.specs.Grammar.{IsScript, HasForms, setting_of}
 use Rattle.script_reader.specs.Lines.{script_lines}
-use Rattle.script_reader.specs.Steps.{after, new_session, with_line}
+use Rattle.script_reader.specs.Steps.{next_context, new_session, with_line}
 use Rattle.script_reader.proofs.ValidLaws.{script_is_valid}
 use Rattle.script_reader.proofs.ValidListsLaws.{within_is}
 use Rattle.script_reader.specs.Words.{number_of, level_said}
@@ -74,21 +74,21 @@ levels_kept line (plan ∷ []) all = All-cons IsEventual _ [] (All-head IsEventu
 levels_kept line (plan ∷ other ∷ plans) all = All-cons IsEventual plan (with_line line (other ∷ plans)) (All-head IsEventual plan (other ∷ plans) all) (levels_kept line (other ∷ plans) (All-tail IsEventual plan (other ∷ plans) all))
 
 -- where the line leaves the number of workers and the sessions
-left : (context : Context) (keyword : Keyword) (words : List (List ℕ)) → AreServed context → (after context keyword words).script.config.workers ≡ context.script.config.workers → (after context keyword words).script.sessions ≡ context.script.sessions → AreServed (after context keyword words)
+left : (context : Context) (keyword : Keyword) (words : List (List ℕ)) → AreServed context → (next_context context keyword words).script.config.workers ≡ context.script.config.workers → (next_context context keyword words).script.sessions ≡ context.script.sessions → AreServed (next_context context keyword words)
 left context keyword words served workers sessions = record {
   workers = λ alone. subst (λ n. n ≤ 1) (sym workers) (served.workers alone);
   levels = λ eventual. subst (λ plans. All IsEventual plans) (sym sessions) (served.levels eventual);
 }
 
 -- where it adds a line to the last session
-with_command : (context : Context) (keyword : Keyword) (words : List (List ℕ)) (line : Line) → AreServed context → (after context keyword words).script.config.workers ≡ context.script.config.workers → (after context keyword words).script.sessions ≡ with_line line context.script.sessions → AreServed (after context keyword words)
+with_command : (context : Context) (keyword : Keyword) (words : List (List ℕ)) (line : Line) → AreServed context → (next_context context keyword words).script.config.workers ≡ context.script.config.workers → (next_context context keyword words).script.sessions ≡ with_line line context.script.sessions → AreServed (next_context context keyword words)
 with_command context keyword words line served workers sessions = record {
   workers = λ alone. subst (λ n. n ≤ 1) (sym workers) (served.workers alone);
   levels = λ eventual. subst (λ plans. All IsEventual plans) (sym sessions) (levels_kept line context.script.sessions (served.levels eventual));
 }
 
 -- a session
-of_session : (context : Context) (words : List (List ℕ)) → AreServed context → IsFaultless context Session words → AreServed (after context Session words)
+of_session : (context : Context) (words : List (List ℕ)) → AreServed context → IsFaultless context Session words → AreServed (next_context context Session words)
 of_session context (name ∷ level ∷ []) served fine = record {
   workers = served.workers;
   levels = λ eventual.
@@ -98,7 +98,7 @@ of_session context (name ∷ level ∷ []) served fine = record {
 of_session context words served fine = absurd (false≢true fine.has)
 
 -- the number of workers
-of_workers : (context : Context) (words : List (List ℕ)) → AreServed context → IsFaultless context Workers words → AreServed (after context Workers words)
+of_workers : (context : Context) (words : List (List ℕ)) → AreServed context → IsFaultless context Workers words → AreServed (next_context context Workers words)
 of_workers context (number ∷ []) served fine = record {
   workers = λ alone. one_at_most (number_of number) (second_holds context.built.workers _ fine.served alone) (not-false _ fine.limit);
   levels = served.levels;
@@ -106,16 +106,16 @@ of_workers context (number ∷ []) served fine = record {
 of_workers context words served fine = absurd (false≢true fine.has)
 
 -- the replication factor and the requests between rounds
-of_factor : (context : Context) (words : List (List ℕ)) → AreServed context → IsFaultless context Factor words → AreServed (after context Factor words)
+of_factor : (context : Context) (words : List (List ℕ)) → AreServed context → IsFaultless context Factor words → AreServed (next_context context Factor words)
 of_factor context [] served fine = absurd (false≢true fine.has)
 of_factor context (number ∷ words) served fine = left context Factor (number ∷ words) served refl refl
 
-of_round : (context : Context) (words : List (List ℕ)) → AreServed context → IsFaultless context Round words → AreServed (after context Round words)
+of_round : (context : Context) (words : List (List ℕ)) → AreServed context → IsFaultless context Round words → AreServed (next_context context Round words)
 of_round context [] served fine = absurd (false≢true fine.has)
 of_round context (number ∷ words) served fine = left context Round (number ∷ words) served refl refl
 
 -- any line that has no code
-served_behind : (context : Context) (keyword : Keyword) (words : List (List ℕ)) → AreServed context → IsFaultless context keyword words → AreServed (after context keyword words)
+served_behind : (context : Context) (keyword : Keyword) (words : List (List ℕ)) → AreServed context → IsFaultless context keyword words → AreServed (next_context context keyword words)
 served_behind context Anna words served fine = left context Anna words served refl refl
 served_behind context Workers words served fine = of_workers context words served fine
 served_behind context Factor words served fine = of_factor context words served fine
@@ -131,7 +131,7 @@ served_behind context Abort words served fine = with_command context Abort words
 served_behind context End words served fine = left context End words served refl refl
 served_behind context Unknown words served fine = left context Unknown words served refl refl
 
-step : (context : Context) (keyword : Keyword) (words : List (List ℕ)) → AreServed context → code_of context keyword words ≡ None → AreServed (after context keyword words)
+step : (context : Context) (keyword : Keyword) (words : List (List ℕ)) → AreServed context → code_of context keyword words ≡ None → AreServed (next_context context keyword words)
 step context keyword words served none = served_behind context keyword words served (faultless context keyword words none)
 
 -- A script has only forms that are served.

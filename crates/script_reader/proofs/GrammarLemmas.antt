@@ -17,7 +17,7 @@ use Rattle.script_reader.specs.Lines.{Statement, those, word, statement_of, stat
 use Rattle.script_reader.specs.Reader.{seen, IsKept, IsFaultOf, HasRead}
 use Rattle.script_reader.specs.Said.{named_in, with_name, script_said}
 use Rattle.script_reader.proofs.SaidLaws.{those_keep, those_skip}
-use Rattle.script_reader.specs.Steps.{after}
+use Rattle.script_reader.specs.Steps.{next_context}
 use Rattle.script_reader.proofs.StepsLaws.{context_after}
 use Rattle.script_reader.specs.declared.code.Code.{Code}
 use Rattle.script_reader.specs.declared.code.Code.TheVariants as codes_of
@@ -189,7 +189,7 @@ held_after setting front reader new ended now line (Some statement) is kept hold
     let fine = said_fine (seen reader) ended line statement read.0 in
     let code : code_of (context_of setting (statements_of front)) statement.keyword statement.words ≡ None = ap (λ context. code_of context statement.keyword statement.words) (sym holds) ∙ fine.1 in (
       read.1,
-      read.2 ∙ ap (λ context. after context statement.keyword statement.words) holds ∙ sym (context_after setting (statements_of front) statement code) ∙ ap (context_of setting) (sym more),
+      read.2 ∙ ap (λ context. next_context context statement.keyword statement.words) holds ∙ sym (context_after setting (statements_of front) statement code) ∙ ap (context_of setting) (sym more),
       read.3 ∙ ap (λ t. t || says_end (Some statement)) (sym fine.0 ∙ ended_is) ∙ ap (λ s. has_end front || says_end s) (sym is) ∙ sym (end_push front line),
       read.0,
     )

@@ -11,7 +11,7 @@ use Rattle.script_reader.specs.Keywords.{is_factor, is_round, is_key, is_session
 use Rattle.script_reader.specs.Lines.{Statement, those, word}
 use Rattle.script_reader.specs.Said.{number_or, key_said, kind_in, line_said, own_commands, sessions_said, script_said}
 use Rattle.script_reader.proofs.SaidLaws.{those_skip, those_keep, some_push, last_begins_push, number_first, workers_kept, key_names, sessions_kept, sessions_begun, sessions_line, no_session}
-use Rattle.script_reader.specs.Steps.{with_line, script_after, begun_after, after}
+use Rattle.script_reader.specs.Steps.{with_line, script_after, begun_after, next_context}
 use Rattle.script_reader.specs.declared.keyword.Keyword.{Keyword}
 use Rattle.script_reader.specs.declared.keyword.Keyword.TheVariants.{Anna, Workers, Factor, Round, Key, Session, Begin, Commit, Abort, End, Unknown}
 
@@ -202,15 +202,15 @@ second_push (first ∷ before) statement =
 
 -- the same, of a line by its keyword and its words
 context_push : (setting : Setting) (before : List Statement) (keyword : Keyword) (words : List (List ℕ)) → code_of (context_of setting before) keyword words ≡ None
-    → context_of setting (before ++ record { keyword = keyword; words = words } ∷ []) ≡ after (context_of setting before) keyword words
+    → context_of setting (before ++ record { keyword = keyword; words = words } ∷ []) ≡ next_context (context_of setting before) keyword words
 context_push setting before keyword words faultless =
     let context = context_of setting before in
     let statement : Statement = record { keyword = keyword; words = words } in
-    same_context (context_of setting (before ++ statement ∷ [])) (after context keyword words) refl refl (header_push before statement) (second_push before statement)
+    same_context (context_of setting (before ++ statement ∷ [])) (next_context context keyword words) refl refl (header_push before statement) (second_push before statement)
     (some_push is_factor before statement) (some_push is_round before statement)
     (script_push setting before keyword words (follow_fine context keyword words faultless) (words_fine context keyword words faultless) (twice_fine context keyword words faultless))
     (begun_push before keyword words)
 
 -- A line that is not at fault adds what it says.
-pub context_after : (setting : Setting) (before : List Statement) (statement : Statement) → code_of (context_of setting before) statement.keyword statement.words ≡ None → context_of setting (before ++ statement ∷ []) ≡ after (context_of setting before) statement.keyword statement.words
+pub context_after : (setting : Setting) (before : List Statement) (statement : Statement) → code_of (context_of setting before) statement.keyword statement.words ≡ None → context_of setting (before ++ statement ∷ []) ≡ next_context (context_of setting before) statement.keyword statement.words
 context_after setting before statement faultless = context_push setting before statement.keyword statement.words faultless

@@ -14,7 +14,7 @@ use Rattle.script_reader.specs.Faults.{Setting, Context, context_of, keys_of, le
 use Rattle.script_reader.proofs.FaultsLaws.{word_fine, name_fine, twice_fine, unknown_fine, kind_fine, limit_fine, transaction_fine}
 use Rattle.script_reader.specs.Lines.{Statement}
 use Rattle.script_reader.specs.Said.{key_said, kind_in, pins_said, number_in, line_said}
-use Rattle.script_reader.specs.Steps.{after, new_session, with_line, with_factor}
+use Rattle.script_reader.specs.Steps.{next_context, new_session, with_line, with_factor}
 use Rattle.script_reader.proofs.ValidContext.{AreApart, AreKeys, AreSessions, IsValidContext, Leads, Stands}
 use Rattle.script_reader.proofs.ValidListsLaws.{within_is, are_workers, no_repeat, apart_push, number_within, session_within, name_new, payload_kind, payload_is, is_spelling, replica_contained}
 use Rattle.script_reader.proofs.ValidSessionsLaws.{sessions_line, sessions_push, sessions_none}
@@ -82,11 +82,11 @@ start setting = record {
 
 -- a line after the line of workers
 behind_workers : (context : Context) (keyword : Keyword) (words : List (List ℕ)) → IsValidContext context → context.has_workers ≡ true
-    → IsOneOf 8 (after context keyword words).script.config.workers × IsOneOf (after context keyword words).script.config.workers (after context keyword words).script.config.factor
-    → IsOneOf 64 (after context keyword words).script.round
-    → AreKeys (after context keyword words).script.config (after context keyword words).script.kinds
-    → AreSessions (length (after context keyword words).script.config.keys) (after context keyword words).script.kinds (length (after context keyword words).named) (placed (after context keyword words).script.config) (after context keyword words).begun (after context keyword words).script.sessions
-    → IsValidContext (after context keyword words)
+    → IsOneOf 8 (next_context context keyword words).script.config.workers × IsOneOf (next_context context keyword words).script.config.workers (next_context context keyword words).script.config.factor
+    → IsOneOf 64 (next_context context keyword words).script.round
+    → AreKeys (next_context context keyword words).script.config (next_context context keyword words).script.kinds
+    → AreSessions (length (next_context context keyword words).script.config.keys) (next_context context keyword words).script.kinds (length (next_context context keyword words).named) (placed (next_context context keyword words).script.config) (next_context context keyword words).begun (next_context context keyword words).script.sessions
+    → IsValidContext (next_context context keyword words)
 behind_workers context keyword words valid has numbers round keys sessions = record {
   header = λ _. refl;
   workers = λ _. numbers;
@@ -97,7 +97,7 @@ behind_workers context keyword words valid has numbers round keys sessions = rec
 }
 
 -- the header
-step_anna : (context : Context) (words : List (List ℕ)) → IsValidContext context → IsFaultless context Anna words → IsValidContext (after context Anna words)
+step_anna : (context : Context) (words : List (List ℕ)) → IsValidContext context → IsFaultless context Anna words → IsValidContext (next_context context Anna words)
 step_anna context words valid fine =
     let no_header : context.has_header ≡ false = not-true _ fine.follows in
     let no_workers : context.has_workers ≡ false = false_from_ne_true _ (λ has. both_ways _ no_header (valid.header has)) in
@@ -111,7 +111,7 @@ step_anna context words valid fine =
     }
 
 -- the number of workers
-step_workers : (context : Context) (words : List (List ℕ)) → IsValidContext context → IsFaultless context Workers words → IsValidContext (after context Workers words)
+step_workers : (context : Context) (words : List (List ℕ)) → IsValidContext context → IsFaultless context Workers words → IsValidContext (next_context context Workers words)
 step_workers context [] valid fine = absurd (false≢true fine.has)
 step_workers context (number ∷ words) valid fine =
     let follows = and_parts context.has_header _ fine.follows in
@@ -136,7 +136,7 @@ option_follows context follows =
     (has.0, leb-true _ _ none.1)
 
 -- the replication factor
-step_factor : (context : Context) (words : List (List ℕ)) → IsValidContext context → IsFaultless context Factor words → IsValidContext (after context Factor words)
+step_factor : (context : Context) (words : List (List ℕ)) → IsValidContext context → IsFaultless context Factor words → IsValidContext (next_context context Factor words)
 step_factor context [] valid fine = absurd (false≢true fine.has)
 step_factor context (number ∷ words) valid fine =
     let follows = option_follows context fine.follows in
@@ -145,7 +145,7 @@ step_factor context (number ∷ words) valid fine =
     behind_workers context Factor (number ∷ words) valid follows.0 ((valid.workers follows.0).0, within) valid.round keys (sessions_none _ _ _ _ _ _ _ _ _ follows.1 valid.sessions)
 
 -- the requests between rounds
-step_round : (context : Context) (words : List (List ℕ)) → IsValidContext context → IsFaultless context Round words → IsValidContext (after context Round words)
+step_round : (context : Context) (words : List (List ℕ)) → IsValidContext context → IsFaultless context Round words → IsValidContext (next_context context Round words)
 step_round context [] valid fine = absurd (false≢true fine.has)
 step_round context (number ∷ words) valid fine =
     let follows = option_follows context fine.follows in
@@ -161,7 +161,7 @@ keys_push workers factor keys of_keys key kind are room pins is_name new = recor
 }
 
 -- a key
-step_key : (context : Context) (words : List (List ℕ)) → IsValidContext context → IsFaultless context Key words → IsValidContext (after context Key words)
+step_key : (context : Context) (words : List (List ℕ)) → IsValidContext context → IsFaultless context Key words → IsValidContext (next_context context Key words)
 step_key context [] valid fine = absurd (false≢true fine.has)
 step_key context (name ∷ words) valid fine =
     let follows = and_parts context.has_workers _ fine.follows in
@@ -173,7 +173,7 @@ step_key context (name ∷ words) valid fine =
     behind_workers context Key (name ∷ words) valid follows.0 (valid.workers follows.0) valid.round keys (sessions_none _ _ _ _ _ _ _ _ _ (leb-true _ _ follows.1) valid.sessions)
 
 -- a session
-step_session : (context : Context) (words : List (List ℕ)) → IsValidContext context → IsFaultless context Session words → IsValidContext (after context Session words)
+step_session : (context : Context) (words : List (List ℕ)) → IsValidContext context → IsFaultless context Session words → IsValidContext (next_context context Session words)
 step_session context [] valid fine = absurd (false≢true fine.has)
 step_session context (name ∷ words) valid fine =
     let statement : Statement = record { keyword = Session; words = name ∷ words } in
@@ -181,7 +181,7 @@ step_session context (name ∷ words) valid fine =
     (sessions_push _ _ _ _ _ context.script.sessions (new_session statement) valid.sessions fine.transaction refl (leb-false _ _ fine.limit) (is_spelling 32 name (not-false _ fine.named)) fine.twice)
 
 -- the end
-step_end : (context : Context) (words : List (List ℕ)) → IsValidContext context → IsFaultless context End words → IsValidContext (after context End words)
+step_end : (context : Context) (words : List (List ℕ)) → IsValidContext context → IsFaultless context End words → IsValidContext (next_context context End words)
 step_end context words valid fine = behind_workers context End words valid fine.follows (valid.workers fine.follows) valid.round valid.keys valid.sessions
 
 -- a command
@@ -201,7 +201,7 @@ key_within : (context : Context) (key : List ℕ) → is_declared context key �
 key_within context key declared = subst (λ n. IsOneOf n (number_in (keys_of context) key)) (length-map context.script.config.keys (λ (key : KeyPlace). key.name)) (number_within (keys_of context) key declared)
 
 -- a put
-step_put : (context : Context) (words : List (List ℕ)) → IsValidContext context → IsFaultless context Put words → IsValidContext (after context Put words)
+step_put : (context : Context) (words : List (List ℕ)) → IsValidContext context → IsFaultless context Put words → IsValidContext (next_context context Put words)
 step_put context [] valid fine = absurd (false≢true fine.has)
 step_put context (key ∷ words) valid fine =
     let follows = command_follows context fine.follows in
@@ -218,7 +218,7 @@ may_name Committed replicas worker other has = has
 may_name Causal replicas worker other has = absurd (false≢true other)
 
 -- a get
-step_get : (context : Context) (words : List (List ℕ)) → IsValidContext context → IsFaultless context Get words → IsValidContext (after context Get words)
+step_get : (context : Context) (words : List (List ℕ)) → IsValidContext context → IsFaultless context Get words → IsValidContext (next_context context Get words)
 step_get context [] valid fine = absurd (false≢true fine.has)
 step_get context (key ∷ []) valid fine =
     let follows = command_follows context fine.follows in
@@ -240,7 +240,7 @@ causal_is Committed is = absurd (false≢true is)
 causal_is Causal is = refl
 
 -- an await
-step_await : (context : Context) (words : List (List ℕ)) → IsValidContext context → IsFaultless context Await words → IsValidContext (after context Await words)
+step_await : (context : Context) (words : List (List ℕ)) → IsValidContext context → IsFaultless context Await words → IsValidContext (next_context context Await words)
 step_await context [] valid fine = absurd (false≢true fine.has)
 step_await context (key ∷ []) valid fine = absurd (false≢true fine.has)
 step_await context (key ∷ session ∷ []) valid fine = absurd (false≢true fine.has)
@@ -257,7 +257,7 @@ committed_is Committed is = refl
 committed_is Causal is = absurd (true≢false is)
 
 -- the begin of a transaction
-step_begin : (context : Context) (words : List (List ℕ)) → IsValidContext context → IsFaultless context Begin words → IsValidContext (after context Begin words)
+step_begin : (context : Context) (words : List (List ℕ)) → IsValidContext context → IsFaultless context Begin words → IsValidContext (next_context context Begin words)
 step_begin context words valid fine =
     let follows = command_follows context fine.follows in
     let held = or_parts (not (is_committed (level_of context))) _ fine.transaction in
@@ -265,7 +265,7 @@ step_begin context words valid fine =
     (takes_line context true lines.Begin valid follows.1 fine.limit (committed_is (level_of context) held.0) (held.1, refl))
 
 -- the commit of a transaction
-step_commit : (context : Context) (words : List (List ℕ)) → IsValidContext context → IsFaultless context Commit words → IsValidContext (after context Commit words)
+step_commit : (context : Context) (words : List (List ℕ)) → IsValidContext context → IsFaultless context Commit words → IsValidContext (next_context context Commit words)
 step_commit context words valid fine =
     let follows = command_follows context fine.follows in
     let held = or_parts (not (is_committed (level_of context))) _ fine.transaction in
@@ -273,7 +273,7 @@ step_commit context words valid fine =
     (takes_line context false lines.Commit valid follows.1 fine.limit (committed_is (level_of context) held.0) (not-false _ held.1, refl))
 
 -- the abort of a transaction
-step_abort : (context : Context) (words : List (List ℕ)) → IsValidContext context → IsFaultless context Abort words → IsValidContext (after context Abort words)
+step_abort : (context : Context) (words : List (List ℕ)) → IsValidContext context → IsFaultless context Abort words → IsValidContext (next_context context Abort words)
 step_abort context words valid fine =
     let follows = command_follows context fine.follows in
     let held = or_parts (not (is_committed (level_of context))) _ fine.transaction in
@@ -281,7 +281,7 @@ step_abort context words valid fine =
     (takes_line context false lines.Abort valid follows.1 fine.limit (committed_is (level_of context) held.0) (not-false _ held.1, refl))
 
 -- a line without faults, by its first word
-step_fine : (context : Context) (keyword : Keyword) (words : List (List ℕ)) → IsValidContext context → IsFaultless context keyword words → IsValidContext (after context keyword words)
+step_fine : (context : Context) (keyword : Keyword) (words : List (List ℕ)) → IsValidContext context → IsFaultless context keyword words → IsValidContext (next_context context keyword words)
 step_fine context Anna words valid fine = step_anna context words valid fine
 step_fine context Workers words valid fine = step_workers context words valid fine
 step_fine context Factor words valid fine = step_factor context words valid fine
@@ -298,11 +298,11 @@ step_fine context End words valid fine = step_end context words valid fine
 step_fine context Unknown words valid fine = absurd (false≢true (and_parts context.has_workers _ fine.follows).1)
 
 -- A line that is not at fault leaves a valid context.
-pub step : (context : Context) (keyword : Keyword) (words : List (List ℕ)) → IsValidContext context → code_of context keyword words ≡ None → IsValidContext (after context keyword words)
+pub step : (context : Context) (keyword : Keyword) (words : List (List ℕ)) → IsValidContext context → code_of context keyword words ≡ None → IsValidContext (next_context context keyword words)
 step context keyword words valid none = step_fine context keyword words valid (faultless context keyword words none)
 
 -- after an end line that is not at fault there are workers, and no transaction is begun
-pub ended : (context : Context) (words : List (List ℕ)) → IsValidContext context → code_of context End words ≡ None → IsTrue (after context End words).has_workers × IsFalse (after context End words).begun
+pub ended : (context : Context) (words : List (List ℕ)) → IsValidContext context → code_of context End words ≡ None → IsTrue (next_context context End words).has_workers × IsFalse (next_context context End words).begun
 ended context words valid none =
     let fine = faultless context End words none in
     (valid.header fine.follows, fine.transaction)

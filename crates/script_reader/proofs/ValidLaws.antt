@@ -17,7 +17,7 @@ use Rattle.script_reader.specs.Grammar.{IsScript, IsScriptOf, setting_of}
 use Rattle.script_reader.specs.Keywords.{is_end, is_session}
 use Rattle.script_reader.specs.Lines.{Statement, script_lines, statements_of, those, word, is_end_line}
 use Rattle.script_reader.specs.Said.{named_in, sessions_said, with_name}
-use Rattle.script_reader.specs.Steps.{after}
+use Rattle.script_reader.specs.Steps.{next_context}
 use Rattle.script_reader.proofs.ValidContext.{AreApart, AreLed, IsValidContext, Leads, Stands}
 use Rattle.script_reader.proofs.ValidContextLaws.{start, step, ended}
 use Rattle.script_reader.specs.declared.built.Built.{Built}
@@ -40,12 +40,12 @@ record IsFront (ended : Bool) (context : Context) : Type 0 where
   closed : ended ≡ true → IsClosed context
 
 -- an end that is not at fault leaves the context closed
-closed_behind : (context : Context) (keyword : Keyword) (words : List (List ℕ)) → IsValidContext context → code_of context keyword words ≡ None → is_end keyword ≡ true → IsClosed (after context keyword words)
+closed_behind : (context : Context) (keyword : Keyword) (words : List (List ℕ)) → IsValidContext context → code_of context keyword words ≡ None → is_end keyword ≡ true → IsClosed (next_context context keyword words)
 closed_behind context End words valid none is = ended context words valid none
 closed_behind context keyword words valid none is = absurd (false≢true is)
 
 -- each line that is not at fault leaves it so
-front_step : (context : Context) (keyword : Keyword) (words : List (List ℕ)) → IsFront false context → code_of context keyword words ≡ None → IsFront (is_end keyword) (after context keyword words)
+front_step : (context : Context) (keyword : Keyword) (words : List (List ℕ)) → IsFront false context → code_of context keyword words ≡ None → IsFront (is_end keyword) (next_context context keyword words)
 front_step context keyword words front none = record {
   valid = step context keyword words front.valid none;
   closed = closed_behind context keyword words front.valid none;

@@ -7,7 +7,7 @@ use Rattle.script_reader.specs.Keywords.{is_end, is_session}
 use Rattle.script_reader.specs.Lines.{Statement, word}
 use Rattle.script_reader.specs.Reader.{seen, IsKept}
 use Rattle.script_reader.specs.Said.{with_name}
-use Rattle.script_reader.specs.Steps.{after}
+use Rattle.script_reader.specs.Steps.{next_context}
 use Rattle.script_reader.specs.declared.fault.ScriptFault.{ScriptFault}
 use Rattle.script_reader.specs.declared.fault.ScriptFault.TheVariants.{Refused, NoMemory}
 use Rattle.script_reader.specs.declared.reader.LineFault.{LineFault}
@@ -18,7 +18,7 @@ use Rattle.script_reader.specs.declared.reader.Reader.{Reader}
 abbrev pub HasReadLine : Reader → Reader → Bool → Bool → List ℕ → Option Statement → Type 0
 HasReadLine old new ended now line None = (new ≡ old) × (now ≡ ended)
 HasReadLine old new ended now line (Some statement) =
-    (code_said (seen old) ended line (Some statement) ≡ None) × IsKept new × (seen new ≡ after (seen old) statement.keyword statement.words) × (now ≡ is_end statement.keyword)
+    (code_said (seen old) ended line (Some statement) ≡ None) × IsKept new × (seen new ≡ next_context (seen old) statement.keyword statement.words) × (now ≡ is_end statement.keyword)
 
 -- The names with that of a session line, where it is one.
 abbrev pub named_after : List (List ℕ) → Option Statement → List (List ℕ)

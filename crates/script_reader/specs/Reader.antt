@@ -10,7 +10,7 @@ use Rattle.session_known.specs.declared.script.Line.TheVariants as lines
 use Rattle.script_reader.specs.Faults.{Context, code_of, lacks_header, lacks_word, keys_of, commands_of, level_of, is_committed}
 use Rattle.script_reader.specs.Said.{place_of}
 use Rattle.script_reader.specs.Words.{is_name}
-use Rattle.script_reader.specs.Steps.{after, with_line, with_sessions}
+use Rattle.script_reader.specs.Steps.{next_context, with_line, with_sessions}
 use Rattle.script_reader.specs.declared.code.Code.{Code}
 use Rattle.script_reader.specs.declared.code.Code.TheVariants as codes_of
 use Rattle.script_reader.specs.declared.keyword.Keyword.{Keyword}
@@ -70,7 +70,7 @@ IsFaultOf code faults.NoMemory = ⊤
 pub record HasRead (old new : Reader) (keyword : Keyword) (words : List (List ℕ)) : Type 0 where
   pub kept : IsKept new
   pub faultless : code_of (seen old) keyword words ≡ None
-  pub added : seen new ≡ after (seen old) keyword words
+  pub added : seen new ≡ next_context (seen old) keyword words
 
 -- A line was read, or its fault told.
 abbrev pub Reads : Reader → Result (Unit {0}) LineFault → Reader → Keyword → List (List ℕ) → Type 0

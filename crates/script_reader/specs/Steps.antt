@@ -78,8 +78,8 @@ begun_after begun Abort = false
 begun_after begun keyword = begun
 
 -- what the lines say with one more
-abbrev pub after : Context → Keyword → List (List ℕ) → Context
-after context keyword words = record {
+abbrev pub next_context : Context → Keyword → List (List ℕ) → Context
+next_context context keyword words = record {
   built = context.built;
   named = context.named;
   has_header = true;

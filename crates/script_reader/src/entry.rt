@@ -66,7 +66,8 @@ pub(crate) enum Entry<'w, 'a> {
 /// Tells a line apart, where its words are as many as may stand after its first word, and those that
 /// are given are right.
 pub(crate) fn tell_apart<'w, 'a>(keyword: Keyword, words: &'w [&'a [u8]]) -> Option<Entry<'w, 'a>>
-    ensures { MatchOption result (may_have keyword (texts words.now) ≡ false) (λ entry. Shows entry keyword (texts words.now)) }
+    ensures { MatchOption result (may_have keyword (texts words.now) ≡ false)
+        (λ entry. Shows entry keyword (texts words.now)) }
 {
     match keyword {
         Keyword::Anna => one_word(words).map(|version| Entry::Header { version }),
@@ -88,7 +89,8 @@ pub(crate) fn tell_apart<'w, 'a>(keyword: Keyword, words: &'w [&'a [u8]]) -> Opt
 
 /// The line of one word, where no words stand after it.
 fn bare_entry<'w, 'a>(words: &'w [&'a [u8]], bare: Bare) -> Option<Entry<'w, 'a>>
-    ensures { MatchOption result (length words.now ≢ 0) (λ entry. (entry ≡ entries.Bare bare) × (words.now ≡ [])) }
+    ensures { MatchOption result (length words.now ≢ 0)
+        (λ entry. (entry ≡ entries.Bare bare) × (words.now ≡ [])) }
 {
     if words.is_empty() {
         Some(Entry::Bare(bare))
@@ -109,7 +111,8 @@ fn one_word<'w, 'a>(words: &'w [&'a [u8]]) -> Option<&'a [u8]>
 
 /// A key and its kind, and pins where there are any.
 fn key_entry<'w, 'a>(words: &'w [&'a [u8]]) -> Option<Entry<'w, 'a>>
-    ensures { MatchOption result (may_have Keyword.Key (texts words.now) ≡ false) (λ entry. Shows entry Keyword.Key (texts words.now)) }
+    ensures { MatchOption result (may_have Keyword.Key (texts words.now) ≡ false)
+        (λ entry. Shows entry Keyword.Key (texts words.now)) }
 {
     match words {
         [name, word] => Some(Entry::Key {
@@ -130,7 +133,8 @@ fn key_entry<'w, 'a>(words: &'w [&'a [u8]]) -> Option<Entry<'w, 'a>>
 
 /// A session and its level.
 fn session_entry<'w, 'a>(words: &'w [&'a [u8]]) -> Option<Entry<'w, 'a>>
-    ensures { MatchOption result (may_have Keyword.Session (texts words.now) ≡ false) (λ entry. Shows entry Keyword.Session (texts words.now)) }
+    ensures { MatchOption result (may_have Keyword.Session (texts words.now) ≡ false)
+        (λ entry. Shows entry Keyword.Session (texts words.now)) }
 {
     match words {
         [name, word] => Some(Entry::Session {
@@ -143,7 +147,8 @@ fn session_entry<'w, 'a>(words: &'w [&'a [u8]]) -> Option<Entry<'w, 'a>>
 
 /// A key, and one or two words of a payload.
 fn put_entry<'w, 'a>(words: &'w [&'a [u8]]) -> Option<Entry<'w, 'a>>
-    ensures { MatchOption result (may_have Keyword.Put (texts words.now) ≡ false) (λ entry. Shows entry Keyword.Put (texts words.now)) }
+    ensures { MatchOption result (may_have Keyword.Put (texts words.now) ≡ false)
+        (λ entry. Shows entry Keyword.Put (texts words.now)) }
 {
     match words {
         [key, payload @ ..] if payload.len() == 1 || payload.len() == 2 => {
@@ -155,7 +160,8 @@ fn put_entry<'w, 'a>(words: &'w [&'a [u8]]) -> Option<Entry<'w, 'a>>
 
 /// A key, and a worker where one is named.
 fn get_entry<'w, 'a>(words: &'w [&'a [u8]]) -> Option<Entry<'w, 'a>>
-    ensures { MatchOption result (may_have Keyword.Get (texts words.now) ≡ false) (λ entry. Shows entry Keyword.Get (texts words.now)) }
+    ensures { MatchOption result (may_have Keyword.Get (texts words.now) ≡ false)
+        (λ entry. Shows entry Keyword.Get (texts words.now)) }
 {
     match words {
         [key] => Some(Entry::Get { key }),
@@ -166,7 +172,8 @@ fn get_entry<'w, 'a>(words: &'w [&'a [u8]]) -> Option<Entry<'w, 'a>>
 
 /// A key, a session, and a number of its puts.
 fn await_entry<'w, 'a>(words: &'w [&'a [u8]]) -> Option<Entry<'w, 'a>>
-    ensures { MatchOption result (may_have Keyword.Await (texts words.now) ≡ false) (λ entry. Shows entry Keyword.Await (texts words.now)) }
+    ensures { MatchOption result (may_have Keyword.Await (texts words.now) ≡ false)
+        (λ entry. Shows entry Keyword.Await (texts words.now)) }
 {
     match words {
         [key, session, count] => Some(Entry::Await {

@@ -46,7 +46,8 @@ fn statement<'w, 'a>(words: &'w [&'a [u8]]) -> Option<(Keyword, &'w [&'a [u8]])>
 
 /// Adds the name of a session line, and says whether the line is an end line.
 fn add_session<'a>(alloc: Global, names: &mut Names<'a>, line: &'a [u8]) -> Result<bool, NoMemory>
-    ensures { IfOk result (λ ended. (ended ≡ says_end (statement_of line.now)) × (names.new ≡ named_after names.old (statement_of line.now))) }
+    ensures { IfOk result (λ ended. (ended ≡ says_end (statement_of line.now))
+        × (names.new ≡ named_after names.old (statement_of line.now))) }
 {
     let words = words_of(alloc, line)?;
     let Some((keyword, rest)) = statement(&words) else {
@@ -64,7 +65,8 @@ fn add_session<'a>(alloc: Global, names: &mut Names<'a>, line: &'a [u8]) -> Resu
 
 /// The sessions that an await may name: those of all session lines before the first end line.
 fn session_names<'a>(alloc: Global, lines: &[&'a [u8]]) -> Result<Names<'a>, NoMemory>
-    ensures { IfOk result (λ names. names ≡ named_in (before_first is_end_line (statements_of (map (λ line. line.now) lines.now)))) }
+    ensures { IfOk result (λ names. names
+        ≡ named_in (before_first is_end_line (statements_of (map (λ line. line.now) lines.now)))) }
 {
     let mut names = Names::new(alloc);
     for line in lines {
@@ -114,8 +116,10 @@ fn read_line<'a>(
 /// Reads the lines of a script, one after another.
 fn read_lines(alloc: Global, lines: &[&[u8]], built: Built) -> Result<Script, ScriptFault>
     requires { length lines.now ≤ 2 ^ 20 + 1 }
-    ensures script { IfOk result (IsScriptOf (setting_of built (map (λ line. line.now) lines.now)) (map (λ line. line.now) lines.now)) }
-    ensures refused { IfErr result (IsWhyNoLines (setting_of built (map (λ line. line.now) lines.now)) (map (λ line. line.now) lines.now)) }
+    ensures script { IfOk result (IsScriptOf (setting_of built (map (λ line. line.now) lines.now))
+        (map (λ line. line.now) lines.now)) }
+    ensures refused { IfErr result (IsWhyNoLines
+        (setting_of built (map (λ line. line.now) lines.now)) (map (λ line. line.now) lines.now)) }
 {
     let names = session_names(alloc, lines)?;
     let mut reader = Reader::new(alloc, built, names);

@@ -187,7 +187,8 @@ impl<'a> Reader<'a> {
     /// A reader that has read no line. Takes no memory.
     pub(crate) fn new(alloc: Global, built: Built, named: Names<'a>) -> Reader<'a>
         ensures kept { IsKept result }
-        ensures nothing { seen result ≡ context_of (record { built = built; named = named.entry }) [] }
+        ensures nothing { seen result ≡ context_of
+            (record { built = built; named = named.entry }) [] }
     {
         Reader {
             built,

@@ -11,7 +11,7 @@ use Rattle.composed_value.specs.declared.kind.Kind.{Kind}
 use Rattle.composed_value.specs.declared.value.Value.{Value}
 use Rattle.composed_value.specs.declared.value.Value.TheVariants as values
 use Rattle.placement.specs.Asked.{replicas_of}
-use Rattle.session_known.specs.Script.{kind_at, IsOneOf}
+use Rattle.session_known.specs.Script.{kind_at, IsOneOf, IsValidScript}
 use Rattle.session_known.specs.declared.report.Answer.{Answer}
 use Rattle.session_known.specs.declared.report.Answer.TheVariants as answers
 use Rattle.session_known.specs.declared.report.FinalCell.{FinalCell}
@@ -106,3 +106,7 @@ pub record HasForm (script : Script) (table : List (List ℕ)) (report : Report)
   pub answers : AllZip (λ plan answers. AllZip (Fits script plan.level) plan.lines answers) script.sessions report.answers
   pub places : map (λ cell. (cell.key, cell.worker)) report.finals ≡ final_places script table
   pub finals : All (IsFinalIn script) report.finals
+
+-- The report has the form of the script, which is valid where its keys live so.
+abbrev pub HasFormSomewhere : Script → Report → Type 0
+HasFormSomewhere script report = (table : List (List ℕ)) × IsValidScript script table × HasForm script table report

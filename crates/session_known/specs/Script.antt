@@ -64,3 +64,7 @@ pub record IsValidScript (script : Script) (table : List (List ℕ)) : Type 0 wh
   pub few_sessions : length script.sessions ≤ 16
   pub few_lines : sum_by (λ plan. length plan.lines) script.sessions ≤ 4096
   pub sessions : All (IsValidSession script table) script.sessions
+
+-- A valid script, wherever a placement of its config says that its keys live.
+abbrev pub IsValid : Script → Type 0
+IsValid script = (table : List (List ℕ)) × IsValidScript script table

@@ -101,7 +101,8 @@ impl Known {
         learned: Option<&Needs>,
     ) -> Result<(), NoMemory>
         ensures client { self.new.client ≡ self.old.client }
-        ensures ok { OnOk result (self.new.knows ≡ knows_learned self.old.knows key clock.now top (option_map (λ needs. needs.now) learned.entry)) }
+        ensures ok { OnOk result (self.new.knows ≡ knows_learned self.old.knows key clock.now top
+            (option_map (λ needs. needs.now) learned.entry)) }
         ensures err { OnErr result (self.new.knows ≡ self.old.knows) }
     {
         learn_needs(&mut self.needs, key, clock, learned)?;
@@ -280,7 +281,9 @@ fn learn_needs(
     clock: &Clock,
     learned: Option<&Needs>,
 ) -> Result<(), NoMemory>
-    ensures ok { OnOk result (known.new ≡ joined_needs (joined_needs known.old (one_need key clock.now)) (unwrap_or (option_map (λ needs. needs.now) learned.entry) [])) }
+    ensures ok { OnOk result (known.new ≡ joined_needs
+        (joined_needs known.old (one_need key clock.now))
+        (unwrap_or (option_map (λ needs. needs.now) learned.entry) [])) }
     ensures err { OnErr result (known.new ≡ known.old) }
 {
     let Some(learned) = learned else {
@@ -298,7 +301,8 @@ fn learn_needs(
 // The causal dependencies that a session of the level learns where a reply shows these: all of them where
 // it is causal.
 fn learned<'a>(level: Level, shown: Option<&'a Needs>) -> Option<&'a Needs>
-    ensures { unwrap_or (option_map (λ needs. needs.now) result) [] ≡ needs_learned level (option_map (λ needs. needs.now) shown.entry) }
+    ensures { unwrap_or (option_map (λ needs. needs.now) result) []
+        ≡ needs_learned level (option_map (λ needs. needs.now) shown.entry) }
 {
     match level {
         Level::Causal => shown,

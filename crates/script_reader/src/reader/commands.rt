@@ -42,7 +42,8 @@ impl<'a> Reader<'a> {
     /// The place of a key, counted from 0, and its kind.
     fn find_key(&self, key: &[u8]) -> Option<(usize, Kind)>
         requires kept { IsKept self.now }
-        ensures { MatchOption result (place_of (keys_of (seen self.now)) key.now ≡ None) (λ found. IsKeyAt (seen self.now) key.now found.0 found.1) }
+        ensures { MatchOption result (place_of (keys_of (seen self.now)) key.now ≡ None)
+            (λ found. IsKeyAt (seen self.now) key.now found.0 found.1) }
     {
         let place = self.keys.place_of(key)?;
         Some((place, self.kinds[place]))
@@ -53,7 +54,8 @@ impl<'a> Reader<'a> {
         requires kept { IsKept self.now }
         requires some { 1 ≤ length (seen self.now).script.sessions }
         requires within { place < length (seen self.now).script.config.keys }
-        ensures { result ≡ list_any (λ replica. replica == worker) (slice_index_or (placed (seen self.now).script.config) place []) }
+        ensures { result ≡ list_any (λ replica. replica == worker)
+            (slice_index_or (placed (seen self.now).script.config) place []) }
     {
         let Some(sessions) = &self.sessions else {
             unreachable!()
@@ -77,7 +79,8 @@ impl<'a> Reader<'a> {
     fn add(&mut self, line: Line) -> Result<(), LineFault>
         requires kept { IsKept self.old }
         requires room { HasRoom (seen self.old) }
-        ensures { MatchResult result (λ _. HasAdded self.old self.new line) (λ fault. fault ≡ LineFault.NoMemory) }
+        ensures { MatchResult result (λ _. HasAdded self.old self.new line)
+            (λ fault. fault ≡ LineFault.NoMemory) }
     {
         let Some(sessions) = &mut self.sessions else {
             unreachable!()
@@ -170,8 +173,10 @@ impl<'a> Reader<'a> {
         count: &[u8],
     ) -> Result<(), LineFault>
         requires kept { IsKept self.old }
-        requires stands { SuitsPlace (seen self.old) keywords.Await (key.now ∷ session.now ∷ count.now ∷ []) }
-        ensures { Reads self.old result self.new keywords.Await (key.now ∷ session.now ∷ count.now ∷ []) }
+        requires stands { SuitsPlace (seen self.old) keywords.Await
+            (key.now ∷ session.now ∷ count.now ∷ []) }
+        ensures { Reads self.old result self.new keywords.Await
+            (key.now ∷ session.now ∷ count.now ∷ []) }
     {
         let Some(count) = number(count) else {
             return Err(LineFault::Code(Code::Number));
@@ -198,7 +203,8 @@ impl<'a> Reader<'a> {
     /// Tests that a transaction may be begun here, or ended where one is begun.
     fn check_boundary(&self, begun: bool) -> Result<(), LineFault>
         requires kept { IsKept self.now }
-        ensures { MatchResult result (λ _. MayBound (seen self.now) begun) (IsBoundFault (seen self.now) begun) }
+        ensures { MatchResult result (λ _. MayBound (seen self.now) begun)
+            (IsBoundFault (seen self.now) begun) }
     {
         if !self.has_room() {
             return Err(LineFault::Code(Code::Limit));

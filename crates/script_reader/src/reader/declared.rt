@@ -169,7 +169,9 @@ impl<'a> Reader<'a> {
     ) -> Result<(), LineFault>
         requires kept { IsKept self.old }
         requires workers { self.old.has_workers ≡ true }
-        ensures { (words : List (List ℕ)) → AreSessionWords words name.now level → SuitsPlace (seen self.old) keywords.Session words → Reads self.old result self.new keywords.Session words }
+        ensures { (words : List (List ℕ)) → AreSessionWords words name.now level
+            → SuitsPlace (seen self.old) keywords.Session words
+            → Reads self.old result self.new keywords.Session words }
     {
         let session_name = read_name(name)?;
         if self.has_session(name) {
@@ -196,7 +198,8 @@ impl<'a> Reader<'a> {
         requires room { length (seen self.old).script.sessions < 16 }
         requires empty { plan.lines ≡ [] }
         requires ended { (seen self.old).begun ≡ false }
-        ensures { MatchResult result (λ _. HasOpened self.old self.new plan) (λ fault. fault ≡ LineFault.NoMemory) }
+        ensures { MatchResult result (λ _. HasOpened self.old self.new plan)
+            (λ fault. fault ≡ LineFault.NoMemory) }
     {
         match &mut self.sessions {
             Some(sessions) => {

@@ -2,8 +2,7 @@ use Rattle.std.proofs.Common.{rules, ◌≡◌, ℕ, List, [], Option, inl, inr,
 use Rattle.placement.specs.Config.{placed}
 use Rattle.placement.specs.ConfigLaws.{placement_is}
 use Rattle.script_reader.proofs.ValidLaws.{script_is_valid}
-use Rattle.session_known.specs.Form.{HasForm}
-use Rattle.session_known.specs.Script.{IsValidScript}
+use Rattle.session_known.specs.Form.{HasForm, HasFormSomewhere}
 use Rattle.session_known.specs.declared.report.Report.{Report}
 use Rattle.session_known.specs.declared.script.Script.{Script}
 use Rattle.report_lines.specs.Text.{text_of}
@@ -16,7 +15,7 @@ use Rattle.anna_run.specs.declared.words.Command.{Command}
 use Rattle.anna_run.proofs.run.run.Goals as goal
 
 -- a report that is served can be written
-can_write : (source : SourceUse) (script : Script) (report : Report) → HasServed source script report → (table : List (List ℕ)) × IsValidScript script table × HasForm script table report
+can_write : (source : SourceUse) (script : Script) (report : Report) → HasServed source script report → HasFormSomewhere script report
 can_write source script report served =
     let legal = served.is_legal in (
       placed script.config,
