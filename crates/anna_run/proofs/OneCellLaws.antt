@@ -19,8 +19,9 @@ use Rattle.session_known.proofs.NumberedLemmas.{made_on-append}
 use Rattle.session_known.specs.Accepted.{made_on, AreNext}
 use Rattle.session_known.specs.Script.{kind_at}
 use Rattle.session_known.specs.declared.script.Script.{Script}
+use Rattle.session_known.proofs.AcceptedLemmas.{puts_on-append}
 use Rattle.anna_run.proofs.OneWorker.{cell_at}
-use Rattle.anna_run.proofs.OnePutsLaws.{ArePutsIn, puts_on-append, each_on_key, of_kind_on, next_rest, greater_of_next, greatest_of_next, puts_in_front}
+use Rattle.anna_run.proofs.OnePutsLaws.{ArePutsIn, each_on_key, of_kind_on, next_rest, greater_of_next, greatest_of_next, puts_in_front}
 
 -- a filter keeps all where all pass
 filter_all : {X : Type 0} (test : X → Bool) (xs : List X) → All (λ x. test x ≡ true) xs → filter test xs ≡ xs

@@ -2,7 +2,6 @@
 use Rattle.std.specs.Prelude.{◌≡◌, ℕ, ◌+◌, ◌-◌, ◌%◌, ◌<◌, ◌≤◌, ◌==◌, not, nat_lt, nat_le, List, [], ◌∷◌, ◌++◌, length, map, filter, take, slice_index_or, All}
 use Rattle.std.specs.List.{flat_map, list_any, range_with_len}
 use Rattle.std.proofs.Common.{refl, sym, ap, subst, ◌∙◌, arith}
-use Rattle.std.proofs.lemmas.Bool.Decides.{nat_tests}
 use Rattle.std.proofs.lemmas.List.{length-map}
 use Rattle.std.proofs.lemmas.List.Elements.{All-nil, All-cons, All-head, All-tail, All-append, All-map, All-weaker}
 use Rattle.std.proofs.lemmas.List.FromFn.{length-range_with_len, get_or-range_with_len}
@@ -14,6 +13,7 @@ use Rattle.placement.specs.Ring.{round, workers_met, walked, point_of, points_of
 use Rattle.placement.specs.declared.config.Config.{Config}
 use Rattle.placement.specs.declared.config.KeyPlace.{KeyPlace}
 use Rattle.placement.specs.declared.ring.Point.{Point}
+use Rattle.placement.proofs.RoundLemmas.{below_or_not}
 use Rattle.session_known.specs.Form.{replicas_ascending, final_places}
 use Rattle.session_known.specs.Script.{IsValidScript}
 use Rattle.placement.specs.Asked.{replicas_of, home_at}
@@ -59,10 +59,6 @@ ring_of_one workers one =
       of_one = All-permutation IsOfOne (points_of workers) (ring_of workers) ring.all (points_of_one (range_with_len 0 16) (range_with_len 1 workers) each);
       some = subst (λ n. 0 < n) (sym (length_permutation (points_of workers) (ring_of workers) ring.all)) some;
     }
-
--- below is not at least
-below_or_not : (hash n : ℕ) → nat_lt n hash ≡ not (nat_le hash n)
-below_or_not hash n = grind (arith, nat_tests)
 
 -- once round, they are the same points
 round_of_one : (points : List Point) (hash : ℕ) → AreOfOne points → AreOfOne (round points hash)

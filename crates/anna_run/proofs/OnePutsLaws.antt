@@ -1,12 +1,13 @@
 -- Puts that a run has accepted so far: each is one that the script may lead to, and those of a session on a key are numbered 1, 2 and so on.
 use Rattle.std.specs.Prelude.{◌≡◌, ◌≢◌, ℕ, ◌+◌, ◌<◌, ◌≤◌, ◌==◌, Bool, true, false, cond, List, [], ◌∷◌, ◌++◌, length, map, filter, slice_index_or, All, Contains}
 use Rattle.std.specs.Ordering.{nat_cmp}
-use Rattle.std.proofs.Common.{refl, sym, ap, subst, ◌∙◌, inl, inr, arith, length-append}
+use Rattle.std.proofs.Common.{refl, sym, ap, subst, ◌∙◌, inl, inr, arith}
 use Rattle.std.proofs.lemmas.Bool.{eqb-true, cases_eq}
-use Rattle.std.proofs.lemmas.List.{map-append, get_or_append_left, get_or-map, length-map}
-use Rattle.std.proofs.lemmas.List.Elements.{All-nil, All-cons, All-head, All-tail, All-map, All-push, All-weaker, All-contains, Contains-get_or, filter-append}
+use Rattle.std.proofs.lemmas.List.{get_or-map, length-map}
+use Rattle.std.proofs.lemmas.List.Elements.{All-nil, All-cons, All-head, All-tail, All-map, All-push, All-weaker, All-contains, Contains-get_or}
 use Rattle.lattice_laws.specs.Entries.{IsMap}
 use Rattle.lattice_laws.specs.Greatest.{IsGreatestOrZero}
+use Rattle.lattice_laws.proofs.ListLemmas.{All-front}
 use Rattle.clock_lattice.specs.Clock.{IsCount}
 use Rattle.composed_value.specs.PlainValue.{IsPutOf}
 use Rattle.session_known.specs.Accepted.{puts_on}
@@ -31,13 +32,6 @@ pub record ArePutsIn (script : Script) (done : List (ℕ × Put)) : Type 0 where
   pub each : All (λ entry. IsPutIn script entry.0 entry.1) done
   pub numbered : (session key : ℕ) → AreNext 0 (made_on session key done)
 
--- the puts of two lists on a key
-pub puts_on-append : (key : ℕ) (done more : List (ℕ × Put)) → puts_on key (done ++ more) ≡ puts_on key done ++ puts_on key more
-puts_on-append key done more =
-    let on_key : ℕ × Put → Bool = λ entry. entry.0 == key in
-    let put_of : ℕ × Put → Put = λ entry. entry.1 in
-    ap (map put_of) (filter-append on_key done more) ∙ map-append put_of (filter on_key done) (filter on_key more)
-
 -- what holds of each put with its key holds of the puts on a key
 pub each_on_key : (P : ℕ → Put → Type 0) (key : ℕ) (done : List (ℕ × Put)) → All (λ entry. P entry.0 entry.1) done → All (P key) (puts_on key done)
 each_on_key P key [] all = All-nil (P key)
@@ -52,10 +46,6 @@ each_on_key P key (entry ∷ done) all =
 pub of_kind_on : (script : Script) (key : ℕ) (done : List (ℕ × Put)) → ArePutsIn script done → All (IsPutOf (kind_at script.kinds key)) (puts_on key done)
 of_kind_on script key done are =
     All-weaker (IsPutIn script key) (IsPutOf (kind_at script.kinds key)) (λ put is. is.of_kind) (puts_on key done) (each_on_key (IsPutIn script) key done are.each)
-
--- what holds of a list holds of its front
-pub All-front : {X : Type 0} (P : X → Type 0) (xs ys : List X) → All P (xs ++ ys) → All P xs
-All-front P xs ys all = λ k d within. subst P (get_or_append_left xs ys d k within) (all k d (omega (arith, length-append xs ys, within)))
 
 -- the front of puts that follow a number follows it
 pub next_front : (n : ℕ) (made more : List Put) → AreNext n (made ++ more) → AreNext n made

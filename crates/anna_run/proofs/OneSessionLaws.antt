@@ -19,10 +19,9 @@ use Rattle.session_known.specs.Lawful.{had_from, earlier_from}
 use Rattle.session_known.specs.Accepted.{made_on}
 use Rattle.session_known.proofs.NumberedLemmas.{made_on-append, made_here, made_elsewhere, count_put, count_put_elsewhere}
 use Rattle.session_known.specs.Script.{IsOneOf, kind_at}
-use Rattle.session_known.specs.Session.{Client, State, start, own_count, put_made, after}
+use Rattle.session_known.specs.Session.{State, start, own_count, put_made, after}
 use Rattle.session_known.specs.declared.report.Answer.{Answer}
 use Rattle.session_known.specs.declared.report.Answer.TheVariants as answers
-use Rattle.session_known.specs.declared.script.Level.TheVariants.{Eventual}
 use Rattle.session_known.specs.declared.script.Line.{Line}
 use Rattle.session_known.specs.declared.script.Line.TheVariants as lines
 use Rattle.session_known.specs.declared.script.Script.{Script}

@@ -1,5 +1,5 @@
 -- The run of one worker: what each line of eventual sessions is answered where they are served one after another.
-use Rattle.std.specs.Prelude.{ℕ, ◌+◌, ◌==◌, if◌then◌else◌, List, [], ◌∷◌, ◌++◌, map, length, None}
+use Rattle.std.specs.Prelude.{ℕ, ◌+◌, ◌==◌, if◌then◌else◌, List, [], ◌∷◌, ◌++◌, map, length}
 use Rattle.std.specs.List.{range_with_len}
 use Rattle.composed_value.specs.Cell.{PlainCell, cell_of}
 use Rattle.session_known.specs.Accepted.{puts_on}

@@ -7,10 +7,10 @@ use Rattle.std.proofs.lemmas.List.{append-nil, map-append, length-map, length-se
 use Rattle.std.proofs.lemmas.List.Elements.{All-nil, All-cons, All-head, All-tail}
 use Rattle.std.proofs.lemmas.List.FromFn.{length-map-range_with_len, get_or-map-range_with_len}
 use Rattle.lattice_laws.specs.Joins.{joined_all}
+use Rattle.lattice_laws.proofs.Joining.{joined_all-push}
 use Rattle.composed_value.specs.Cell.{PlainCell, empty_cell, one_put_cell, joined_cells, cell_of}
-use Rattle.composed_value.specs.Kind.{kind_of_value}
+use Rattle.composed_value.proofs.ValidValueLemmas.{empty_has_kind}
 use Rattle.session_known.specs.Accepted.{puts_on}
-use Rattle.composed_value.specs.Value.{empty_value}
 use Rattle.composed_value.specs.declared.kind.Kind.{Kind}
 use Rattle.composed_value.specs.declared.kind.Kind.TheVariants as kinds
 use Rattle.composed_value.specs.declared.payload.Payload.{Payload}
@@ -26,8 +26,8 @@ use Rattle.session_known.specs.declared.script.Line.{Line}
 use Rattle.session_known.specs.declared.script.Line.TheVariants as lines
 use Rattle.session_known.specs.declared.script.Script.{Script}
 use Rattle.session_known.specs.declared.script.SessionPlan.{SessionPlan}
+use Rattle.session_known.proofs.AcceptedLemmas.{puts_on-append}
 use Rattle.anna_run.specs.OneMap.{cell_for, cells_with}
-use Rattle.anna_run.proofs.OnePutsLaws.{puts_on-append}
 use Rattle.anna_run.proofs.OneWorker.{cell_at, answer_of, session_answers, run_answers, final_at, report_of}
 use Rattle.anna_run.specs.Serving.{shown_plainly}
 use Rattle.anna_run.specs.Serving.{kinds_of, CanServe, outside, answer_from, cells_merged, cells_then, knows_then, lines_answered, cells_behind, sessions_answered, cells_at_end, final_of}
@@ -35,11 +35,6 @@ use Rattle.anna_run.specs.Serving.{kinds_of, CanServe, outside, answer_from, cel
 -- the cells of all keys behind these puts
 abbrev pub cells_at : List Kind → List (ℕ × Put) → List PlainCell
 cells_at kinds done = map (cell_at kinds done) (range_with_len 1 (length kinds))
-
--- a join of one value more is the join with it
-joined_push : {P : Type 0} (joined : P → P → P) (first : P) (rest : List P) (last : P) → joined_all joined first (rest ++ last ∷ []) ≡ joined (joined_all joined first rest) last
-joined_push joined first [] last = refl
-joined_push joined first (next ∷ rest) last = joined_push joined (joined first next) rest last
 
 -- the cell of a key among them
 pub cell_found : (kinds : List Kind) (done : List (ℕ × Put)) (key : ℕ) (d : PlainCell) → 1 ≤ key → key ≤ length kinds → get_or (cells_at kinds done) (key - 1) d ≡ cell_at kinds done key
@@ -52,7 +47,7 @@ cell_here kinds done key put =
     let all : puts_on key (done ++ (key, put) ∷ []) ≡ puts_on key done ++ put ∷ [] = puts_on-append key done ((key, put) ∷ []) ∙ ap (λ more. puts_on key done ++ more) of_one in
     sym (ap (cell_of (kind_at kinds key)) all
     ∙ ap (joined_all joined_cells (empty_cell (kind_at kinds key))) (map-append one_put_cell (puts_on key done) (put ∷ []))
-    ∙ joined_push joined_cells (empty_cell (kind_at kinds key)) (map one_put_cell (puts_on key done)) (one_put_cell put))
+    ∙ joined_all-push joined_cells (empty_cell (kind_at kinds key)) (map one_put_cell (puts_on key done)) (one_put_cell put))
 
 -- and no other
 cell_elsewhere : (kinds : List Kind) (done : List (ℕ × Put)) (key other : ℕ) (put : Put) → (key ≡ other → ⊥) → cell_at kinds done other ≡ cell_at kinds (done ++ (key, put) ∷ []) other
@@ -227,17 +222,9 @@ all_can_serve script table valid eventual k d below k' d' below' =
     can_serve script table line valid.kinds (subst (λ level. MayStand script table level line) (eventual k d below) ((valid.sessions k d below).lines k' d' below'))
 
 -- the cells of no puts have their kinds
-kind_of_empty : (kind : Kind) → kind_of_value (empty_value kind) ≡ kind
-kind_of_empty kinds.Max = refl
-kind_of_empty kinds.Or = refl
-kind_of_empty kinds.Set = refl
-kind_of_empty kinds.Map = refl
-kind_of_empty kinds.Last = refl
-kind_of_empty kinds.Versions = refl
-
 pub kinds_at_start : (of_keys : List Kind) → kinds_of (map empty_cell of_keys) ≡ of_keys
 kinds_at_start [] = refl
-kinds_at_start (kind ∷ of_keys) = λ i. kind_of_empty kind i ∷ kinds_at_start of_keys i
+kinds_at_start (kind ∷ of_keys) = λ i. empty_has_kind kind i ∷ kinds_at_start of_keys i
 
 -- the cells at the end are those of all puts
 at_end : (script : Script) (cells : List PlainCell) → All (λ plan. All (CanServe script.kinds) plan.lines) script.sessions → cells ≡ cells_at_end 1 (map empty_cell script.kinds) script.sessions → cells ≡ cells_at script.kinds (accepted_from 1 script.sessions (run_answers script.kinds 1 [] script.sessions))

@@ -1,7 +1,7 @@
 -- What one worker does with a line, and with line after line.
-use Rattle.std.proofs.Common.{◌≡◌, ℕ, ◌+◌, ◌-◌, ◌<◌, ◌≤◌, ◌^◌, max, cond, ◌==◌, false, List, [], ◌∷◌, ◌++◌, length, drop, get_or, inl, inr, refl, sym, ap, subst, ◌∙◌, append_assoc, arith}
+use Rattle.std.proofs.Common.{◌≡◌, ℕ, ◌+◌, ◌-◌, ◌<◌, ◌≤◌, ◌^◌, max, cond, ◌==◌, false, List, ◌++◌, length, drop, inl, inr, refl, sym, ap, subst, ◌∙◌, arith}
 use Rattle.std.proofs.Math.Seq.{map-set_same}
-use Rattle.std.proofs.lemmas.List.{get_or-map, at_drop_more, at_drop_all, append-nil, length-map}
+use Rattle.std.proofs.lemmas.List.{get_or-map, length-map}
 use Rattle.std.proofs.lemmas.Bool.{cases_eq, ne_eqb, eq-eqb}
 use Rattle.clock_lattice.specs.Clock.{count_of, joined_clocks, one_count}
 use Rattle.composed_value.specs.Cell.{PlainCell, empty_cell}
@@ -14,19 +14,17 @@ use Rattle.composed_value.specs.declared.payload.Payload.{Payload}
 use Rattle.composed_value.specs.declared.put.Put.{Put}
 use Rattle.composed_value.specs.declared.value.Value.{Value}
 use Rattle.composed_value.specs.declared.value.Value.TheVariants.{Max, Or, Set, Map, Last, Versions}
-use Rattle.session_known.specs.Accepted.{client_of}
 use Rattle.session_known.specs.Lawful.{last_lamport}
 use Rattle.session_known.proofs.NumberedLemmas.{count_put, count_put_elsewhere}
 use Rattle.session_known.specs.Script.{kind_at}
 use Rattle.session_known.specs.Session.{Client, Knowledge, Knows, nothing_known, own_count, put_made, knows_put}
 use Rattle.session_known.specs.declared.report.Answer.{Answer}
 use Rattle.session_known.specs.declared.report.Answer.TheVariants as answers
-use Rattle.session_known.specs.declared.script.Level.TheVariants.{Eventual}
 use Rattle.session_known.specs.declared.script.Line.{Line}
 use Rattle.session_known.specs.declared.script.Line.TheVariants as lines
 use Rattle.session_known.specs.declared.script.SessionPlan.{SessionPlan}
 use Rattle.anna_run.specs.OneMap.{cell_for, cells_with}
-use Rattle.anna_run.specs.Serving.{CanServe, HasAnswered, IsKept, kinds_of, cells_then, knows_then, lines_answered, cells_behind, sessions_answered, cells_at_end}
+use Rattle.anna_run.specs.Serving.{CanServe, HasAnswered, IsKept, kinds_of, lines_answered, cells_behind, sessions_answered, cells_at_end}
 
 -- the join of two values of one kind is of that kind
 kind_joined : (a b : Value) → kind_of_value a ≡ kind_of_value b → kind_of_value (joined_values a b) ≡ kind_of_value a

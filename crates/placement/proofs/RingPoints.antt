@@ -12,7 +12,7 @@ use Rattle.placement.specs.Ring.{point_of, points_of}
 use Rattle.placement.specs.declared.ring.Point.{Point}
 
 -- one more number in a row
-range_more : (start n : ℕ) → range_with_len start (n + 1) ≡ range_with_len start n ++ (start + n) ∷ []
+pub range_more : (start n : ℕ) → range_with_len start (n + 1) ≡ range_with_len start n ++ (start + n) ∷ []
 range_more start n = sym (map-id (range_with_len start (n + 1))) ∙ map-range_with_len_more (λ (k : ℕ). k) start n (start + n) refl ∙ ap (λ (ks : List ℕ). ks ++ (start + n) ∷ []) (map-id (range_with_len start n))
 
 -- the points of a row of workers and of one more

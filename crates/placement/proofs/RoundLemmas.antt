@@ -38,7 +38,7 @@ not_below : (n hash : ℕ) → nat_le hash n ≡ not (nat_lt n hash)
 not_below n hash = grind (arith, nat_tests)
 
 -- below is not at least
-below_or_not : (hash n : ℕ) → nat_lt n hash ≡ not (nat_le hash n)
+pub below_or_not : (hash n : ℕ) → nat_lt n hash ≡ not (nat_le hash n)
 below_or_not hash n = grind (arith, nat_tests)
 
 -- The points before the cut are those below the hash, and the others are not.

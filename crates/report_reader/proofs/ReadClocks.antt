@@ -7,6 +7,7 @@ use Rattle.std.proofs.lemmas.Bool.{both_ways}
 use Rattle.std.proofs.lemmas.List.{take_rest}
 use Rattle.std.proofs.lemmas.List.Elements.{All-from_recursion, All-weaker, recursion_from_All}
 use Rattle.lattice_laws.specs.Spelling.{is_spelling_byte}
+use Rattle.lattice_laws.proofs.ListLemmas.{All-front}
 use Rattle.clock_lattice.specs.Clock.{IsClock}
 use Rattle.clock_lattice.specs.Needs.{IsNeeds}
 use Rattle.session_known.specs.Form.{AreNeedsIn, IsClockIn, NamesSessions}
@@ -18,7 +19,7 @@ use Rattle.report_lines.proofs.NamesLemmas.{TellsNames, key_spelled, session_spe
 use Rattle.report_reader.specs.ReadNeeds.{IsNeedIn, open_text}
 use Rattle.report_lines.proofs.RenderingLemmas.{Passes, Stops, both_pass, made_of}
 use Rattle.report_lines.specs.Text.{clock_word, count_text, key_name, need_text, session_name}
-use Rattle.report_reader.proofs.ReadRows.{AreRead, IsCut, IsNext, IsNoRow, Lacks, PieceLaws, RowLaws, all_front, lacks_failing, left_again, map_front, no_cut, no_row, one_read, same_cut}
+use Rattle.report_reader.proofs.ReadRows.{AreRead, IsCut, IsNext, IsNoRow, Lacks, PieceLaws, RowLaws, lacks_failing, left_again, map_front, no_cut, no_row, one_read, same_cut}
 
 -- ---- clocks
 
@@ -45,7 +46,7 @@ module _ (script : Script) (names : TellsNames script) where
   pub clock_row : PieceLaws (IsClockIn script) (IsCounted script) 44 (count_text script)
   clock_row = record {
     items = clock_counted script;
-    front = λ xs ys is. record { is_clock = map_front _ _ _ xs ys is.is_clock; sessions = all_front (λ entry. IsOneOf (length script.sessions) entry.0) xs ys is.sessions };
+    front = λ xs ys is. record { is_clock = map_front _ _ _ xs ys is.is_clock; sessions = All-front (λ entry. IsOneOf (length script.sessions) entry.0) xs ys is.sessions };
     whole = λ entry is. lacks_failing (made_of (codes ":")) 44 refl (count_text script entry) (count_passes script names (codes ":") refl entry is);
     told = λ a b is_a is_b same. (count_tells script names a b [] [] is_a is_b tt tt (ap (λ text. text ++ []) same)).0;
   }
@@ -79,8 +80,8 @@ module _ (script : Script) (names : TellsNames script) where
     items = λ needs are. recursion_from_All (IsNeedIn script) needs (λ k d lt. (are.keys k d lt, record { is_clock = (are.are_needs.are_entries k d lt).1.0; sessions = are.sessions k d lt }));
     front = λ needs others are. record {
       are_needs = map_front _ _ _ needs others are.are_needs;
-      keys = all_front (λ entry. IsOneOf (length script.config.keys) entry.0) needs others are.keys;
-      sessions = all_front (λ entry. NamesSessions script entry.1) needs others are.sessions;
+      keys = All-front (λ entry. IsOneOf (length script.config.keys) entry.0) needs others are.keys;
+      sessions = All-front (λ entry. NamesSessions script entry.1) needs others are.sessions;
     };
     tells = λ a b us vs is_a is_b stops_us stops_vs same. need_told a b us vs is_a is_b same;
   }

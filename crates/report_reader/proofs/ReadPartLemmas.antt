@@ -5,10 +5,11 @@ use Rattle.std.proofs.Common.{refl, sym, ap, ◌∙◌, arith}
 use Rattle.std.proofs.lemmas.Grind.{flat_map-append}
 use Rattle.std.proofs.lemmas.List.Elements.{filter-append}
 use Rattle.std.proofs.lemmas.List.Filters.{length-filter_both}
-use Rattle.std.proofs.lemmas.List.FromFn.{length-range_with_len, map-range_with_len_more}
+use Rattle.std.proofs.lemmas.List.FromFn.{length-range_with_len}
 use Rattle.std.proofs.lemmas.List.Sums.{sum_by-cons}
-use Rattle.std.proofs.lemmas.List.{append_assoc, append-nil, length-append, length-map, map-append, map-id}
+use Rattle.std.proofs.lemmas.List.{append_assoc, append-nil, length-append, length-map, map-append}
 use Rattle.placement.specs.Name.{IsName}
+use Rattle.placement.proofs.RingPoints.{range_more}
 use Rattle.session_known.specs.Form.{final_places, replicas_ascending}
 use Rattle.session_known.specs.Script.{IsValidScript}
 use Rattle.placement.specs.Asked.{replicas_of}
@@ -42,10 +43,6 @@ fault_so (Ok x) P Q is each = tt
 fault_so (Err fault) P Q is each = each fault is
 
 -- ---- where final cells stand
-
--- one number more
-range_more : (start n : ℕ) → range_with_len start (n + 1) ≡ range_with_len start n ++ (start + n) ∷ []
-range_more start n = sym (map-id (range_with_len start (n + 1))) ∙ map-range_with_len_more (λ (k : ℕ). k) start n (start + n) refl ∙ ap (λ (ks : List ℕ). ks ++ (start + n) ∷ []) (map-id (range_with_len start n))
 
 -- the replicas of a key among the first workers
 abbrev pub replicas_within : List ℕ → ℕ → List ℕ

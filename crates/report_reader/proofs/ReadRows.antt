@@ -7,13 +7,14 @@ use Rattle.std.specs.FinMap.Entries.{below_all}
 use Rattle.std.specs.List.{All, AllByRecursion, join_with_byte, list_all, list_any, onto_first, slice_split}
 use Rattle.std.proofs.lemmas.Bool.{both_ways, and_parts, and_from, or_parts, or_from}
 use Rattle.std.proofs.lemmas.Bool.Decides.{nat_tests}
-use Rattle.std.proofs.lemmas.List.{append-nil, append_assoc, drop_all, drop_more, get_or-map, length-append, length-map, map-append, take_at}
-use Rattle.std.proofs.lemmas.List.Elements.{All-from_recursion, All-take}
+use Rattle.std.proofs.lemmas.List.{append-nil, append_assoc, drop_all, drop_more, get_or-map, length-append, length-map, map-append}
+use Rattle.std.proofs.lemmas.List.Elements.{All-from_recursion}
 use Rattle.std.proofs.lemmas.List.Splits.{join_with_byte-slice_split, length-slice_split}
 use Rattle.lattice_laws.specs.Ascending.{and_left, and_right, and_both}
 use Rattle.lattice_laws.specs.Entries.{IsEntry, IsMap, IsPushed}
 use Rattle.report_reader.specs.ReadRows.{IsRow}
 use Rattle.report_reader.specs.Reads.{Reads}
+use Rattle.lattice_laws.proofs.ListLemmas.{All-front}
 use Rattle.report_lines.proofs.RenderingLemmas.{Passes, Stops, Tells, cut_at, cut_once, not_passes}
 use Rattle.report_lines.proofs.RowsLemmas.{both_all}
 
@@ -259,10 +260,6 @@ module _ {R X : Type 0} {now : R → List ℕ} {IsItem : X → Type 0} {c : ℕ}
 
 -- ---- what comes first
 
--- what holds of each element holds of each that comes first
-pub all_front : {X : Type 0} (P : X → Type 0) (xs ys : List X) → All P (xs ++ ys) → All P xs
-all_front P xs ys all = subst (All P) (take_at xs ys (length xs) refl) (All-take P (length xs) (xs ++ ys) all)
-
 module _ {K P : Type 0} (cmp : K → K → Ordering) where
   -- a key that is below all is below those that come first
   below_front : (key : K) (es fs : List (K × P)) → IsTrue (below_all cmp key (es ++ fs)) → IsTrue (below_all cmp key es)
@@ -276,7 +273,7 @@ module _ {K P : Type 0} (cmp : K → K → Ordering) where
 
   -- a map's first entries are a map
   pub map_front : (is_key : K → Type 0) (is_value : P → Type 0) (es fs : List (K × P)) → IsMap cmp is_key is_value (es ++ fs) → IsMap cmp is_key is_value es
-  map_front is_key is_value es fs is = record { ascending = sorted_front es fs is.ascending; are_entries = all_front (IsEntry is_key is_value) es fs is.are_entries }
+  map_front is_key is_value es fs is = record { ascending = sorted_front es fs is.ascending; are_entries = All-front (IsEntry is_key is_value) es fs is.are_entries }
 
 -- ---- lists of which nothing may be there
 

@@ -11,6 +11,7 @@ use Rattle.std.proofs.lemmas.List.Folds.{list_any-append}
 use Rattle.std.proofs.lemmas.List.Sums.{list_all-from_AllPass}
 use Rattle.lattice_laws.specs.Sets.{as_map, IsSet}
 use Rattle.lattice_laws.specs.Spelling.{is_spelling_byte}
+use Rattle.lattice_laws.proofs.ListLemmas.{All-front}
 use Rattle.basic_lattices.specs.TextSet.{IsTextSet}
 use Rattle.basic_lattices.specs.Word.{IsWord}
 use Rattle.composed_value.specs.Value.{IsFields}
@@ -24,7 +25,7 @@ use Rattle.report_lines.proofs.NamesLemmas.{Spelled, TellsNames, spelled_made, d
 use Rattle.report_reader.specs.ReadValues.{IsField, IsVersionIn, AreVersionsIn}
 use Rattle.report_lines.proofs.RenderingLemmas.{Passes, made_of, both_pass, cut_once}
 use Rattle.report_lines.specs.Text.{clock_word, field_text, version_text}
-use Rattle.report_reader.proofs.ReadRows.{Lacks, PieceLaws, all_front, lacks_failing, map_front, sorted_front}
+use Rattle.report_reader.proofs.ReadRows.{Lacks, PieceLaws, lacks_failing, map_front, sorted_front}
 
 -- ---- words
 
@@ -42,7 +43,7 @@ word_lacks c fails word is = lacks_failing is_spelling_byte c fails word (word_s
 set_front : {K : Type 0} (cmp : K → K → Ordering) (is_member : K → Type 0) (xs ys : List K) → IsSet cmp is_member (xs ++ ys) → IsSet cmp is_member xs
 set_front {K} cmp is_member xs ys is = record {
   ascending = sorted_front cmp (as_map xs) (as_map ys) (ap (is_sorted cmp) (sym (map-append (λ (member : K). (member, tt)) xs ys)) ∙ is.ascending);
-  are_members = all_front is_member xs ys is.are_members;
+  are_members = All-front is_member xs ys is.are_members;
 }
 
 -- an antichain's first members are one
@@ -50,7 +51,7 @@ antichain_front : {E : Type 0} (cmp : E → E → Ordering) (is_member : E → T
 antichain_front cmp is_member below xs ys is = record {
   is_set = set_front cmp is_member xs ys is.is_set;
   none_below = All-weaker (λ x. list_any (below x) (xs ++ ys) ≡ false) (λ x. list_any (below x) xs ≡ false)
-      (λ x none. (or_parts (list_any (below x) xs) (list_any (below x) ys) (sym (list_any-append (below x) xs ys) ∙ none)).0) xs (all_front (λ x. list_any (below x) (xs ++ ys) ≡ false) xs ys is.none_below);
+      (λ x none. (or_parts (list_any (below x) xs) (list_any (below x) ys) (sym (list_any-append (below x) xs ys) ∙ none)).0) xs (All-front (λ x. list_any (below x) (xs ++ ys) ≡ false) xs ys is.none_below);
 }
 
 -- ---- sets
@@ -121,5 +122,5 @@ module _ (script : Script) (names : TellsNames script) where
     items = versions_are;
     whole = λ version is. lacks_failing (made_of (codes "(:,)")) 124 refl (version_text script version) (version_passes version is);
     told = version_told;
-    front = λ xs ys are. (antichain_front _ _ _ xs ys are.0, all_front (λ version. NamesSessions script version.clock) xs ys are.1);
+    front = λ xs ys are. (antichain_front _ _ _ xs ys are.0, All-front (λ version. NamesSessions script version.clock) xs ys are.1);
   }

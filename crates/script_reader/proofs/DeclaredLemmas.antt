@@ -34,7 +34,7 @@ use Rattle.script_reader.specs.declared.reader.LineFault.{LineFault}
 use Rattle.script_reader.specs.declared.reader.LineFault.TheVariants as faults
 use Rattle.script_reader.specs.declared.reader.Reader.{Reader}
 use Rattle.script_reader.specs.declared.reader.Sessions.{Sessions}
-use Rattle.script_reader.proofs.PinLemmas.{AreNumbers}
+use Rattle.script_reader.proofs.PinLemmas.{AreNumbers, either_first}
 
 -- ---- tests
 
@@ -55,10 +55,6 @@ or_true true = refl
 or_true false = refl
 
 -- one of two tests holds, or neither
-pub either_first : (a b : Bool) → a ≡ true → (a || b) ≡ true
-either_first true b is = refl
-either_first false b is = absurd cc
-
 pub either_second : (a b : Bool) → b ≡ true → (a || b) ≡ true
 either_second true b is = refl
 either_second false b is = is

@@ -35,9 +35,10 @@ repeats_as false true c d = refl
 repeats_as false false true d = refl
 repeats_as false false false d = refl
 
-or_first : (a b : Bool) → a ≡ true → (a || b) ≡ true
-or_first true b is = refl
-or_first false b is = absurd cc
+-- one of two tests holds where the first does
+pub either_first : (a b : Bool) → a ≡ true → (a || b) ≡ true
+either_first true b is = refl
+either_first false b is = absurd cc
 
 -- a number more stands twice, where it is among the numbers, or one of them stands twice
 pub repeats_push : (numbers : List ℕ) (n : ℕ) → has_repeat (numbers ++ n ∷ []) ≡ (list_any (λ other. n == other) numbers || has_repeat numbers)
@@ -52,7 +53,7 @@ or_both false true c d first second is = refl
 or_both false false c d first second is = second is
 
 any_stays : (test : ℕ → Bool) (front back : List ℕ) → list_any test front ≡ true → list_any test (front ++ back) ≡ true
-any_stays test front back is = list_any-append test front back ∙ or_first _ (list_any test back) is
+any_stays test front back is = list_any-append test front back ∙ either_first _ (list_any test back) is
 
 -- what stands twice in a front stands twice in the whole
 pub repeats_stay : (front back : List ℕ) → has_repeat front ≡ true → has_repeat (front ++ back) ≡ true
@@ -72,5 +73,5 @@ pub repeats_found : (numbers : List ℕ) (i : ℕ) (met : List ℕ) → i < leng
 repeats_found numbers i met within are there =
     let front : has_repeat (take (i + 1) numbers) ≡ true =
     ap has_repeat (take_more numbers i 0 within) ∙ repeats_push (take i numbers) (get_or numbers i 0)
-    ∙ or_first _ (has_repeat (take i numbers)) (ap (list_any (eqb (get_or numbers i 0))) (sym are) ∙ there) in
+    ∙ either_first _ (has_repeat (take i numbers)) (ap (list_any (eqb (get_or numbers i 0))) (sym are) ∙ there) in
     ap has_repeat (sym (take-append-drop (i + 1) numbers)) ∙ repeats_stay (take (i + 1) numbers) (drop (i + 1) numbers) front

@@ -7,7 +7,7 @@ use Rattle.std.specs.Str.Parse.{digits_value}
 use Rattle.std.proofs.Common.{zero, suc, refl, sym, ap, subst, ◌∙◌, arith}
 use Rattle.std.proofs.lemmas.Bool.{ltb-false, ltb-true, true≢false, false≢true, both_ways, not-false, leb-true, eqb-true, eqb-false, and_parts, or_parts}
 use Rattle.std.proofs.lemmas.List.{get_or_default}
-use Rattle.std.proofs.lemmas.List.Elements.{All-nil, All-cons, All-push}
+use Rattle.std.proofs.lemmas.List.Elements.{All-push}
 use Rattle.std.proofs.lemmas.List.Folds.{Any-from_list_any, list_any_none}
 use Rattle.std.proofs.lemmas.List.Quantifiers.{all_pairs_push, position-Some}
 use Rattle.std.proofs.lemmas.List.Sums.{fails_before_first, AllPass-from_list_all}
@@ -15,6 +15,7 @@ use Rattle.std.proofs.lemmas.Option.{get_or_from_slice_get, same_Some, cond_some
 use Rattle.std.proofs.lemmas.Slice.Eq.{bytes_eq-Decides}
 use Rattle.lattice_laws.specs.Spelling.{is_spelling_byte, IsSpelled}
 use Rattle.basic_lattices.specs.Word.{IsWord}
+use Rattle.lattice_laws.proofs.ListLemmas.{none_passes}
 use Rattle.composed_value.specs.Kind.{kind_of}
 use Rattle.composed_value.specs.Put.{IsPayload}
 use Rattle.composed_value.specs.declared.kind.Kind.{Kind}
@@ -35,13 +36,6 @@ pub within_is : (least greatest n : ℕ) → is_within least greatest n ≡ true
 within_is least greatest n is =
     let both = and_parts (nat_le least n) (nat_le n greatest) is in
     (leb-true least n both.0, leb-true n greatest both.1)
-
--- where a test passes nowhere, it fails at each element
-pub none_passes : {X : Type 0} (test : X → Bool) (xs : List X) → list_any test xs ≡ false → All (λ x. test x ≡ false) xs
-none_passes test [] none = All-nil (λ x. test x ≡ false)
-none_passes test (x ∷ xs) none =
-    let both = or_parts (test x) (list_any test xs) none in
-    All-cons (λ x. test x ≡ false) x xs both.0 (none_passes test xs both.1)
 
 -- each of the numbers is a worker, where none is out of the bounds
 pub are_workers : (workers : ℕ) (pins : List ℕ) → list_any (λ pin. not (is_within 1 workers pin)) pins ≡ false → All (IsWorker workers) pins

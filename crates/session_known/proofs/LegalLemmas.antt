@@ -1,13 +1,12 @@
 -- What legal reports have in common, whoever wrote them.
-use Rattle.std.specs.Prelude.{◌≡◌, ℕ, zero, suc, ◌<◌, ◌≤◌, ◌==◌, IsTrue, List, [], ◌∷◌, ◌++◌, length, map, slice_index_or, Contains}
-use Rattle.std.specs.List.{AllZip}
-use Rattle.std.proofs.Common.{sym, ap, subst, subst₂, ◌∙◌, arith}
+use Rattle.std.specs.Prelude.{◌≡◌, ℕ, ◌≤◌, ◌==◌, IsTrue, List, [], ◌∷◌, length, map, slice_index_or, Contains}
+use Rattle.std.proofs.Common.{sym, ap, subst, ◌∙◌, arith}
 use Rattle.std.proofs.lemmas.Bool.{eqb-true}
 use Rattle.std.proofs.lemmas.List.Elements.{All-contains, Contains-get_or}
 use Rattle.lattice_laws.proofs.GreatestOfListsLemmas.{greatest_or_zero_is_single}
 use Rattle.lattice_laws.proofs.MembersLemmas.{contains_filtered}
 use Rattle.clock_lattice.specs.Clock.{IsClock, count_of, joined_clocks, one_count, covers}
-use Rattle.clock_lattice.specs.ClockLaws.{same_counts, counts_from_covers, covers_from_counts}
+use Rattle.clock_lattice.specs.ClockLaws.{same_counts, counts_from_covers}
 use Rattle.clock_lattice.specs.Needs.{clock_at}
 use Rattle.composed_value.specs.PlainValue.{puts_of_session}
 use Rattle.composed_value.proofs.PlainValueLemmas.{value_is_single}
@@ -16,13 +15,13 @@ use Rattle.composed_value.specs.declared.kind.Kind.{Kind}
 use Rattle.composed_value.specs.declared.put.Put as puts
 use Rattle.session_known.specs.Accepted.{puts_on, made_on, AreNext, accepted, accepted_from}
 use Rattle.session_known.specs.Form.{Fits, IsFinalIn}
-use Rattle.session_known.proofs.KnownLemmas.{CountsAtMost, first_at_most, shown_is_known, known_at_line}
-use Rattle.session_known.specs.Lawful.{ShowsAt, by_get, by_await, required_by_get, IsLawful, AreLawful, IsTrueOf, CountsAccepted}
-use Rattle.session_known.specs.Laws.{FinalsAgree, IsReplyAt, LaterRepliesCover}
+use Rattle.session_known.proofs.KnownLemmas.{CountsAtMost, first_at_most, shown_is_known}
+use Rattle.session_known.specs.Lawful.{ShowsAt, by_get, by_await, required_by_get, IsLawful, IsTrueOf, CountsAccepted}
+use Rattle.session_known.specs.Laws.{FinalsAgree}
 use Rattle.session_known.specs.Legal.{AreLawfulFrom, IsLawfulFinal, IsLegalAt}
 use Rattle.session_known.proofs.NumberedLemmas.{number_at, numbered_from_next, accepted_are_next}
 use Rattle.session_known.specs.Script.{kind_at}
-use Rattle.session_known.specs.Session.{Client, State, start, after}
+use Rattle.session_known.specs.Session.{Client, State, after}
 use Rattle.session_known.specs.declared.report.Answer.{Answer}
 use Rattle.session_known.specs.declared.report.FinalCell.{FinalCell}
 use Rattle.session_known.specs.declared.report.Report.{Report}

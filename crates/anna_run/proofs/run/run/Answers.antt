@@ -1,4 +1,4 @@
-use Rattle.std.proofs.Common.{rules, ◌≡◌, ℕ, List, [], Option, inl, inr, refl, sym, subst}
+use Rattle.std.proofs.Common.{rules, ◌≡◌, Option, inl, inr, refl, sym, subst}
 use Rattle.placement.specs.Config.{placed}
 use Rattle.placement.specs.ConfigLaws.{placement_is}
 use Rattle.script_reader.proofs.ValidLaws.{script_is_valid}
@@ -10,7 +10,7 @@ use Rattle.anna_run.specs.Outcomes.{IsOwed}
 use Rattle.anna_run.specs.Run.{SourceUse, HasServed, Owed, served_forms}
 use Rattle.anna_run.specs.declared.run.Outcome.{Outcome}
 use Rattle.anna_run.specs.declared.run.Outcome.TheVariants as outcomes
-use Rattle.anna_run.specs.declared.run.Status.TheVariants.{Done, NoMemory}
+use Rattle.anna_run.specs.declared.run.Status.TheVariants.{Done}
 use Rattle.anna_run.specs.declared.words.Command.{Command}
 use Rattle.anna_run.proofs.run.run.Goals as goal
 

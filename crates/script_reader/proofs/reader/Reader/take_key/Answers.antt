@@ -5,7 +5,8 @@ use Rattle.std.proofs.lemmas.Result.{err_from_is_err_and}
 use Rattle.script_reader.specs.Faults.{has_repeat, code_of}
 use Rattle.script_reader.specs.Reader.{seen}
 use Rattle.script_reader.specs.declared.keyword.Keyword.TheVariants as keywords
-use Rattle.script_reader.proofs.DeclaredLemmas.{name_fault, numbers_read, numbers_unread, either_first, either_second, neither, declared_is, key_number, key_name, key_twice, key_unknown, key_limit, key_read, few_workers, workers_told}
+use Rattle.script_reader.proofs.PinLemmas.{either_first}
+use Rattle.script_reader.proofs.DeclaredLemmas.{name_fault, numbers_read, numbers_unread, either_second, neither, declared_is, key_number, key_name, key_twice, key_unknown, key_limit, key_read, few_workers, workers_told}
 use Rattle.script_reader.proofs.reader.Reader.take_key.Goals as goal
 use Rattle.script_reader.proofs.reader.Reader.take_key.Goals.{then-is_some-via-then-is_some, then-is_some-via-else-is_some+in_ok-has_repeat+then-branch}
 
