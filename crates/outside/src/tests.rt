@@ -203,8 +203,9 @@ fn write_pieces<K: Sink>(sink: &mut K, pieces: &[Vec<u8>]) -> Result<(), Failed>
 fn a_text_is_given_in_whole_blocks(rt: HostRuntime) -> Result<(), Fail> {
     let pieces = pieces(rt.alloc())?;
     let text = whole(rt.alloc(), &pieces)?;
-    let most_calls = (text.len() / BLOCK) as u32 + 2;
-    let mut sink = MemSink::new(rt.alloc(), [most_calls + 1].to_vec(rt.alloc())?)?;
+    // The call after the most that may be made would fail.
+    let one_too_many = u32::try_from(text.len() / BLOCK + 3).unwrap_or(1);
+    let mut sink = MemSink::new(rt.alloc(), [one_too_many].to_vec(rt.alloc())?)?;
     assert_eq!(rt; write_pieces(&mut sink, &pieces), Ok(()));
     assert_eq!(rt; sink.written(), text.as_slice());
     Ok(())
@@ -215,7 +216,8 @@ fn after_a_failed_call_nothing_is_given(rt: HostRuntime) -> Result<(), Fail> {
     let pieces = pieces(rt.alloc())?;
     let text = whole(rt.alloc(), &pieces)?;
     for failing in 1..=text.len().div_ceil(BLOCK) {
-        let mut sink = MemSink::new(rt.alloc(), [failing as u32].to_vec(rt.alloc())?)?;
+        let call = u32::try_from(failing).unwrap_or(0);
+        let mut sink = MemSink::new(rt.alloc(), [call].to_vec(rt.alloc())?)?;
         assert_eq!(rt; write_pieces(&mut sink, &pieces), Err(Failed));
         assert_eq!(rt; sink.written(), &text[..(failing - 1) * BLOCK]);
     }

@@ -1,18 +1,21 @@
 //! Reports that are read and written back.
 
 use super::*;
-use script_reader::outside::{Failed, MemSink, SureSink};
+use script_reader::outside::{Failed, MemSink, Sink, SureSink};
 use script_reader::read_script;
 use std::alloc::Global;
 use std::test::Fail;
 
-/// Whether a text is read as a report of the script, and written back to equal bytes.
-fn is_read_back(alloc: Global, script: &str, text: &[u8]) -> Result<bool, Fail> {
+/// Reads a text as a report of the script, and writes that to a sink.
+fn write_back<K: Sink>(
+    alloc: Global,
+    script: &str,
+    text: &[u8],
+    sink: &mut K,
+) -> Result<Result<(), Failed>, Fail> {
     let script = read_script(alloc, script.as_bytes())?;
     let report = read_report(alloc, &script, text)?;
-    let mut sink = SureSink::new(alloc, 65_536)?;
-    let written = write_report(&script, &report, &mut sink);
-    Ok(written.is_ok() && sink.written() == text)
+    Ok(write_report(&script, &report, sink))
 }
 
 /// Scripts, each with a report of its form.
@@ -54,20 +57,25 @@ const WORKED: [(&str, &str); 8] = [
 #[test]
 fn worked_reports_are_read_back(rt: HostRuntime) -> Result<(), Fail> {
     for (script, report) in WORKED {
-        assert!(rt; is_read_back(rt.alloc(), script, report.as_bytes())?);
+        let text = report.as_bytes();
+        let mut sink = SureSink::new(rt.alloc(), 65_536)?;
+        assert_eq!(rt; write_back(rt.alloc(), script, text, &mut sink)?, Ok(()));
+        assert_eq!(rt; sink.written(), text);
     }
     Ok(())
 }
 
 #[test]
 fn a_failed_write_ends_a_report(rt: HostRuntime) -> Result<(), Fail> {
-    let (script, text) = WORKED[0];
-    let script = read_script(rt.alloc(), script.as_bytes())?;
-    let report = read_report(rt.alloc(), &script, text.as_bytes())?;
+    let (script, report) = WORKED[0];
+    let text = report.as_bytes();
     let mut sink = MemSink::new(rt.alloc(), [1, 3].to_vec(rt.alloc())?)?;
-    assert_eq!(rt; write_report(&script, &report, &mut sink), Err(Failed));
+    assert_eq!(rt;
+        write_back(rt.alloc(), script, text, &mut sink)?,
+        Err(Failed)
+    );
     assert_eq!(rt; sink.written(), b"".as_slice());
-    assert_eq!(rt; write_report(&script, &report, &mut sink), Ok(()));
-    assert_eq!(rt; sink.written(), text.as_bytes());
+    assert_eq!(rt; write_back(rt.alloc(), script, text, &mut sink)?, Ok(()));
+    assert_eq!(rt; sink.written(), text);
     Ok(())
 }

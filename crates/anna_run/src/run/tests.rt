@@ -317,7 +317,7 @@ fn refuses_a_script_at_a_line_with_a_code(rt: HostRuntime) -> Result<(), Fail> {
 }
 
 /// Lines that take the place of the first put of the first script, and the code that refuses each.
-const REFUSED: [(&str, u32); 14] = [
+const REFUSED: [(&str, u8); 14] = [
     ("put a", 2),
     ("put a 5 6", 7),
     ("put a x", 7),
