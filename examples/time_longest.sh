@@ -72,13 +72,17 @@ make_puts() {
     }'
 }
 
-# Runs the script, and says how long that took.
+# Runs the script so many times, and says how long one run took.
 time_run() {
-    local begun ended
-    begun=$(date +%s%N)
-    "$top/anna" run <"$folder/script" >"$folder/report" || exit 1
-    ended=$(date +%s%N)
-    echo "$1, $(wc -c <"$folder/script") bytes in, $(wc -c <"$folder/report") bytes out: $(((ended - begun) / 1000000)) ms"
+    local begun ended turn took=0
+    for ((turn = 0; turn < $2; turn++)); do
+        rm -f "$folder/report" # emptying a long one takes time of its own
+        begun=$(date +%s%N)
+        "$top/anna" run <"$folder/script" >"$folder/report" || exit 1
+        ended=$(date +%s%N)
+        took=$((took + ended - begun))
+    done
+    echo "$1, $(wc -c <"$folder/script") bytes in, $(wc -c <"$folder/report") bytes out: $((took / $2 / 1000000)) ms"
 }
 
 # Checks the report of the script, and says how long that took.
@@ -93,12 +97,12 @@ time_check() {
 "$top/anna" run <"$top/examples/first.anna" >/dev/null || exit 1 # builds it where that is due
 for commands in 1024 2048 4096; do
     make_script "$commands" $((commands * 256)) >"$folder/script"
-    time_run "$commands commands"
+    time_run "$commands commands" 5
     time_check "$commands commands"
 done
 for kind in set map; do
     make_words "$kind" >"$folder/script"
-    time_run "2048 puts of words into one $kind with a get after each"
+    time_run "2048 puts of words into one $kind with a get after each" 1
 done
 make_puts >"$folder/script"
-time_run "4096 puts by 16 sessions to one key"
+time_run "4096 puts by 16 sessions to one key" 50
