@@ -6,7 +6,7 @@ use Rattle.outside.proofs.OutsideLemmas.{Grew-more, Grew-none}
 use Rattle.outside.specs.Gathering.{Passes, Adds, Begins, HasEnded, EndsAs, Wrote}
 use Rattle.outside.specs.Outside.{Grew, GrewByFront, HasCause, Rose}
 use Rattle.outside.specs.declared.Failed.{Failed}
-use Rattle.outside.specs.declared.out.Out.{Out}
+use Rattle.outside.specs.declared.gathering.Out.{Out}
 
 -- a front of what was held and then written is a front of that with more after it
 front_more : (a b : Option (List ℕ)) (held t u : List ℕ) → GrewByFront a b (held ++ t) → GrewByFront a b (held ++ (t ++ u))

@@ -2,7 +2,7 @@
 use Rattle.std.specs.Prelude.{◌≡◌, ℕ, ◌≤◌, List, [], ◌++◌, Option, Bool, true, false, Result, Ok, Err}
 use Rattle.outside.specs.Outside.{Grew, GrewByFront, Rose}
 use Rattle.outside.specs.declared.Failed.{Failed}
-use Rattle.outside.specs.declared.out.Out.{Out}
+use Rattle.outside.specs.declared.gathering.Out.{Out}
 
 -- Nothing is gathered on the way to this sink, and it has not failed.
 abbrev pub Begins : {K : Type 0} → K → Out K → Type 0

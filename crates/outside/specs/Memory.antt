@@ -1,6 +1,6 @@
 -- Ends over memory: which calls of theirs fail.
 use Rattle.std.specs.Prelude.{ℕ, ◌+◌, ◌-◌, ◌^◌, min, nat_le, Bool, true, not, ◌||◌, if◌then◌else◌, List, ◌++◌, length, Contains, Option, Some, None, Result}
-use Rattle.outside.specs.Outside.{counted}
+use Rattle.outside.specs.Outside.{faults_after}
 
 -- the number of the next call, from 1, at most 2 ^ 32 - 1
 abbrev pub next_call : ℕ → ℕ
@@ -18,8 +18,8 @@ pub record BoundedSink : Type 0 where
   pub room : ℕ
 
 -- what it tells: all that was written, until there is a gap
-abbrev pub told : BoundedSink → Option (List ℕ)
-told sink = if sink.gap then None else Some sink.kept
+abbrev pub written_of : BoundedSink → Option (List ℕ)
+written_of sink = if sink.gap then None else Some sink.kept
 
 -- The sink with one more piece: from the first that does not fit on there is a gap, and nothing more is kept.
 abbrev pub with_piece : BoundedSink → List ℕ → BoundedSink
@@ -41,7 +41,7 @@ FailsNext plan = Contains plan.failing (next_call plan.calls)
 
 -- the plan after one more call: it is counted, and a fault where it failed
 abbrev pub after_call : {T E : Type 0} → Faults → Result T E → Faults
-after_call plan result = record plan { calls = next_call plan.calls; faults = counted plan.faults result }
+after_call plan result = record plan { calls = next_call plan.calls; faults = faults_after plan.faults result }
 
 -- a source: the bytes that are left, and which of its calls fail
 pub record FailingSource : Type 0 where

@@ -3,17 +3,17 @@ use Rattle.std.specs.Prelude.{◌≡◌, ℕ, ◌+◌, ◌-◌, ◌^◌, ◌<◌
 use Rattle.outside.specs.declared.Failed.{Failed}
 
 -- a count of faults with one more, at most 2 ^ 64 - 1
-abbrev pub raised : ℕ → ℕ
-raised faults = min (faults + 1) (2 ^ 64 - 1)
+abbrev pub one_fault_more : ℕ → ℕ
+one_fault_more faults = min (faults + 1) (2 ^ 64 - 1)
 
 -- a count of faults after a call that counts one fault where it failed, and else none
-abbrev pub counted : {T E : Type 0} → ℕ → Result T E → ℕ
-counted faults (Ok done) = faults
-counted faults (Err failed) = raised faults
+abbrev pub faults_after : {T E : Type 0} → ℕ → Result T E → ℕ
+faults_after faults (Ok done) = faults
+faults_after faults (Err failed) = one_fault_more faults
 
 -- The count of faults rose, or stands at the end of its type.
 abbrev pub Rose : ℕ → ℕ → Type 0
-Rose before now = raised before ≤ now
+Rose before now = one_fault_more before ≤ now
 
 -- The count has not fallen, and where the call failed it rose.
 abbrev pub HasCause : {T E : Type 0} → ℕ → ℕ → Result T E → Type 0

@@ -1,7 +1,7 @@
 //! std's readers and writers as a source and a sink. They tell no bytes: no contract can say what
 //! the world gives or takes, and these few lines are trusted in its place.
 ghost use Rattle.std.specs.Prelude.{◌≡◌, ◌<◌, ◌≤◌, None, IfOk, OnErr, length, take};
-ghost use Rattle.outside.specs.Outside.{Takes, Grew, HasCause, counted};
+ghost use Rattle.outside.specs.Outside.{Takes, Grew, HasCause, faults_after};
 
 use crate::{Failed, Sink, Source};
 use std::io::{Read, Write};
@@ -48,7 +48,7 @@ impl<R: Read> Source for ReadSource<R> {
         ensures bound { IfOk result (λ n. n ≤ length into.new) }
         ensures bytes { Takes None None result into.new }
         ensures cause { HasCause self.old self.new result }
-        ensures counts { self.new ≡ counted self.old result }
+        ensures counts { self.new ≡ faults_after self.old result }
     {
         match self.reader.read(into) {
             Ok(taken) => Ok(taken),
@@ -104,7 +104,7 @@ impl<W: Write> Sink for WriteSink<W> {
         ensures bytes { IfOk result (λ n. Grew None None (take n piece.now)) }
         ensures nothing { OnErr result (Grew None None (take 0 piece.now)) }
         ensures cause { HasCause self.old self.new result }
-        ensures counts { self.new ≡ counted self.old result }
+        ensures counts { self.new ≡ faults_after self.old result }
     {
         match self.writer.write(piece) {
             Ok(taken) if taken > 0 => Ok(taken),

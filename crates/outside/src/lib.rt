@@ -15,8 +15,8 @@
 
 mod adapters;
 mod block;
+mod gathering;
 mod memory;
-mod out;
 mod transfer;
 
 ghost use Rattle.std.specs.Prelude.{ℕ, ◌≤◌, ◌<◌, List, Option, length, take, IfOk, OnErr};
@@ -24,8 +24,8 @@ ghost use Rattle.outside.specs.Outside.{Takes, Grew, HasCause};
 
 pub use adapters::{ReadSource, WriteSink};
 pub use block::BLOCK;
+pub use gathering::Out;
 pub use memory::{MEM_SINK_ROOM, MemSink, MemSource, SureSink, SureSource};
-pub use out::Out;
 pub use transfer::{ReadFault, finish, read_all, write_all};
 
 /// A read or a write that failed.

@@ -1,8 +1,8 @@
 //! Ends over memory: sources and sinks for tests and for whatever runs without the world. They tell
 //! their bytes, so a contract about them says what was read and written.
 ghost use Rattle.std.specs.Prelude.{◌≡◌, ◌≢◌, ℕ, ◌+◌, ◌-◌, ◌^◌, ◌<◌, ◌≤◌, ◌↔◌, ◌⊎◌, min, List, [], ◌++◌, Some, Ok, IsTrue, IsErr, IfOk, IfSome, OnOk, OnErr, MatchBool, Contains, take, drop, length, if◌then◌else◌, codes, false};
-ghost use Rattle.outside.specs.Outside.{Takes, Grew, HasCause, Rose, raised};
-ghost use Rattle.outside.specs.Memory.{FailsNext, next_call, new_plan, after_call, told, with_piece};
+ghost use Rattle.outside.specs.Outside.{Takes, Grew, HasCause, Rose, one_fault_more};
+ghost use Rattle.outside.specs.Memory.{FailsNext, next_call, new_plan, after_call, written_of, with_piece};
 
 use crate::transfer::move_front;
 use crate::{Failed, Sink, Source};
@@ -90,7 +90,7 @@ impl SureSink {
 }
 
 impl Sink for SureSink {
-    ghost written = { told };
+    ghost written = { written_of };
 
     ghost faults = { λ _. 0 };
 
@@ -98,8 +98,10 @@ impl Sink for SureSink {
         requires { 0 < length piece.now }
         ensures some { IfOk result (λ n. 0 < n) }
         ensures bound { IfOk result (λ n. n ≤ length piece.now) }
-        ensures bytes { IfOk result (λ n. Grew (told self.old) (told self.new) (take n piece.now)) }
-        ensures nothing { OnErr result (Grew (told self.old) (told self.new) (take 0 piece.now)) }
+        ensures bytes { IfOk result (λ n.
+            Grew (written_of self.old) (written_of self.new) (take n piece.now)) }
+        ensures nothing { OnErr result
+            (Grew (written_of self.old) (written_of self.new) (take 0 piece.now)) }
         ensures cause { HasCause 0 0 result }
         ensures sure { result ≡ Ok (length piece.now) }
         ensures kept { self.new ≡ with_piece self.old piece.now }
@@ -315,7 +317,7 @@ impl FaultPlan {
 
     /// Counts a fault.
     fn raise(&mut self)
-        ensures raised { self.new ≡ record self.old { faults = raised self.old.faults } }
+        ensures raised { self.new ≡ record self.old { faults = one_fault_more self.old.faults } }
         ensures rose { (self.old.faults ≤ self.new.faults) × Rose self.old.faults self.new.faults }
     {
         self.faults = self.faults.saturating_add(1);

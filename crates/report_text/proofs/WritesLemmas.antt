@@ -2,12 +2,14 @@
 use Rattle.std.proofs.Common.{◌≡◌, ℕ, ◌+◌, ◌<◌, List, [], ◌∷◌, ◌++◌, map, take, length, Option, Some, sym, ap, refl, subst, ◌∙◌, codes, append_assoc, arith}
 use Rattle.std.proofs.lemmas.List.{append-nil, length-map, length-take-le, map-append, take_more}
 use Rattle.std.proofs.lemmas.Option.{slice_get_within, get_or_from_slice_get}
+use Rattle.std.specs.Prelude.{Bool, false, IsTrue, ◌↔◌}
 use Rattle.std.specs.List.{All, flat_map, join_with_byte, slice_get}
+use Rattle.std.proofs.lemmas.Bool.{false≢true}
 use Rattle.std.proofs.lemmas.List.Concat.{flat_map-append}
 use Rattle.outside.proofs.GatheringLemmas.{Adds-then, Adds-as, Adds-byte}
 use Rattle.outside.specs.Gathering.{Adds}
-use Rattle.outside.specs.declared.out.Out.{Out}
-use Rattle.report_lines.specs.Text.{braced, line_text}
+use Rattle.outside.specs.declared.gathering.Out.{Out}
+use Rattle.report_lines.specs.Text.{listed, braced, line_text}
 use Rattle.report_text.specs.Writes.{between, spaced}
 
 -- what holds of each item holds of the one at a place
@@ -15,6 +17,16 @@ pub All-at : {A : Type 0} (P : A → Type 0) (items : List A) (i : ℕ) (item : 
 All-at P items i item got all = subst P (get_or_from_slice_get items i item item got) (all i item (slice_get_within items i item got))
 
 -- ---- words and lines
+
+-- a list that is told not to be empty has items
+pub has_items : {A : Type 0} (items : List A) (empty : Bool) → (IsTrue empty ↔ (items ≡ [])) → empty ≡ false → 0 < length items
+has_items [] empty tells is = absurd (false≢true (sym is ∙ tells.1 refl))
+has_items (item ∷ items) empty tells is = omega arith
+
+-- texts between commas, where there is one
+pub listed_some : {A : Type 0} (text : A → List ℕ) (items : List A) → 0 < length items → listed (map text items) ≡ join_with_byte 44 (map text items)
+listed_some text [] some = absurd (omega arith)
+listed_some text (item ∷ items) some = refl
 
 -- words in braces, where there is one
 pub braced_some : (items : List (List ℕ)) → 0 < length items → braced items ≡ codes "{" ++ (join_with_byte 44 items ++ codes "}")

@@ -2,7 +2,7 @@ use Rattle.std.proofs.Common.{◌≡◌, ◌+◌, ◌-◌, ◌++◌, [], take, d
 use Rattle.std.proofs.lemmas.List.{length-drop, take_all}
 use Rattle.std.proofs.Math.Seq.{take-add}
 use Rattle.outside.proofs.GatheringLemmas.{Adds-as, Adds-then}
-use Rattle.outside.proofs.out.Out.write.Goals as goal
+use Rattle.outside.proofs.gathering.Out.write.Goals as goal
 
 pub loop-at-preserved : goal.loop-at-preserved
 loop-at-preserved g c =

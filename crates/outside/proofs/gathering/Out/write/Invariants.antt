@@ -1,6 +1,6 @@
 use Rattle.std.proofs.Common.{length, ◌-◌, ◌≤◌, take}
 use Rattle.outside.specs.Gathering.{Adds}
-use Rattle.outside.proofs.out.Out.write.Given as goal
+use Rattle.outside.proofs.gathering.Out.write.Given as goal
 
 -- the front that is written
 abbrev pub invariant-loop-at : goal.invariant-loop-at
