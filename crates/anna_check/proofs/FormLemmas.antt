@@ -7,7 +7,8 @@ use Rattle.std.proofs.lemmas.List.Sums.{sum_by-cons}
 use Rattle.clock_lattice.specs.Needs.{IsNeeds}
 use Rattle.session_known.specs.Form.{Fits, HasForm, NeedsFit, IsShownIn}
 use Rattle.session_known.proofs.FormLemmas.{finals_known}
-use Rattle.session_known.specs.Script.{IsOneOf, MayStand, IsValidSession, IsValidScript}
+use Rattle.placement.specs.Config.{IsOneOf}
+use Rattle.session_known.specs.Script.{MayStand, IsValidSession, IsValidScript}
 use Rattle.session_known.specs.declared.report.Answer.{Answer}
 use Rattle.session_known.specs.declared.report.Answer.TheVariants as answers
 use Rattle.session_known.specs.declared.report.Report.{Report}

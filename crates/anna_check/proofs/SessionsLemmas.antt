@@ -11,7 +11,8 @@ use Rattle.session_known.specs.Accepted.{client_of, accepted_from}
 use Rattle.session_known.specs.Form.{Fits}
 use Rattle.session_known.specs.Lawful.{AreLawful}
 use Rattle.session_known.specs.Legal.{AreLawfulFrom}
-use Rattle.session_known.specs.Script.{IsOneOf, MayStand, IsValidScript}
+use Rattle.placement.specs.Config.{IsOneOf}
+use Rattle.session_known.specs.Script.{MayStand, IsValidScript}
 use Rattle.session_known.specs.Session.{start, puts_from}
 use Rattle.session_known.specs.declared.report.Answer.{Answer}
 use Rattle.session_known.specs.declared.report.Answer.TheVariants as answers

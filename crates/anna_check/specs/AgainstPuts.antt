@@ -8,10 +8,10 @@ use Rattle.composed_value.specs.Cell.{PlainCell}
 use Rattle.composed_value.specs.Kind.{kind_of_value}
 use Rattle.composed_value.specs.declared.kind.Kind.{Kind}
 use Rattle.composed_value.specs.declared.put.Put.{Put}
-use Rattle.session_known.specs.Accepted.{made_on, AreNext}
 use Rattle.session_known.specs.Lawful.{IsSoundReply, CountsAccepted, IsTrueOf}
 use Rattle.session_known.specs.Legal.{IsLawfulFinal}
-use Rattle.session_known.specs.Script.{IsOneOf, kind_at}
+use Rattle.placement.specs.Config.{IsOneOf}
+use Rattle.session_known.specs.Script.{kind_at}
 use Rattle.session_known.specs.declared.report.Answer.{Answer}
 use Rattle.session_known.specs.declared.report.Answer.TheVariants as answers
 use Rattle.session_known.specs.declared.report.FinalCell.{FinalCell}
@@ -22,13 +22,14 @@ use Rattle.session_known.specs.declared.script.Line.TheVariants as lines
 use Rattle.session_known.specs.declared.script.Script.{Script}
 use Rattle.session_known.specs.declared.script.SessionPlan.{SessionPlan}
 use Rattle.anna_check.specs.ByKey.{OfKey, kinds_of, AreByKey}
+use Rattle.anna_check.specs.ComputedCells.{AreAllNext}
 use Rattle.anna_check.specs.Counted.{AreOfTheirPuts}
 use Rattle.anna_check.specs.Unlawful.{AreTrueOf, IsFirstUntrue, IsFirstUntrueFrom, IsFirstUnlawfulFinal}
 
 -- the lists and the cells stand for these accepted puts, of which each session's on each key are numbered one by one
 pub record StandFor (kinds : List Kind) (workers : ℕ) (accepted : List (ℕ × Put)) (by_key : List OfKey) (cells : List (List PlainCell)) : Type 0 where
   pub puts : AreByKey kinds accepted by_key
-  pub numbered : (session key : ℕ) → AreNext 0 (made_on session key accepted)
+  pub numbered : AreAllNext accepted
   pub cells_are : AreOfTheirPuts kinds workers accepted cells
 
 -- a worker that there is shows a cell of a key that there is, of its kind, in valid parts
@@ -58,10 +59,6 @@ pub record CanBeFinal (kinds : List Kind) (workers : ℕ) (last : FinalCell) : T
   pub worker_is : IsOneOf workers last.worker
   pub clock_is : IsClock last.clock
   pub value_is : kind_of_value last.value ≡ kind_at kinds last.key
-
--- the puts of each session on each key are numbered one by one
-abbrev pub AreAllNext : List (ℕ × Put) → Type 0
-AreAllNext accepted = (session key : ℕ) → AreNext 0 (made_on session key accepted)
 
 -- all that the report's answers say can be held against the accepted puts, and all its final cells
 abbrev pub CanHoldAllAnswers : Script → Report → Type 0

@@ -4,7 +4,7 @@ use Rattle.lattice_laws.specs.declared.lattice.NoMemory.{NoMemory}
 use Rattle.clock_lattice.specs.Clock.{IsClock, covers}
 use Rattle.clock_lattice.specs.Needs.{clock_at}
 use Rattle.session_known.specs.Lawful.{had_from, earlier_from, IsClockFrom, IsLawfulReply, IsLawfulAgain, IsLawful}
-use Rattle.session_known.specs.Script.{IsOneOf}
+use Rattle.placement.specs.Config.{IsOneOf}
 use Rattle.session_known.specs.Session.{Knows, InState}
 use Rattle.session_known.specs.declared.report.Answer.{Answer}
 use Rattle.session_known.specs.declared.script.Line.{Line}

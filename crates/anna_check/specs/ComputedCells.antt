@@ -9,7 +9,8 @@ use Rattle.composed_value.specs.declared.put.Put.{Put}
 use Rattle.session_known.specs.Accepted.{puts_on, made_on, AreNext}
 use Rattle.session_known.specs.Lawful.{IsSoundReply}
 use Rattle.session_known.specs.Legal.{IsLawfulFinal}
-use Rattle.session_known.specs.Script.{IsOneOf, kind_at}
+use Rattle.placement.specs.Config.{IsOneOf}
+use Rattle.session_known.specs.Script.{kind_at}
 use Rattle.session_known.specs.declared.report.FinalCell.{FinalCell}
 use Rattle.session_known.specs.declared.report.Shown.{Shown}
 use Rattle.anna_check.specs.Counted.{AreOfTheirPuts, with_cell}
@@ -26,10 +27,14 @@ no_cells workers kinds = map (λ kind. replicate workers (empty_cell kind)) kind
 abbrev pub with_counted : List (List PlainCell) → ℕ → ℕ → Kind → List Put → List (ℕ × ℕ) → List (List PlainCell)
 with_counted cells key worker kind puts clock = with_cell cells key worker (cell_of kind (counted puts clock))
 
+-- the puts of each session on each key are numbered one by one
+abbrev pub AreAllNext : List (ℕ × Put) → Type 0
+AreAllNext accepted = (session key : ℕ) → AreNext 0 (made_on session key accepted)
+
 -- cells that were made are those of the accepted puts that their clocks count
 abbrev pub StartOfTheirPuts : List Kind → ℕ → Result (List (List PlainCell)) NoMemory → Type 0
 StartOfTheirPuts kinds workers result =
-    (accepted : List (ℕ × Put)) → ((session key : ℕ) → AreNext 0 (made_on session key accepted)) → IfOk result (AreOfTheirPuts kinds workers accepted)
+    (accepted : List (ℕ × Put)) → AreAllNext accepted → IfOk result (AreOfTheirPuts kinds workers accepted)
 
 -- and so they stay, where these are the accepted puts on the key, of its kind
 abbrev pub StayOfTheirPuts : Kind → List Put → ℕ → List (List PlainCell) → List (List PlainCell) → Type 0

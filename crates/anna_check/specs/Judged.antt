@@ -8,7 +8,7 @@ use Rattle.composed_value.specs.declared.put.Put.{Put}
 use Rattle.session_known.specs.Form.{Fits}
 use Rattle.session_known.specs.Lawful.{IsLawful, AreLawful}
 use Rattle.session_known.specs.Legal.{AreLawfulFrom}
-use Rattle.session_known.specs.Script.{IsOneOf}
+use Rattle.placement.specs.Config.{IsOneOf}
 use Rattle.session_known.specs.Session.{Client, State, InState, knows_put, known_of, start, own_count, held_puts, next_put, puts_committed, knows_committed, Knowledge, after, puts_by, puts_from}
 use Rattle.session_known.specs.declared.report.Answer.{Answer}
 use Rattle.session_known.specs.declared.report.Answer.TheVariants as answers
@@ -84,8 +84,8 @@ abbrev pub made_by : InState → Line → Answer → List (ℕ × Put)
 made_by session line answer = puts_by session.client session.state line answer
 
 -- its state then
-abbrev pub state_after : InState → Line → Answer → State
-state_after session line answer = after session.client session.state line answer
+abbrev pub state_then : InState → Line → Answer → State
+state_then session line answer = after session.client session.state line answer
 
 -- those of all its lines, by its number and level
 abbrev pub made_by_all : ℕ → Level → List Line → List Answer → List (ℕ × Put)

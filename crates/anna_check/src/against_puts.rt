@@ -1,7 +1,7 @@
 //! The first answer that says something untrue of the accepted puts, and the first final cell that is
 //! not lawful.
 ghost use Rattle.std.specs.Prelude.{◌≤◌, length};
-ghost use Rattle.session_known.specs.Script.{IsOneOf};
+ghost use Rattle.placement.specs.Config.{IsOneOf};
 ghost use Rattle.anna_check.specs.AgainstPuts.{CanHoldReply, CanHoldAnswer, CanHoldAnswers, CanHoldSessions, CanHoldFinal, CanHoldFinals, StandForTheSame, TellsSound, TellsCounted, TellsTrue, TellsFinal, FindsUntrue, FindsUntrueFrom, FindsUnlawfulFinal};
 ghost use Rattle.anna_check.specs.ByKey.{kinds_of};
 

@@ -2,7 +2,7 @@
 ghost use Rattle.std.specs.Prelude.{◌≡◌, ℕ, ◌+◌, ◌<◌, ◌≤◌, ◌^◌, length, OnOk};
 ghost use Rattle.session_known.specs.Session.{held_puts, own_count};
 ghost use Rattle.anna_check.specs.ByKey.{HasAdded, MayBePut, kinds_of};
-ghost use Rattle.anna_check.specs.Judged.{MayTake, MayAllBePut, IsLawfulSomewhere, HasRoom, one_made, knows_one, all_made, knows_all, made_by, state_after};
+ghost use Rattle.anna_check.specs.Judged.{MayTake, MayAllBePut, IsLawfulSomewhere, HasRoom, one_made, knows_one, all_made, knows_all, made_by, state_then};
 
 use crate::accepted::Accepted;
 use composed_value::Payload;
@@ -69,7 +69,7 @@ pub(crate) fn take_in(
     requires held { MayAllBePut (kinds_of accepted.old) (held_puts session.old.state) }
     requires counts { HasRoom session.old }
     ensures client { session.new.client ≡ session.old.client }
-    ensures state { OnOk result (session.new.state ≡ state_after session.old line.now answer.now) }
+    ensures state { OnOk result (session.new.state ≡ state_then session.old line.now answer.now) }
     ensures kinds { OnOk result (kinds_of accepted.new ≡ kinds_of accepted.old) }
     ensures puts { HasAdded result accepted.old
         (made_by session.old line.now answer.now) accepted.new }

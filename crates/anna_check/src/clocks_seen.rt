@@ -2,7 +2,7 @@
 ghost use Rattle.std.specs.Prelude.{◌≡◌, [], ℕ, ◌==◌, ◌&&◌, cond, List, Some, None, IfOk, IfSome, MatchOption, length};
 ghost use Rattle.clock_lattice.specs.Clock.{covers};
 ghost use Rattle.session_known.specs.Lawful.{had_from};
-ghost use Rattle.session_known.specs.Script.{IsOneOf};
+ghost use Rattle.placement.specs.Config.{IsOneOf};
 ghost use Rattle.anna_check.specs.ClocksSeen.{AreJoined, HasNoted, HasTakenIn, clock_from};
 ghost use Rattle.anna_check.specs.Judged.{NamesWorker};
 

@@ -1,11 +1,11 @@
-//! The cells that a report tells, each held against the puts that its clock counts.
+//! The cells that a report shows, each held against the puts that its clock counts.
 ghost use Rattle.std.specs.Prelude.{◌≡◌, ◌<◌, List, All, IfOk, OnOk, OnErr, IfSome, length, map, replicate};
 ghost use Rattle.clock_lattice.specs.Clock.{IsClock};
 ghost use Rattle.clock_lattice.specs.Needs.{IsNeeds};
 ghost use Rattle.composed_value.specs.Cell.{empty_cell};
 ghost use Rattle.composed_value.specs.PlainValue.{IsPutOf};
 ghost use Rattle.composed_value.specs.Kind.{kind_of_value};
-ghost use Rattle.session_known.specs.Script.{IsOneOf};
+ghost use Rattle.placement.specs.Config.{IsOneOf};
 ghost use Rattle.composed_value.specs.declared.kind.Kind.TheVariants as variants;
 ghost use Rattle.anna_check.specs.ComputedCells.{HasCellAt, no_cells, with_counted, StartOfTheirPuts, StayOfTheirPuts, TellsReplySound, TellsFinalLawful, AreOfOneKey};
 ghost use Rattle.anna_check.specs.Counted.{IsOfItsPuts, cell_at};
@@ -77,8 +77,8 @@ impl ComputedCells {
         requires worker { HasCellAt self.old key worker }
         requires puts { All (IsPutOf kind) puts.now }
         requires cell { IsOfItsPuts kind puts.now (cell_at self.old key worker) }
-        ensures ok { OnOk result (self.new ≡ with_counted self.old key worker kind puts.now
-            clock.now) }
+        ensures ok { OnOk result (self.new
+            ≡ with_counted self.old key worker kind puts.now clock.now) }
         ensures err { OnErr result (self.new ≡ self.old) }
     {
         let cell = &mut self.by_key[usize::from(key) - 1][usize::from(worker) - 1];
@@ -215,7 +215,7 @@ mod tests {
         Ok(puts)
     }
 
-    // Nothing is cells yet of key 1, of kind max, at its one worker.
+    // No cell is computed yet of key 1, of kind max, at its one worker.
     fn cells_of(alloc: Global, puts: &[Put]) -> Result<ComputedCells, Fail>
         requires { All (IsPutOf variants.Max) puts.now }
         ensures { IfOk result (AreOfOneKey puts.now) }

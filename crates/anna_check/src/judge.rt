@@ -3,7 +3,8 @@ ghost use Rattle.std.specs.Prelude.{◌≤◌, IfOk, length};
 ghost use Rattle.session_known.specs.Accepted as made;
 ghost use Rattle.session_known.specs.Form.{HasForm, HasFormSomewhere};
 ghost use Rattle.session_known.specs.Script.{IsValidScript};
-ghost use Rattle.anna_check.specs.AgainstPuts.{AreAllNext, CanHoldAllAnswers, CanHoldAllFinals};
+ghost use Rattle.anna_check.specs.ComputedCells.{AreAllNext};
+ghost use Rattle.anna_check.specs.AgainstPuts.{CanHoldAllAnswers, CanHoldAllFinals};
 ghost use Rattle.anna_check.specs.ByKey.{AreByKey};
 ghost use Rattle.anna_check.specs.Unlawful.{IsVerdict, IsVerdictWherever, IsVerdictOfPuts};
 

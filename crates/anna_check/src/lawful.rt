@@ -1,7 +1,7 @@
 //! Whether an answer is lawful, as far as it is decided inside its session.
 ghost use Rattle.std.specs.Prelude.{◌≡◌, ◌↔◌, ◌≤◌, ◌*◌, IsTrue, length};
 ghost use Rattle.session_known.specs.Lawful.{MayReply};
-ghost use Rattle.session_known.specs.Script.{IsOneOf};
+ghost use Rattle.placement.specs.Config.{IsOneOf};
 ghost use Rattle.anna_check.specs.ClocksSeen.{TellsClock, TellsReply, TellsAgain, TellsLawful};
 ghost use Rattle.anna_check.specs.Judged.{NamesKey, NamesWorker};
 
@@ -89,7 +89,7 @@ fn is_asks_of(asks: u32, replicas: usize) -> bool
     asks % 8 == 0 && asks as usize / 8 == replicas
 }
 
-/// Whether the session may be cells at the line to ask again, after so many asks and with this clock of
+/// Whether the session may be told at the line to ask again, after so many asks and with this clock of
 /// the worker.
 fn is_lawful_again(
     placement: &Placement,
@@ -141,7 +141,7 @@ pub(crate) fn is_lawful(
         }
         (Line::Commit, Answer::Worn) => session.is_begun() && session.is_worn(),
         (Line::Abort, Answer::Aborted { puts }) => {
-            session.is_begun() && *puts as usize == session.held_count()
+            session.is_begun() && *puts as usize == session.held().len()
         }
         (Line::Get { key, worker: named }, Answer::Got { worker, shown }) => is_lawful_reply(
             placement,

@@ -1,4 +1,4 @@
--- The cell of a key behind some puts of a script is in form: its clock and its value name the script's sessions alone.
+-- The cell of a key after some puts of a script is in form: its clock and its value name the script's sessions alone.
 use Rattle.std.specs.Prelude.{◌≡◌, ℕ, zero, suc, ◌<◌, ◌≤◌, ◌^◌, true, false, cond, is_some, List, [], ◌∷◌, length, map, Option, Some, None, All, Contains, filter_map, ⊤}
 use Rattle.std.specs.Cmp.{nat_cmp_total}
 use Rattle.std.specs.FinMap.{find, nat_cmp-IsAntisymmetric}
@@ -32,7 +32,8 @@ use Rattle.version_antichain.specs.Version.{version_cmp}
 use Rattle.version_antichain.specs.VersionLaws.{version_total}
 use Rattle.version_antichain.specs.declared.version.Version.{Version}
 use Rattle.session_known.specs.Form.{NamesSessions, IsClockIn, ValueNamesSessions, IsValueIn, IsFinalIn}
-use Rattle.session_known.specs.Script.{IsOneOf, kind_at}
+use Rattle.placement.specs.Config.{IsOneOf}
+use Rattle.session_known.specs.Script.{kind_at}
 use Rattle.session_known.specs.declared.script.Script.{Script}
 use Rattle.anna_run.proofs.OneWorker.{cell_at, final_at}
 use Rattle.anna_run.proofs.OneCellLaws.{cell_is}

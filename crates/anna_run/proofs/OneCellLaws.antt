@@ -1,4 +1,4 @@
--- The cell of a key behind some puts: it counts exactly these, so it is sound for them and whatever follows.
+-- The cell of a key after some puts: it counts exactly these, so it is sound for them and whatever follows.
 use Rattle.std.specs.Prelude.{◌≡◌, ℕ, ◌+◌, ◌<◌, ◌≤◌, ◌==◌, leb, Bool, true, false, cond, IsTrue, List, [], ◌∷◌, ◌++◌, length, map, filter, All, Contains}
 use Rattle.std.proofs.Common.{refl, sym, ap, subst, ◌∙◌, inl, inr, arith, length-append, append-nil}
 use Rattle.std.proofs.lemmas.Bool.{le-leb, lt-leb, eq-eqb}
@@ -67,7 +67,7 @@ counts_no_later script done later key are =
     let greater = All-contains (λ p. 0 + length before < p.number) (made_on put.session key later) put (greater_of_next (0 + length before) (made_on put.session key later) follow) of_session in
     omega (arith, greater, count_is script done key (puts_in_front script done later are) put.session)) (puts_on key later) (All-contains_itself (puts_on key later))
 
--- what the cell counts of all puts is the puts behind which it stands
+-- what the cell counts of all puts is the puts after which it stands
 counted_is : (script : Script) (done later : List (ℕ × Put)) (key : ℕ) → ArePutsIn script (done ++ later) → counted (puts_on key (done ++ later)) (cell_at script.kinds done key).clock ≡ puts_on key done
 counted_is script done later key are =
     let clock : List (ℕ × ℕ) = (cell_at script.kinds done key).clock in
@@ -97,7 +97,7 @@ sound_at script done later key are =
       top_is = subst (λ puts. IsGreatestOrZero (map (λ put. put.lamport) puts) cell.top) counted_puts of_puts.top;
     }
 
--- A cell behind more puts covers the cell before them.
+-- A cell after more puts covers the cell before them.
 pub covers_before : (script : Script) (done more : List (ℕ × Put)) (key : ℕ) → ArePutsIn script (done ++ more) → IsTrue (covers (cell_at script.kinds (done ++ more) key).clock (cell_at script.kinds done key).clock)
 covers_before script done more key are =
     let before = puts_in_front script done more are in

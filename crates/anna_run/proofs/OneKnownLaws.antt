@@ -12,7 +12,7 @@ use Rattle.lattice_laws.specs.Maybe.{IsValue}
 use Rattle.clock_lattice.specs.Clock.{one_count}
 use Rattle.clock_lattice.specs.Needs.{clock_at, joined_needs, one_need}
 use Rattle.session_known.specs.Session.{Knowledge, known_raised}
-use Rattle.session_known.specs.Script.{IsOneOf}
+use Rattle.placement.specs.Config.{IsOneOf}
 use Rattle.anna_run.proofs.OneCellFormLaws.{clock_of_laws, no_clock_of, one_count_of}
 use Rattle.anna_run.proofs.OnePutsLaws.{IsClockOf}
 

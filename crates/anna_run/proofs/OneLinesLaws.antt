@@ -9,10 +9,10 @@ use Rattle.lattice_laws.proofs.GreatestOfListsLemmas.{in_one}
 use Rattle.composed_value.specs.declared.kind.Kind.{Kind}
 use Rattle.composed_value.specs.declared.payload.Payload.{Payload}
 use Rattle.composed_value.specs.declared.put.Put as puts
-use Rattle.placement.specs.Config.{placed}
+use Rattle.placement.specs.Config.{IsOneOf, placed}
 use Rattle.session_known.specs.Form.{Fits}
 use Rattle.session_known.specs.Lawful.{last_lamport, MayReply, IsLawful, AreLawful}
-use Rattle.session_known.specs.Script.{IsOneOf, MayName, MayStand, IsValidScript}
+use Rattle.session_known.specs.Script.{MayName, MayStand, IsValidScript}
 use Rattle.placement.specs.Asked.{replicas_of}
 use Rattle.session_known.specs.Session.{Client, State, own_count, after, puts_by, puts_from}
 use Rattle.session_known.specs.declared.report.Answer.{Answer}

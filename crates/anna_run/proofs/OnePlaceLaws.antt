@@ -6,7 +6,7 @@ use Rattle.std.proofs.lemmas.List.{length-map}
 use Rattle.std.proofs.lemmas.List.Elements.{All-nil, All-cons, All-head, All-tail, All-append, All-map, All-weaker}
 use Rattle.std.proofs.lemmas.List.FromFn.{length-range_with_len, get_or-range_with_len}
 use Rattle.std.proofs.lemmas.List.Sorted.{IsPermutation-filter_both, All-permutation, length_permutation}
-use Rattle.placement.specs.Config.{IsWorker, ArePins, IsValidConfig, pinned_or, replicas_on, placed, home_of}
+use Rattle.placement.specs.Config.{IsOneOf, ArePins, IsValidConfig, pinned_or, replicas_on, placed, home_of}
 use Rattle.placement.specs.ConfigLaws.{is_ring}
 use Rattle.placement.specs.Hash.{hash_of}
 use Rattle.placement.specs.Ring.{round, workers_met, walked, point_of, points_of, ring_of}
@@ -89,12 +89,12 @@ walked_one points hash factor are is_one =
 pinned_one : (pins walk : List ℕ) → ArePins 1 pins → walk ≡ only_one → pinned_or pins walk ≡ only_one
 pinned_one [] walk are is = is
 pinned_one (pin ∷ []) walk are is =
-    let worker = All-head (IsWorker 1) pin [] are.are_workers in
+    let worker = All-head (IsOneOf 1) pin [] are.are_workers in
     let first : pin ≡ 1 = omega (arith, worker) in
     ap (λ (n : ℕ). n ∷ []) first
 pinned_one (pin ∷ next ∷ pins) walk are is =
-    let worker = All-head (IsWorker 1) pin (next ∷ pins) are.are_workers in
-    let other = All-head (IsWorker 1) next pins (All-tail (IsWorker 1) pin (next ∷ pins) are.are_workers) in
+    let worker = All-head (IsOneOf 1) pin (next ∷ pins) are.are_workers in
+    let other = All-head (IsOneOf 1) next pins (All-tail (IsOneOf 1) pin (next ∷ pins) are.are_workers) in
     let same : pin ≡ next = omega (arith, worker, other) in
     absurd (are.different 0 1 pin (omega arith) (omega arith) same)
 

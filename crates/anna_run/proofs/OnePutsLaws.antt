@@ -14,7 +14,8 @@ use Rattle.session_known.specs.Accepted.{puts_on}
 use Rattle.composed_value.specs.declared.put.Put.{Put}
 use Rattle.session_known.specs.Accepted.{made_on, AreNext}
 use Rattle.session_known.proofs.NumberedLemmas.{number_at, made_on-append, made_here, made_elsewhere, made_by_other}
-use Rattle.session_known.specs.Script.{IsOneOf, kind_at}
+use Rattle.placement.specs.Config.{IsOneOf}
+use Rattle.session_known.specs.Script.{kind_at}
 use Rattle.session_known.specs.declared.script.Script.{Script}
 
 -- a clock of so many sessions
@@ -103,7 +104,7 @@ none_made session key (entry ∷ done) all =
     ∙ ap (λ (made : List Put). made ++ made_on session key done) (made_by_other session entry.0 key entry.1 (All-head (λ (e : ℕ × Put). session ≢ e.1.session) entry done all))
     ∙ none_made session key done (All-tail (λ (e : ℕ × Put). session ≢ e.1.session) entry done all)
 
--- the session's next put on a key, behind such puts
+-- the session's next put on a key, after such puts
 pub next_put_in : (script : Script) (done : List (ℕ × Put)) (key : ℕ) (put : Put) → ArePutsIn script done → IsPutIn script key put → put.number ≡ length (made_on put.session key done) + 1 → ArePutsIn script (done ++ (key, put) ∷ [])
 next_put_in script done key put are is next = record {
   each = All-push (λ entry. IsPutIn script entry.0 entry.1) done (key, put) are.each is;

@@ -28,7 +28,7 @@ use Rattle.anna_run.proofs.OneLinesLaws.{HasOneWorker, AreAnswered, session_is_a
 use Rattle.anna_run.proofs.OnePutsLaws.{ArePutsIn}
 use Rattle.anna_run.proofs.OneSessionLaws.{AreMade, start_is_reached}
 
--- the sessions from a number on, behind some puts, have these answers lawfully and in form, and all puts are ones that the script may lead to
+-- the sessions from a number on, after some puts, have these answers lawfully and in form, and all puts are ones that the script may lead to
 pub record AreServed (script : Script) (number : ℕ) (done : List (ℕ × Put)) (plans : List SessionPlan) (answers : List (List Answer)) : Type 0 where
   pub lawful : AreLawfulFrom (placed script.config) number plans answers
   pub fits : AllZip (λ plan answers. AllZip (Fits script plan.level) plan.lines answers) plans answers
@@ -58,7 +58,7 @@ sessions_are_served script number done (plan ∷ plans) has some within eventual
       puts = subst (ArePutsIn script) (append_assoc done more (accepted_from (number + 1) plans (run_answers script.kinds (number + 1) (done ++ more) plans))) rest.puts;
     }
 
--- a reply with the cell of a key behind the first of all puts is sound
+-- a reply with the cell of a key after the first of all puts is sound
 reply_is_sound : (script : Script) (all done later : List (ℕ × Put)) (key : ℕ) → ArePutsIn script all → all ≡ done ++ later → IsSoundReply script.kinds all key (shown_at script.kinds done key)
 reply_is_sound script all done later key are split = record {
   sound = subst (λ puts. IsSound (kind_at script.kinds key) (puts_on key puts) (cell_at script.kinds done key).clock (cell_at script.kinds done key).top (cell_at script.kinds done key).value) (sym split) (sound_at script done later key (subst (ArePutsIn script) split are));
@@ -79,7 +79,7 @@ answer_is_true script state all done later lines.Begin are split = tt
 answer_is_true script state all done later lines.Commit are split = tt
 answer_is_true script state all done later lines.Abort are split = tt
 
--- and those of the lines of a session, behind the first of all puts
+-- and those of the lines of a session, after the first of all puts
 lines_are_true : (script : Script) (client : Client) (state : State) (all done : List (ℕ × Put)) (lines : List Line) (later : List (ℕ × Put)) → ArePutsIn script all → all ≡ done ++ (puts_from client state lines (session_answers script.kinds client state done lines) ++ later)
     → AllZip (IsTrueOf script.kinds all) lines (session_answers script.kinds client state done lines)
 lines_are_true script client state all done [] later are split = tt

@@ -18,7 +18,8 @@ use Rattle.composed_value.specs.declared.put.Put as puts
 use Rattle.session_known.specs.Lawful.{had_from, earlier_from}
 use Rattle.session_known.specs.Accepted.{made_on}
 use Rattle.session_known.proofs.NumberedLemmas.{made_on-append, made_here, made_elsewhere, count_put, count_put_elsewhere}
-use Rattle.session_known.specs.Script.{IsOneOf, kind_at}
+use Rattle.placement.specs.Config.{IsOneOf}
+use Rattle.session_known.specs.Script.{kind_at}
 use Rattle.session_known.specs.Session.{State, start, own_count, put_made, after}
 use Rattle.session_known.specs.declared.report.Answer.{Answer}
 use Rattle.session_known.specs.declared.report.Answer.TheVariants as answers
@@ -38,7 +39,7 @@ pub record AreMade (script : Script) (next : ℕ) (done : List (ℕ × puts.Put)
   pub sessions : All (λ entry. entry.1.session < next) done
   pub lamports : All (λ entry. entry.1.lamport ≤ length done) done
 
--- the state that a session has reached behind these puts and its earlier answers
+-- the state that a session has reached after these puts and its earlier answers
 pub record IsReached (script : Script) (session : ℕ) (done : List (ℕ × puts.Put)) (state : State) (earlier : List (Line × Answer)) : Type 0 where
   pub made : AreMade script (session + 1) done
   pub held : state.held ≡ None
@@ -51,7 +52,7 @@ pub record IsReached (script : Script) (session : ℕ) (done : List (ℕ × puts
 pub none_are_made : (script : Script) → (puts : ArePutsIn script []) → AreMade script 1 []
 none_are_made script puts = record { puts = puts; sessions = All-nil (λ entry. entry.1.session < 1); lamports = All-nil (λ entry. entry.1.lamport ≤ 0) }
 
--- the start of a session, behind the puts of earlier ones
+-- the start of a session, after the puts of earlier ones
 pub start_is_reached : (script : Script) (session : ℕ) (done : List (ℕ × puts.Put)) → AreMade script session done → IsReached script session done start []
 start_is_reached script session done are = record {
   made = record {
@@ -118,10 +119,10 @@ next_is_put script session done state earlier key payload few is_session room is
       seen_is = seen;
     }
 
--- the count on each key behind the put
-own_behind_put : (script : Script) (session : ℕ) (done : List (ℕ × puts.Put)) (state : State) (earlier : List (Line × Answer)) (key : ℕ) (payload : Payload) → IsReached script session done state earlier
+-- the count on each key after the put
+own_after_put : (script : Script) (session : ℕ) (done : List (ℕ × puts.Put)) (state : State) (earlier : List (Line × Answer)) (key : ℕ) (payload : Payload) → IsReached script session done state earlier
     → (q : ℕ) → own_count (after (eventual session) state (lines.Put key payload) (answers.Put (own_count state.knows key + 1) (state.knows.lamport + 1))).knows q ≡ length (made_on session q (done ++ (key, next_put state session key payload) ∷ []))
-own_behind_put script session done state earlier key payload reached q =
+own_after_put script session done state earlier key payload reached q =
     let put : puts.Put = next_put state session key payload in
     let number : ℕ = own_count state.knows key + 1 in
     let all : length (made_on session q (done ++ (key, put) ∷ [])) ≡ length (made_on session q done ++ made_on session q ((key, put) ∷ [])) = ap length (made_on-append session q done ((key, put) ∷ [])) in
@@ -138,7 +139,7 @@ own_behind_put script session done state earlier key payload reached q =
           omega (arith, count_put_elsewhere state.knows.own key q number elsewhere, none, reached.own q, all, both)
     ]
 
--- The state behind a put.
+-- The state after a put.
 pub put_reaches : (script : Script) (session : ℕ) (done : List (ℕ × puts.Put)) (state : State) (earlier : List (Line × Answer)) (key : ℕ) (payload : Payload) → length script.sessions ≤ 16 → IsOneOf (length script.sessions) session → length done < 4096 → IsPayload payload → kind_of payload ≡ kind_at script.kinds key
     → IsReached script session done state earlier
     → IsReached script session (done ++ (key, next_put state session key payload) ∷ []) (after (eventual session) state (lines.Put key payload) (answers.Put (own_count state.knows key + 1) (state.knows.lamport + 1)))
@@ -157,7 +158,7 @@ put_reaches script session done state earlier key payload few is_session room is
             (omega (arith, reached.lamport, longer));
       };
       held = reached.held;
-      own = own_behind_put script session done state earlier key payload reached;
+      own = own_after_put script session done state earlier key payload reached;
       lamport = omega (arith, reached.lamport, longer);
       known = needs_with (length script.sessions) key state.knows.clocks (one_count session (own_count state.knows key + 1)) reached.known (one_count_of (length script.sessions) session (own_count state.knows key + 1) is_session is.of_kind.is_put.number_fits);
       covered = λ q.
@@ -171,7 +172,7 @@ put_reaches script session done state earlier key payload few is_session room is
 covers_itself : (script : Script) (done : List (ℕ × puts.Put)) (key : ℕ) → ArePutsIn script done → IsTrue (covers (cell_at script.kinds done key).clock (cell_at script.kinds done key).clock)
 covers_itself script done key are = let clock : List (ℕ × ℕ) = (cell_at script.kinds done key).clock in covers_from_counts clock clock (cell_is script done key are).0.clock_is (λ session. omega arith)
 
--- The state behind a get.
+-- The state after a get.
 pub get_reaches : (script : Script) (session : ℕ) (done : List (ℕ × puts.Put)) (state : State) (earlier : List (Line × Answer)) (key : ℕ) (named : Option ℕ) → IsReached script session done state earlier
     → IsReached script session done (after (eventual session) state (lines.Get key named) (answers.Got 1 (shown_at script.kinds done key))) (earlier ++ (lines.Get key named, answers.Got 1 (shown_at script.kinds done key)) ∷ [])
 get_reaches script session done state earlier key named reached = record {

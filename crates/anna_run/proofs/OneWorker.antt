@@ -20,14 +20,14 @@ use Rattle.session_known.specs.declared.script.Script.{Script}
 use Rattle.session_known.specs.declared.script.SessionPlan.{SessionPlan}
 use Rattle.anna_run.specs.Serving.{shown_plainly, final_from}
 
--- the cell of a key behind these puts
+-- the cell of a key after these puts
 abbrev pub cell_at : List Kind → List (ℕ × Put) → ℕ → PlainCell
 cell_at kinds done key = cell_of (kind_at kinds key) (puts_on key done)
 
 abbrev pub shown_at : List Kind → List (ℕ × Put) → ℕ → Shown
 shown_at kinds done key = shown_plainly (cell_at kinds done key)
 
--- The answer of a line in this state, behind these puts: a put is the session's next, and a get is shown the cell of all puts so far.
+-- The answer of a line in this state, after these puts: a put is the session's next, and a get is shown the cell of all puts so far.
 abbrev pub answer_of : List Kind → State → List (ℕ × Put) → Line → Answer
 answer_of kinds state done (lines.Put key payload) =
     if state.knows.lamport == last_lamport then answers.Worn else answers.Put (own_count state.knows key + 1) (state.knows.lamport + 1)
@@ -41,7 +41,7 @@ session_answers kinds client state done (line ∷ lines) =
     let answer = answer_of kinds state done line in
     answer ∷ session_answers kinds client (after client state line answer) (done ++ puts_by client state line answer) lines
 
--- the answers of the sessions from a number on, behind these puts
+-- the answers of the sessions from a number on, after these puts
 abbrev pub run_answers : List Kind → ℕ → List (ℕ × Put) → List SessionPlan → List (List Answer)
 run_answers kinds number done [] = []
 run_answers kinds number done (plan ∷ plans) =

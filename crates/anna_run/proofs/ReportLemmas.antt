@@ -16,7 +16,8 @@ use Rattle.composed_value.specs.declared.kind.Kind.TheVariants as kinds
 use Rattle.composed_value.specs.declared.payload.Payload.{Payload}
 use Rattle.composed_value.specs.declared.put.Put.{Put}
 use Rattle.session_known.specs.Accepted.{client_of, accepted_from}
-use Rattle.session_known.specs.Script.{IsOneOf, kind_at, IsValidScript, MayStand}
+use Rattle.placement.specs.Config.{IsOneOf}
+use Rattle.session_known.specs.Script.{kind_at, IsValidScript, MayStand}
 use Rattle.session_known.specs.Session.{Client, Knowledge, nothing_known, start, after, puts_by, puts_from}
 use Rattle.session_known.specs.declared.report.Answer.{Answer}
 use Rattle.session_known.specs.declared.report.Answer.TheVariants as answers
@@ -30,9 +31,9 @@ use Rattle.session_known.proofs.AcceptedLemmas.{puts_on-append}
 use Rattle.anna_run.specs.OneMap.{cell_for, cells_with}
 use Rattle.anna_run.proofs.OneWorker.{cell_at, answer_of, session_answers, run_answers, final_at, report_of}
 use Rattle.anna_run.specs.Serving.{shown_plainly}
-use Rattle.anna_run.specs.Serving.{kinds_of, CanServe, outside, answer_from, cells_merged, cells_then, knows_then, lines_answered, cells_behind, sessions_answered, cells_at_end, final_of}
+use Rattle.anna_run.specs.Serving.{kinds_of, CanServe, outside, answer_from, cells_merged, cells_then, knows_then, lines_answered, cells_after, sessions_answered, cells_at_end, final_of}
 
--- the cells of all keys behind these puts
+-- the cells of all keys after these puts
 abbrev pub cells_at : List Kind → List (ℕ × Put) → List PlainCell
 cells_at kinds done = map (cell_at kinds done) (range_with_len 1 (length kinds))
 
@@ -123,7 +124,7 @@ same_answer kinds knows done lines.Begin can = absurd can
 same_answer kinds knows done lines.Commit can = absurd can
 same_answer kinds knows done lines.Abort can = absurd can
 
--- the session behind it
+-- the session after it
 same_state : (kinds : List Kind) (client : Client) (knows : Knowledge) (done : List (ℕ × Put)) (line : Line) → CanServe kinds line
     → after client (outside knows) line (answer_of kinds (outside knows) done line) ≡ outside (knows_then client knows line (answer_of kinds (outside knows) done line))
 same_state kinds client knows done (lines.Put key payload) can = put_outside client knows key payload _ _ _
@@ -133,7 +134,7 @@ same_state kinds client knows done lines.Begin can = absurd can
 same_state kinds client knows done lines.Commit can = absurd can
 same_state kinds client knows done lines.Abort can = absurd can
 
--- the cells behind it
+-- the cells after it
 same_cells : (kinds : List Kind) (client : Client) (knows : Knowledge) (done : List (ℕ × Put)) (line : Line) → CanServe kinds line
     → cells_then client (cells_at kinds done) knows line (answer_of kinds (outside knows) done line) ≡ cells_at kinds (done ++ puts_by client (outside knows) line (answer_of kinds (outside knows) done line))
 same_cells kinds client knows done (lines.Put key payload) can = with_puts kinds done _ (put_on_key kinds client knows key payload _ _ _ can.0)
@@ -143,10 +144,10 @@ same_cells kinds client knows done lines.Begin can = absurd can
 same_cells kinds client knows done lines.Commit can = absurd can
 same_cells kinds client knows done lines.Abort can = absurd can
 
--- The answers of a session's lines, and the cells behind them.
+-- The answers of a session's lines, and the cells after them.
 same_lines : (kinds : List Kind) (client : Client) (knows : Knowledge) (done : List (ℕ × Put)) (plan_lines : List Line) → All (CanServe kinds) plan_lines
     → (lines_answered client (cells_at kinds done) knows plan_lines ≡ session_answers kinds client (outside knows) done plan_lines)
-    × (cells_behind client (cells_at kinds done) knows plan_lines ≡ cells_at kinds (done ++ puts_from client (outside knows) plan_lines (session_answers kinds client (outside knows) done plan_lines)))
+    × (cells_after client (cells_at kinds done) knows plan_lines ≡ cells_at kinds (done ++ puts_from client (outside knows) plan_lines (session_answers kinds client (outside knows) done plan_lines)))
 same_lines kinds client knows done [] all = (refl, ap (cells_at kinds) (sym (append-nil done)))
 same_lines kinds client knows done (line ∷ rest) all =
     let can = All-head (CanServe kinds) line rest all in
@@ -158,12 +159,12 @@ same_lines kinds client knows done (line ∷ rest) all =
     let more = done ++ puts_by client (outside knows) line answer in
     let given = session_answers kinds client (outside next) more rest in
     let answers_then : Answer → List Answer = λ a. a ∷ lines_answered client (cells_then client (cells_at kinds done) knows line a) (knows_then client knows line a) rest in
-    let cells_after : Answer → List PlainCell = λ a. cells_behind client (cells_then client (cells_at kinds done) knows line a) (knows_then client knows line a) rest in
+    let rest_cells : Answer → List PlainCell = λ a. cells_after client (cells_then client (cells_at kinds done) knows line a) (knows_then client knows line a) rest in
     let others = same_lines kinds client next more rest (All-tail (CanServe kinds) line rest all) in (
       ap answers_then answer_is
           ∙ ap (λ more_answers. answer ∷ more_answers) (ap (λ cells. lines_answered client cells next rest) cells_is ∙ others.0 ∙ ap (λ state. session_answers kinds client state more rest) (sym state_is)),
-      ap cells_after answer_is
-          ∙ ap (λ cells. cells_behind client cells next rest) cells_is
+      ap rest_cells answer_is
+          ∙ ap (λ cells. cells_after client cells next rest) cells_is
           ∙ others.1
           ∙ ap (cells_at kinds) (append_assoc done (puts_by client (outside knows) line answer) (puts_from client (outside next) rest given))
           ∙ ap (λ state. cells_at kinds (done ++ (puts_by client (outside knows) line answer ++ puts_from client state rest (session_answers kinds client state more rest)))) (sym state_is),

@@ -24,7 +24,7 @@ use Rattle.session_known.specs.declared.script.Line.{Line}
 use Rattle.session_known.specs.declared.script.Line.TheVariants as lines
 use Rattle.session_known.specs.declared.script.SessionPlan.{SessionPlan}
 use Rattle.anna_run.specs.OneMap.{cell_for, cells_with}
-use Rattle.anna_run.specs.Serving.{CanServe, HasAnswered, IsKept, kinds_of, lines_answered, cells_behind, sessions_answered, cells_at_end}
+use Rattle.anna_run.specs.Serving.{CanServe, HasAnswered, IsKept, kinds_of, lines_answered, cells_after, sessions_answered, cells_at_end}
 
 -- the join of two values of one kind is of that kind
 kind_joined : (a b : Value) → kind_of_value a ≡ kind_of_value b → kind_of_value (joined_values a b) ≡ kind_of_value a
@@ -46,7 +46,7 @@ kind_for : (cells : List PlainCell) (key : ℕ) (put : Put) → 1 ≤ key → ke
 kind_for cells key put some within kind =
     sym (get_or-map (λ (cell : PlainCell). kind_of_value cell.value) cells (key - 1) (empty_cell (kind_of put.payload)) kinds.Max (omega arith)) ∙ sym kind
 
--- what a session knows is kept behind one more put
+-- what a session knows is kept after one more put
 kept_put : (client : Client) (knows : Knowledge) (key : ℕ) → IsKept knows → IsKept (knows_put client knows key (own_count knows key + 1) (knows.lamport + 1))
 kept_put client knows key kept other =
     elim (cases_eq key other) [
@@ -102,7 +102,7 @@ pub record IsServing (client : Client) (at_first : List PlainCell) (plan_lines :
   pub kept : IsKept known.knows
   pub kinds_are : kinds_of cells ≡ kinds_of at_first
   pub answers_are : lines_answered client at_first nothing_known plan_lines ≡ given ++ lines_answered client cells known.knows (drop i plan_lines)
-  pub cells_are : cells_behind client at_first nothing_known plan_lines ≡ cells_behind client cells known.knows (drop i plan_lines)
+  pub cells_are : cells_after client at_first nothing_known plan_lines ≡ cells_after client cells known.knows (drop i plan_lines)
 
 -- The first sessions are served.
 pub record AreServing (at_first : List PlainCell) (plans : List SessionPlan) (i : ℕ) (cells : List PlainCell) (given : List (List Answer)) : Type 0 where

@@ -2,8 +2,7 @@
 use Rattle.std.specs.Prelude.{◌≡◌, ℕ, ◌+◌, ◌<◌, ◌≤◌, ◌⊎◌, false, List, [], ◌∷◌, ◌++◌, take, drop, length, Option, Some, None, Result, Ok, Err, Vec, String, codes}
 use Rattle.std.specs.Global.{Global}
 use Rattle.std.specs.Fmt.{decimal}
-use Rattle.outside.specs.Outside.{Ends}
-use Rattle.outside.specs.Outside.{Rose, NoneLeft, Took, TookMost, Grew}
+use Rattle.outside.specs.Outside.{Ends, Rose, NoneLeft, Took, TookMost}
 use Rattle.placement.specs.Config.{placed}
 use Rattle.script_reader.specs.Grammar.{most_bytes, all_built, IsScript, IsRefused}
 use Rattle.script_reader.specs.Split.{split_place}
@@ -13,7 +12,7 @@ use Rattle.session_known.specs.Legal.{IsLegal}
 use Rattle.session_known.specs.declared.report.Report.{Report}
 use Rattle.session_known.specs.declared.script.Script.{Script}
 use Rattle.report_reader.specs.Reads.{IsNoReport, IsFirstOutOfForm}
-use Rattle.report_lines.specs.Text.{session_name, key_name}
+use Rattle.session_known.specs.Script.{session_name, key_name}
 use Rattle.report_lines.specs.Text.{text_of}
 use Rattle.anna_check.specs.Unlawful.{IsVerdict}
 use Rattle.anna_check.specs.declared.judge.Verdict.{Verdict}
@@ -50,6 +49,11 @@ pub record SinkUse : Type 0 where
 
 abbrev pub sink_use_of : {Sink : Type 0} → (Sink → Option (List ℕ)) → (Sink → ℕ) → Sink → Sink → SinkUse
 sink_use_of written faults old new = record { written_before = written old; written_now = written new; faults_before = faults old; faults_now = faults new }
+
+-- no byte was written, and no fault counted
+pub record IsUnwritten (sink : SinkUse) : Type 0 where
+  pub written : sink.written_now ≡ sink.written_before
+  pub faults : sink.faults_now ≡ sink.faults_before
 
 -- neither end failed in the call
 abbrev pub IsFaultless : SourceUse → SinkUse → Type 0
@@ -136,7 +140,7 @@ verdict_text script verdicts.Legal = legal_text
 verdict_text script (verdicts.Command session command) = codes "unlawful session " ++ (session_name script session ++ (codes " command " ++ (decimal command ++ 10 ∷ [])))
 verdict_text script (verdicts.Final key worker) = codes "unlawful final " ++ (key_name script key ++ (codes " @" ++ (decimal worker ++ 10 ∷ [])))
 
--- The bytes are a script of any form, up to the line end of the first line whose only word is `end`, and behind it the text of a report
+-- The bytes are a script of any form, up to the line end of the first line whose only word is `end`, and after it the text of a report
 -- in form.
 pub record AreChecked (bytes : List ℕ) (script : Script) (report : Report) : Type 0 where
   pub short : length bytes ≤ most_checked
@@ -170,7 +174,7 @@ pub record IsFoundNoScript (bytes text : List ℕ) : Type 0 where
   pub refused : IsRefused all_built (take (split_place bytes) bytes) line code
   pub is_text : text ≡ refusal_text line code
 
--- those are a script, those behind it are not the text of a report in form, and the text says at which line of theirs
+-- those are a script, those after it are not the text of a report in form, and the text says at which line of theirs
 pub record IsFoundNoReport (bytes text : List ℕ) : Type 0 where
   pub short : length bytes ≤ most_checked
   pub script : Script
@@ -204,11 +208,11 @@ Owed (Some command) source ReadFault text = Rose source.faults_before source.fau
 Owed None source Usage text = IsUntouched source × (text ≡ usage_text)
 Owed command source status text = ⊥
 
--- How a run ends: memory ran out, and nothing was written; or a text that is owed was written, and the run ends with the status that
+-- How a run ends: memory ran out, and the sink is as it was; or a text that is owed was written, and the run ends with the status that
 -- goes with it, or a front of it was, and the run ends as the sink failed.
 abbrev pub IsEnd : Option Command → SourceUse → SinkUse → Status → Type 0
 IsEnd command source sink status =
-    ((status ≡ NoMemory) × Grew sink.written_before sink.written_now [])
+    ((status ≡ NoMemory) × IsUnwritten sink)
     ⊎ Ends WriteFault (Owed command source) (Rose sink.faults_before sink.faults_now) sink.written_before sink.written_now status
 
 -- Where a script that is served was asked to be run, and neither end failed, it was, unless memory ran out.
@@ -243,7 +247,7 @@ pub record IsRun (command : Option Command) (source : SourceUse) (sink : SinkUse
 abbrev pub IsRunOf : Result (Vec (String Global) Global) WordsFault → SourceUse → SinkUse → Status → Type 0
 IsRunOf (Ok words) source sink status = IsRun (command_in words.items) source sink status
 IsRunOf (Err faults.NotText) source sink status = IsRun None source sink status
-IsRunOf (Err faults.NoMemory) source sink status = (status ≡ NoMemory) × IsUntouched source × (sink.written_now ≡ sink.written_before)
+IsRunOf (Err faults.NoMemory) source sink status = (status ≡ NoMemory) × IsUntouched source × IsUnwritten sink
 
 -- The program ends with the number of a status with which such a run ends.
 abbrev pub IsExitOf : Result (Vec (String Global) Global) WordsFault → SourceUse → SinkUse → ℕ → Type 0

@@ -8,7 +8,8 @@ use Rattle.composed_value.specs.declared.kind.Kind.TheVariants as kinds
 use Rattle.composed_value.specs.declared.put.Put.{Put}
 use Rattle.session_known.specs.Accepted.{client_of}
 use Rattle.session_known.specs.Lawful.{last_lamport}
-use Rattle.session_known.specs.Script.{IsOneOf, kind_at}
+use Rattle.placement.specs.Config.{IsOneOf}
+use Rattle.session_known.specs.Script.{kind_at}
 use Rattle.session_known.specs.Session.{Client, Knowledge, Knows, State, nothing_known, own_count, after, puts_by}
 use Rattle.session_known.specs.declared.report.Answer.{Answer}
 use Rattle.session_known.specs.declared.report.Answer.TheVariants as answers
@@ -58,7 +59,7 @@ abbrev pub cells_merged : List PlainCell → List (ℕ × Put) → List PlainCel
 cells_merged cells [] = cells
 cells_merged cells (put ∷ puts) = cells_merged (cells_with cells put.0 put.1) puts
 
--- the cells behind a line and its answer, and what the session then knows
+-- the cells after a line and its answer, and what the session then knows
 abbrev pub cells_then : Client → List PlainCell → Knowledge → Line → Answer → List PlainCell
 cells_then client cells knows line answer = cells_merged cells (puts_by client (outside knows) line answer)
 
@@ -85,23 +86,23 @@ lines_answered client cells knows (line ∷ lines) =
     let answer = answer_from cells knows line in
     answer ∷ lines_answered client (cells_then client cells knows line answer) (knows_then client knows line answer) lines
 
--- and the cells behind them
-abbrev pub cells_behind : Client → List PlainCell → Knowledge → List Line → List PlainCell
-cells_behind client cells knows [] = cells
-cells_behind client cells knows (line ∷ lines) =
+-- and the cells after them
+abbrev pub cells_after : Client → List PlainCell → Knowledge → List Line → List PlainCell
+cells_after client cells knows [] = cells
+cells_after client cells knows (line ∷ lines) =
     let answer = answer_from cells knows line in
-    cells_behind client (cells_then client cells knows line answer) (knows_then client knows line answer) lines
+    cells_after client (cells_then client cells knows line answer) (knows_then client knows line answer) lines
 
 -- the answers of sessions from a number on
 abbrev pub sessions_answered : ℕ → List PlainCell → List SessionPlan → List (List Answer)
 sessions_answered number cells [] = []
 sessions_answered number cells (plan ∷ plans) =
-    lines_answered (client_of number plan) cells nothing_known plan.lines ∷ sessions_answered (number + 1) (cells_behind (client_of number plan) cells nothing_known plan.lines) plans
+    lines_answered (client_of number plan) cells nothing_known plan.lines ∷ sessions_answered (number + 1) (cells_after (client_of number plan) cells nothing_known plan.lines) plans
 
--- and the cells behind them
+-- and the cells after them
 abbrev pub cells_at_end : ℕ → List PlainCell → List SessionPlan → List PlainCell
 cells_at_end number cells [] = cells
-cells_at_end number cells (plan ∷ plans) = cells_at_end (number + 1) (cells_behind (client_of number plan) cells nothing_known plan.lines) plans
+cells_at_end number cells (plan ∷ plans) = cells_at_end (number + 1) (cells_after (client_of number plan) cells nothing_known plan.lines) plans
 
 -- a cell as the final one of a key, at the one worker
 abbrev pub final_from : ℕ → PlainCell → FinalCell

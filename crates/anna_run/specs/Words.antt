@@ -1,4 +1,4 @@
--- Which command the words behind the program's name ask for.
+-- Which command the words after the program's name ask for.
 use Rattle.std.specs.Prelude.{List, [], ◌∷◌, map, ℕ, Option, Some, None, String, string_bytes, codes, if◌then◌else◌}
 use Rattle.std.specs.Global.{Global}
 use Rattle.std.specs.Str.{bytes_eq}

@@ -41,7 +41,7 @@ pub enum Status {
     Done,
     /// The words are of no accepted form.
     Usage,
-    /// What was read is no script, or what stands behind a script that is checked is no report.
+    /// What was read is no script, or what stands after a script that is checked is no report.
     Refused,
     /// The report that was checked is not legal.
     Unlawful,
@@ -108,7 +108,7 @@ fn run_script<S: Source>(alloc: Global, src: &mut S) -> Result<Outcome, NoMemory
     }
 }
 
-/// Reads a script and the report behind it, and judges the report.
+/// Reads a script and the report after it, and judges the report.
 fn check_input<S: Source>(alloc: Global, src: &mut S) -> Result<Outcome, NoMemory>
     ensures owed { IfOk result (IsOwed (Some Command.Check)
         (use_of S.left S.faults src.old src.new)) }
@@ -128,7 +128,7 @@ fn check_input<S: Source>(alloc: Global, src: &mut S) -> Result<Outcome, NoMemor
     check_bytes(alloc, &bytes)
 }
 
-/// Judges the report that the bytes say behind their script.
+/// Judges the report that the bytes say after their script.
 fn check_bytes(alloc: Global, bytes: &[u8]) -> Result<Outcome, NoMemory>
     ensures owed { IfOk result (IsOwedOf bytes.now) }
     ensures complete { (script : Script) (report : reports.Report)
@@ -137,7 +137,7 @@ fn check_bytes(alloc: Global, bytes: &[u8]) -> Result<Outcome, NoMemory>
     if bytes.len() > MOST_CHECKED {
         return Ok(Outcome::Line(Status::Refused, refusal(alloc, 0, TOO_LONG)?));
     }
-    let (front, behind) = bytes.split_at(split_input(bytes));
+    let (front, after) = bytes.split_at(split_input(bytes));
     let script = match read_script(alloc, front) {
         Ok(script) => script,
         Err(ScriptFault::Refused { line, code }) => {
@@ -145,7 +145,7 @@ fn check_bytes(alloc: Global, bytes: &[u8]) -> Result<Outcome, NoMemory>
         }
         Err(ScriptFault::NoMemory) => return Err(NoMemory),
     };
-    let report = match read_report(alloc, &script, behind) {
+    let report = match read_report(alloc, &script, after) {
         Ok(report) => report,
         Err(ReportFault::Form { line }) => {
             return Ok(Outcome::Line(Status::Refused, report_refusal(alloc, line)?));
@@ -201,7 +201,7 @@ fn outcome_of<S: Source>(alloc: Global, words: &[String], src: &mut S) -> Result
 
 /// Does all that the program does: reads from the source what the words ask for, and writes to the sink.
 ///
-/// The words are those behind the program's name; accepted is one word. `run` takes a script of at most
+/// The words are those after the program's name; accepted is one word. `run` takes a script of at most
 /// 1,048,576 bytes, serves it and writes its report; served are scripts with one worker and eventual
 /// sessions, and the line of another is refused with code 2. `check` takes a script of any form directly
 /// followed by a report, at most 16,777,216 bytes, and writes whether the report is legal, or its first

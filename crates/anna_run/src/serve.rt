@@ -7,7 +7,7 @@ ghost use Rattle.session_known.specs.Script.{IsValidScript};
 ghost use Rattle.session_known.specs.Session.{nothing_known};
 ghost use Rattle.session_known.specs.declared.script.Level.TheVariants.{Eventual};
 ghost use Rattle.session_known.specs.declared.script.Line.TheVariants as lines;
-ghost use Rattle.anna_run.specs.Serving.{shown_plainly, eventual, CanServe, HasAnswered, IsKept, kinds_of, lines_answered, cells_behind, sessions_answered, cells_at_end, final_of};
+ghost use Rattle.anna_run.specs.Serving.{shown_plainly, eventual, CanServe, HasAnswered, IsKept, kinds_of, lines_answered, cells_after, sessions_answered, cells_at_end, final_of};
 
 use crate::one_map::OneMap;
 use composed_value::{Cell, Payload};
@@ -96,7 +96,7 @@ fn serve_session(
     ensures answers { IfOk result (λ answers. answers
         ≡ lines_answered (eventual session) cells.old nothing_known lines.now) }
     ensures cells { IfOk result (λ _. cells.new
-        ≡ cells_behind (eventual session) cells.old nothing_known lines.now) }
+        ≡ cells_after (eventual session) cells.old nothing_known lines.now) }
     ensures kinds { IfOk result (λ _. kinds_of cells.new ≡ kinds_of cells.old) }
 {
     let mut known = Known::new(alloc, session, Level::Eventual);

@@ -25,7 +25,7 @@ pub(crate) fn refusal(alloc: Global, number: u32, code: u8) -> Result<Vec<u8>, N
     line(alloc, &text)
 }
 
-/// The line that says at which line what stands behind a script is no report.
+/// The line that says at which line what stands after a script is no report.
 pub(crate) fn report_refusal(alloc: Global, number: u32) -> Result<Vec<u8>, NoMemory>
     ensures { IfOk result (λ line. line.items ≡ report_refusal_text number) }
 {
@@ -44,58 +44,29 @@ pub(crate) fn verdict_line(
     match verdict {
         Verdict::Legal => line(alloc, "legal"),
         Verdict::Command { session, command } => {
-            let behind = format!(in alloc; " command {command}")?;
+            let after = format!(in alloc; " command {command}")?;
             named_line(
                 alloc,
                 "unlawful session ",
-                name_of_session(script, session),
-                &behind,
+                script.session_name(session),
+                &after,
             )
         }
         Verdict::Final { key, worker } => {
-            let behind = format!(in alloc; " @{worker}")?;
-            named_line(alloc, "unlawful final ", name_of_key(script, key), &behind)
+            let after = format!(in alloc; " @{worker}")?;
+            named_line(alloc, "unlawful final ", script.key_name(key), &after)
         }
     }
 }
 
 /// The line with a name between two texts.
-fn named_line(alloc: Global, before: &str, name: &[u8], behind: &str) -> Result<Vec<u8>, NoMemory>
+fn named_line(alloc: Global, before: &str, name: &[u8], after: &str) -> Result<Vec<u8>, NoMemory>
     ensures { IfOk result (λ line. line.items ≡ before.now
-        ++ (name.now ++ (behind.now ++ 10 ∷ []))) }
+        ++ (name.now ++ (after.now ++ 10 ∷ []))) }
 {
     let mut line = Vec::from_slice(alloc, before.as_bytes())?;
     line.extend_from_slice(name)?;
-    line.extend_from_slice(behind.as_bytes())?;
+    line.extend_from_slice(after.as_bytes())?;
     line.push(b'\n')?;
     Ok(line)
-}
-
-/// The name of a session, by its number from 1; none where there is no such session.
-fn name_of_session(script: &Script, session: u16) -> &[u8]
-    ensures { result.now ≡ text_of.session_name script.now session }
-{
-    match script
-        .sessions
-        .as_slice()
-        .get(usize::from(session).saturating_sub(1))
-    {
-        Some(plan) => plan.name.as_bytes(),
-        None => &[],
-    }
-}
-
-/// The name of a key, by its number from 1; none where there is no such key.
-fn name_of_key(script: &Script, key: u16) -> &[u8]
-    ensures { result.now ≡ text_of.key_name script.now key }
-{
-    match script
-        .config
-        .keys
-        .as_slice()
-        .get(usize::from(key).saturating_sub(1))
-    {
-        Some(place) => place.name.as_bytes(),
-        None => &[],
-    }
 }

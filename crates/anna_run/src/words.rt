@@ -1,4 +1,4 @@
-//! What is asked for by the words behind the program's name.
+//! What is asked for by the words after the program's name.
 ghost use Rattle.std.specs.Prelude.{◌≡◌};
 ghost use Rattle.anna_run.specs.Words.{command_in};
 
@@ -7,7 +7,7 @@ ghost use Rattle.anna_run.specs.Words.{command_in};
 pub enum Command {
     /// Run the script that comes in.
     Run,
-    /// Judge the report that comes in behind its script.
+    /// Judge the report that comes in after its script.
     Check,
 }
 

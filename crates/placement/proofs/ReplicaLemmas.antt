@@ -8,7 +8,7 @@ use Rattle.std.proofs.lemmas.List.Sorted.{list_any-IsPermutation, All-permutatio
 use Rattle.std.proofs.lemmas.Map.Views.{any-filter_same}
 use Rattle.placement.specs.Hash.{hash_of}
 use Rattle.placement.specs.Ring.{points_of, round, workers_met, walked}
-use Rattle.placement.specs.Config.{AreDifferent, IsWorker, ArePins, IsValidConfig, IsRing, AreReplicas, EachHasReplicas, pinned_or, replicas_on}
+use Rattle.placement.specs.Config.{AreDifferent, IsOneOf, ArePins, IsValidConfig, IsRing, AreReplicas, EachHasReplicas, pinned_or, replicas_on}
 use Rattle.placement.specs.declared.ring.Point.{Point}
 use Rattle.placement.specs.declared.config.KeyPlace.{KeyPlace}
 use Rattle.placement.specs.declared.config.Config.{Config}
@@ -61,10 +61,10 @@ each_worker_met workers hash ring is worker some known =
     ∙ points_of_each workers worker some known
 
 -- Only workers are met on the way round.
-only_workers_met : (workers hash : ℕ) (ring : List Point) → IsRing workers ring → All (IsWorker workers) (workers_met (round ring hash))
+only_workers_met : (workers hash : ℕ) (ring : List Point) → IsRing workers ring → All (IsOneOf workers) (workers_met (round ring hash))
 only_workers_met workers hash ring is =
-    let Known : Point → Type 0 = λ point. IsWorker workers point.worker in
-    All-workers_met (IsWorker workers) (round ring hash) (All-permutation Known ring (round ring hash) (round_permutes ring hash) (All-permutation Known (points_of workers) ring is.all (points_of_workers workers workers (omega arith))))
+    let Known : Point → Type 0 = λ point. IsOneOf workers point.worker in
+    All-workers_met (IsOneOf workers) (round ring hash) (All-permutation Known ring (round ring hash) (round_permutes ring hash) (All-permutation Known (points_of workers) ring is.all (points_of_workers workers workers (omega arith))))
 
 -- The first of different numbers are different.
 first_differ : (n : ℕ) (numbers : List ℕ) → AreDifferent numbers → AreDifferent (take n numbers)
@@ -80,7 +80,7 @@ walked_are_replicas config ring key hash valid is =
     let as_many : length (take config.factor met) ≡ config.factor = let most = valid.factor_most in omega (arith, length-take config.factor met) in
     record {
       some = let least = valid.factor_some in omega arith;
-      are_workers = All-take (IsWorker config.workers) config.factor met (only_workers_met config.workers hash ring is);
+      are_workers = All-take (IsOneOf config.workers) config.factor met (only_workers_met config.workers hash ring is);
       different = first_differ config.factor met (workers_met_differ (round ring hash));
       as_many = λ none. as_many;
     }

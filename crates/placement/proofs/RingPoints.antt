@@ -7,7 +7,7 @@ use Rattle.std.proofs.lemmas.List.Concat.{flat_map-append}
 use Rattle.std.proofs.lemmas.List.Folds.{list_any-append}
 use Rattle.std.proofs.lemmas.List.Elements.{All-nil, All-append, All-map, All-same}
 use Rattle.std.proofs.lemmas.Bool.{or_left, or_right, eq-eqb, cases_lt}
-use Rattle.placement.specs.Config.{IsWorker}
+use Rattle.placement.specs.Config.{IsOneOf}
 use Rattle.placement.specs.Ring.{point_of, points_of}
 use Rattle.placement.specs.declared.ring.Point.{Point}
 
@@ -39,10 +39,10 @@ points_of_each (suc workers) worker some known =
     ]
 
 -- Each point belongs to one of the workers.
-pub points_of_workers : (workers most : ℕ) → workers ≤ most → All (λ (point : Point). IsWorker most point.worker) (points_of workers)
-points_of_workers zero most few = All-nil (λ (point : Point). IsWorker most point.worker)
+pub points_of_workers : (workers most : ℕ) → workers ≤ most → All (λ (point : Point). IsOneOf most point.worker) (points_of workers)
+points_of_workers zero most few = All-nil (λ (point : Point). IsOneOf most point.worker)
 points_of_workers (suc workers) most few =
-    let Known : Point → Type 0 = λ point. IsWorker most point.worker in
+    let Known : Point → Type 0 = λ point. IsOneOf most point.worker in
     let last = map (point_of (workers + 1)) (range_with_len 0 16) in
     let step : points_of (suc workers) ≡ points_of workers ++ last = ap points_of (sym (add-one workers)) ∙ points_of_more workers in
     All-same Known (points_of (suc workers)) (points_of workers ++ last) step

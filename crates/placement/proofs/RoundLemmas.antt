@@ -12,7 +12,7 @@ use Rattle.placement.specs.declared.ring.Point.{Point}
 in_order : (a b : Point) → is_lt (point_cmp b a) ≡ false → a.hash ≤ b.hash
 in_order a b up = elim (cases_lt b.hash a.hash) [
   | inl before ↦ (let less : nat_lt b.hash a.hash ≡ true = lt-ltb b.hash a.hash before in absurd (true≢false (rw less at up)))
-  | inr behind ↦ behind
+  | inr after ↦ after
 ]
 
 -- Points in order have ascending hashes.
@@ -21,17 +21,17 @@ hashes_ascend points up = IsNonDecreasingBy-from_all_adjacent (λ point. point.h
 
 -- What passes is all before the cut.
 front_from_cut : {X : Type 0} (test : X → Bool) (xs : List X) (cut : ℕ) → AllWithin (λ x. test x ≡ true) xs 0 cut → AllWithin (λ x. test x ≡ false) xs cut (length xs) → filter test xs ≡ take cut xs
-front_from_cut test [] zero before behind = refl
-front_from_cut test [] (suc cut) before behind = refl
-front_from_cut {X = X} test (x ∷ xs) zero before behind = rw (behind 0 x (omega arith) (omega arith)) (front_from_cut test xs zero (λ k d low high. absurd (omega arith)) (λ k d low high. behind (suc k) d (omega arith) (omega arith)))
-front_from_cut {X = X} test (x ∷ xs) (suc cut) before behind = rw (before 0 x (omega arith) (omega arith)) (ap (λ (ys : List X). x ∷ ys) (front_from_cut test xs cut (λ k d low high. before (suc k) d (omega arith) (omega arith)) (λ k d low high. behind (suc k) d (omega arith) (omega arith))))
+front_from_cut test [] zero before after = refl
+front_from_cut test [] (suc cut) before after = refl
+front_from_cut {X = X} test (x ∷ xs) zero before after = rw (after 0 x (omega arith) (omega arith)) (front_from_cut test xs zero (λ k d low high. absurd (omega arith)) (λ k d low high. after (suc k) d (omega arith) (omega arith)))
+front_from_cut {X = X} test (x ∷ xs) (suc cut) before after = rw (before 0 x (omega arith) (omega arith)) (ap (λ (ys : List X). x ∷ ys) (front_from_cut test xs cut (λ k d low high. before (suc k) d (omega arith) (omega arith)) (λ k d low high. after (suc k) d (omega arith) (omega arith))))
 
 -- What passes the opposite test is all from the cut on.
 rest_from_cut : {X : Type 0} (test other : X → Bool) → ((x : X) → other x ≡ not (test x)) → (xs : List X) (cut : ℕ) → AllWithin (λ x. test x ≡ true) xs 0 cut → AllWithin (λ x. test x ≡ false) xs cut (length xs) → filter other xs ≡ drop cut xs
-rest_from_cut test other opposite [] zero before behind = refl
-rest_from_cut test other opposite [] (suc cut) before behind = refl
-rest_from_cut {X = X} test other opposite (x ∷ xs) zero before behind = rw (opposite x, behind 0 x (omega arith) (omega arith)) (ap (λ (ys : List X). x ∷ ys) (rest_from_cut test other opposite xs zero (λ k d low high. absurd (omega arith)) (λ k d low high. behind (suc k) d (omega arith) (omega arith))))
-rest_from_cut {X = X} test other opposite (x ∷ xs) (suc cut) before behind = rw (opposite x, before 0 x (omega arith) (omega arith)) (rest_from_cut test other opposite xs cut (λ k d low high. before (suc k) d (omega arith) (omega arith)) (λ k d low high. behind (suc k) d (omega arith) (omega arith)))
+rest_from_cut test other opposite [] zero before after = refl
+rest_from_cut test other opposite [] (suc cut) before after = refl
+rest_from_cut {X = X} test other opposite (x ∷ xs) zero before after = rw (opposite x, after 0 x (omega arith) (omega arith)) (ap (λ (ys : List X). x ∷ ys) (rest_from_cut test other opposite xs zero (λ k d low high. absurd (omega arith)) (λ k d low high. after (suc k) d (omega arith) (omega arith))))
+rest_from_cut {X = X} test other opposite (x ∷ xs) (suc cut) before after = rw (opposite x, before 0 x (omega arith) (omega arith)) (rest_from_cut test other opposite xs cut (λ k d low high. before (suc k) d (omega arith) (omega arith)) (λ k d low high. after (suc k) d (omega arith) (omega arith)))
 
 -- not below is at least
 not_below : (n hash : ℕ) → nat_le hash n ≡ not (nat_lt n hash)
@@ -43,10 +43,10 @@ below_or_not hash n = grind (arith, nat_tests)
 
 -- The points before the cut are those below the hash, and the others are not.
 pub round_from_cut : (points : List Point) (hash first : ℕ) → IsPartitionPoint (λ (point : Point). nat_lt point.hash hash ≡ true) (λ (point : Point). nat_lt point.hash hash ≡ false) points first → drop first points ++ take first points ≡ round points hash
-round_from_cut points hash first (before, behind) =
+round_from_cut points hash first (before, after) =
     let below : Point → Bool = λ point. nat_lt point.hash hash in
     let rest : Point → Bool = λ point. nat_le hash point.hash in
-    rw (rest_from_cut below rest (λ point. not_below point.hash hash) points first before behind, front_from_cut below points first before behind) refl
+    rw (rest_from_cut below rest (λ point. not_below point.hash hash) points first before after, front_from_cut below points first before after) refl
 
 -- Going round meets each point once.
 pub round_permutes : (points : List Point) (hash : ℕ) → IsPermutation points (round points hash)

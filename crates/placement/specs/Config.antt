@@ -10,13 +10,13 @@ use Rattle.placement.specs.declared.config.Config.{Config}
 abbrev pub AreDifferent : List ℕ → Type 0
 AreDifferent numbers = AllPairs (λ a b. a ≢ b) numbers
 
--- the number of a worker
-abbrev pub IsWorker : ℕ → ℕ → Type 0
-IsWorker workers n = (1 ≤ n) × (n ≤ workers)
+-- one of the numbers from 1 to the last
+abbrev pub IsOneOf : ℕ → ℕ → Type 0
+IsOneOf last n = (1 ≤ n) × (n ≤ last)
 
 -- the pins of a key are different workers
 pub record ArePins (workers : ℕ) (pins : List ℕ) : Type 0 where
-  pub are_workers : All (IsWorker workers) pins
+  pub are_workers : All (IsOneOf workers) pins
   pub different : AreDifferent pins
 
 pub record IsValidConfig (config : Config) : Type 0 where
@@ -62,7 +62,7 @@ home_of replicas session = slice_index_or replicas ((session - 1) % length repli
 -- in a valid config the replicas of a key are different workers, at least one; those of a key without pins are as many as its factor says
 pub record AreReplicas (config : Config) (key : KeyPlace) (replicas : List ℕ) : Type 0 where
   pub some : 1 ≤ length replicas
-  pub are_workers : All (IsWorker config.workers) replicas
+  pub are_workers : All (IsOneOf config.workers) replicas
   pub different : AreDifferent replicas
   pub as_many : key.pins ≡ [] → length replicas ≡ factor_of config key
 

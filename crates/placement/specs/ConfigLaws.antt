@@ -28,7 +28,7 @@ point_exact a b e =
     λ i. record { hash = hash i; worker = worker i; index = index i }
 
 -- the points with one more, where that comes after the first or before it
-with_permutes_as : (point first : Point) (points : List Point) (behind : Bool) → IsPermutation (point ∷ points) (with_point point points) → IsPermutation (point ∷ first ∷ points) (cond behind (first ∷ with_point point points) (point ∷ first ∷ points))
+with_permutes_as : (point first : Point) (points : List Point) (after : Bool) → IsPermutation (point ∷ points) (with_point point points) → IsPermutation (point ∷ first ∷ points) (cond after (first ∷ with_point point points) (point ∷ first ∷ points))
 with_permutes_as point first points true rest = IsPermutation-trans _ (first ∷ point ∷ points) _ (IsPermutation-sym _ _ (IsPermutation-middle (first ∷ []) point points)) (IsPermutation-cons first _ _ rest)
 with_permutes_as point first points false rest = IsPermutation-refl (point ∷ first ∷ points)
 
@@ -38,10 +38,10 @@ with_permutes point [] = IsPermutation-refl (point ∷ [])
 with_permutes point (first ∷ points) = with_permutes_as point first points (is_lt (point_cmp first point)) (with_permutes point points)
 
 -- the same of the order of the points
-with_sorted_as : (point first : Point) (points : List Point) (behind : Bool) → is_lt (point_cmp first point) ≡ behind → IsSorted point_cmp (first ∷ points) → IsSorted point_cmp (with_point point points) → IsSorted point_cmp (cond behind (first ∷ with_point point points) (point ∷ first ∷ points))
+with_sorted_as : (point first : Point) (points : List Point) (after : Bool) → is_lt (point_cmp first point) ≡ after → IsSorted point_cmp (first ∷ points) → IsSorted point_cmp (with_point point points) → IsSorted point_cmp (cond after (first ∷ with_point point points) (point ∷ first ∷ points))
 with_sorted_as point first points true is up rest =
-    let Behind : Point → Type 0 = λ other. is_lt (point_cmp other first) ≡ false in
-    sorted_before point_cmp first (with_point point points) (All-permutation Behind (point ∷ points) (with_point point points) (with_permutes point points) (All-cons Behind point points (not_above point_cmp point_total first point is) (none_below_first point_cmp point_total first points up))) rest
+    let After : Point → Type 0 = λ other. is_lt (point_cmp other first) ≡ false in
+    sorted_before point_cmp first (with_point point points) (All-permutation After (point ∷ points) (with_point point points) (with_permutes point points) (All-cons After point points (not_above point_cmp point_total first point is) (none_below_first point_cmp point_total first points up))) rest
 with_sorted_as point first points false is up rest = sorted_cons point_cmp point first points is up
 
 -- A point is put among ascending ones in its place.

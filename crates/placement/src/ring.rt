@@ -68,8 +68,8 @@ pub(crate) fn points_of_all(alloc: Global, workers: u16) -> Result<Vec<Point>, N
 
 /// Adds the points of one worker.
 fn push_points(alloc: Global, points: &mut Vec<Point>, worker: u16) -> Result<(), NoMemory>
-    ensures { IfOk result (λ _. points.new.items ≡ points.old.items ++ map (point_of worker)
-        (range_with_len 0 16)) }
+    ensures { IfOk result (λ _. points.new.items
+        ≡ points.old.items ++ map (point_of worker) (range_with_len 0 16)) }
 {
     for index in 0..POINTS_EACH {
         points.push(hashed_point(alloc, worker, index)?)?;

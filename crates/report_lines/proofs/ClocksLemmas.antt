@@ -8,13 +8,14 @@ use Rattle.std.proofs.lemmas.Fmt.{decimal_injective}
 use Rattle.std.proofs.lemmas.List.Elements.{recursion_from_All}
 use Rattle.lattice_laws.specs.Spelling.{is_spelling_byte}
 use Rattle.session_known.specs.Form.{IsClockIn, AreNeedsIn}
-use Rattle.session_known.specs.Script.{IsOneOf}
+use Rattle.placement.specs.Config.{IsOneOf}
+use Rattle.session_known.specs.Script.{key_name, session_name}
 use Rattle.session_known.specs.declared.script.Script.{Script}
 use Rattle.report_lines.proofs.NamesLemmas.{TellsNames, spelled_made, decimal_spelled, session_spelled, session_told, key_spelled, key_told}
 use Rattle.report_lines.proofs.RenderingLemmas.{Passes, Tells, made_of, word_marks, in_word, cut_at, cut_piece, not_passes, both_pass}
 use Rattle.report_lines.proofs.RowsLemmas.{IsMarked, all_map, listed_tells, listed_passes}
 use Rattle.report_lines.specs.Parts.{IsCounted}
-use Rattle.report_lines.specs.Text.{key_name, session_name, count_text, clock_word, need_text, needs_word}
+use Rattle.report_lines.specs.Text.{count_text, clock_word, need_text, needs_word}
 
 -- an entry of needs in form
 abbrev pub IsNeeded : Script → ℕ × List (ℕ × ℕ) → Type 0

@@ -10,7 +10,7 @@ use Rattle.composed_value.specs.declared.kind.Kind.{Kind}
 use Rattle.composed_value.specs.declared.value.Value.{Value}
 use Rattle.placement.specs.Name.{IsName}
 use Rattle.session_known.specs.Form.{IsClockIn, IsValueIn, NeedsFit, IsShownIn, IsAgainIn, Fits, IsFinalIn, HasForm}
-use Rattle.session_known.specs.Script.{kind_at}
+use Rattle.session_known.specs.Script.{kind_at, key_name, session_name}
 use Rattle.session_known.specs.declared.report.Answer.{Answer}
 use Rattle.session_known.specs.declared.report.Answer.TheVariants as answers
 use Rattle.session_known.specs.declared.report.FinalCell.{FinalCell}
@@ -27,7 +27,7 @@ use Rattle.report_lines.proofs.ClocksLemmas.{clock_counted, clock_passes, needs_
 use Rattle.report_lines.proofs.NamesLemmas.{TellsNames, spelled_made, decimal_spelled, session_spelled, key_spelled}
 use Rattle.report_lines.proofs.RenderingLemmas.{Passes, word_marks, in_word, IsLine, both_pass}
 use Rattle.report_lines.proofs.RowsLemmas.{all_map, both_all}
-use Rattle.report_lines.specs.Text.{key_name, session_name, clock_word, worker_word, level_word, cell_words, needs_words, shown_words, again_words, answer_words, answers_lines, sessions_lines, final_words, report_lines}
+use Rattle.report_lines.specs.Text.{clock_word, worker_word, level_word, cell_words, needs_words, shown_words, again_words, answer_words, answers_lines, sessions_lines, final_words, report_lines}
 use Rattle.report_lines.proofs.ValuesLemmas.{value_passes}
 
 -- words whose bytes are those of words

@@ -11,10 +11,10 @@ use Rattle.std.proofs.lemmas.List.Elements.{All-head, All-tail}
 use Rattle.std.proofs.lemmas.List.Sums.{list_all-from_AllPass}
 use Rattle.lattice_laws.specs.Spelling.{is_spelling_byte}
 use Rattle.placement.specs.Name.{IsName}
-use Rattle.session_known.specs.Script.{IsValidScript, IsOneOf}
+use Rattle.placement.specs.Config.{IsOneOf}
+use Rattle.session_known.specs.Script.{IsValidScript, key_name, session_name}
 use Rattle.session_known.specs.declared.script.Script.{Script}
 use Rattle.report_lines.proofs.RenderingLemmas.{Passes, made_of, passes_weaker}
-use Rattle.report_lines.specs.Text.{key_name, session_name}
 
 -- only bytes that may stand in a name
 abbrev pub Spelled : List ℕ → Type 0

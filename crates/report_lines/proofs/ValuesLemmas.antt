@@ -19,7 +19,8 @@ use Rattle.composed_value.specs.declared.value.Value.TheVariants.{Max, Or, Set, 
 use Rattle.lattice_laws.specs.Spelling.{is_spelling_byte}
 use Rattle.lattice_laws.specs.declared.maybe.Maybe.TheVariants.{Bottom, Is}
 use Rattle.session_known.specs.Form.{NamesSessions, IsValueIn}
-use Rattle.session_known.specs.Script.{IsOneOf}
+use Rattle.placement.specs.Config.{IsOneOf}
+use Rattle.session_known.specs.Script.{session_name}
 use Rattle.session_known.specs.declared.script.Script.{Script}
 use Rattle.version_antichain.specs.Versions.{IsVersions}
 use Rattle.version_antichain.specs.declared.version.Version.{Version}
@@ -28,7 +29,7 @@ use Rattle.report_lines.proofs.ClocksLemmas.{clock_counted, clock_told, clock_pa
 use Rattle.report_lines.proofs.NamesLemmas.{Spelled, TellsNames, spelled_made, decimal_digits, decimal_spelled, session_spelled, session_told}
 use Rattle.report_lines.proofs.RenderingLemmas.{Passes, Tells, made_of, word_marks, in_word, cut_at, cut_once, cut_piece, not_passes, both_pass, join_passes, join_tells}
 use Rattle.report_lines.proofs.RowsLemmas.{IsMarked, all_map, row_marked, braced_tells, braced_passes}
-use Rattle.report_lines.specs.Text.{session_name, clock_word, field_text, stamped_text, version_text, versions_word, braced, value_word}
+use Rattle.report_lines.specs.Text.{clock_word, field_text, stamped_text, version_text, versions_word, braced, value_word}
 
 -- ---- words and fields
 

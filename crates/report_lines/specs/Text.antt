@@ -1,5 +1,5 @@
 -- The text of a report: lines, each a list of words, and one rendering of them to bytes.
-use Rattle.std.specs.Prelude.{ℕ, ◌-◌, ◌==◌, if◌then◌else◌, List, [], ◌∷◌, ◌++◌, map, slice_index_or, codes, Option, Some, None}
+use Rattle.std.specs.Prelude.{ℕ, ◌==◌, if◌then◌else◌, List, [], ◌∷◌, ◌++◌, map, codes, Option, Some, None}
 use Rattle.std.specs.List.{join_with_byte, flat_map}
 use Rattle.std.specs.Fmt.{decimal}
 use Rattle.lattice_laws.specs.declared.maybe.Maybe.TheVariants.{Bottom, Is}
@@ -7,6 +7,7 @@ use Rattle.basic_lattices.specs.declared.stamped.Stamped.{Stamped}
 use Rattle.version_antichain.specs.declared.version.Version.{Version}
 use Rattle.composed_value.specs.declared.value.Value.{Value}
 use Rattle.composed_value.specs.declared.value.Value.TheVariants as values
+use Rattle.session_known.specs.Script.{key_name, session_name}
 use Rattle.session_known.specs.declared.report.Answer.{Answer}
 use Rattle.session_known.specs.declared.report.Answer.TheVariants as answers
 use Rattle.session_known.specs.declared.report.FinalCell.{FinalCell}
@@ -18,14 +19,6 @@ use Rattle.session_known.specs.declared.script.Line.{Line}
 use Rattle.session_known.specs.declared.script.Line.TheVariants as lines
 use Rattle.session_known.specs.declared.script.Script.{Script}
 use Rattle.session_known.specs.declared.script.SessionPlan.{SessionPlan}
-
--- the name of a key, by its number
-abbrev pub key_name : Script → ℕ → List ℕ
-key_name script key = slice_index_or (map (λ place. place.name) script.config.keys) (key - 1) []
-
--- the name of a session, by its number
-abbrev pub session_name : Script → ℕ → List ℕ
-session_name script session = slice_index_or (map (λ plan. plan.name) script.sessions) (session - 1) []
 
 -- ---- words
 

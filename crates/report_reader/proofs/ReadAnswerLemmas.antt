@@ -7,7 +7,8 @@ use Rattle.std.proofs.lemmas.Bool.{true≢false, both_ways, eq-eqb}
 use Rattle.std.proofs.lemmas.Fmt.{decimal_injective}
 use Rattle.lattice_laws.specs.Spelling.{is_spelling_byte}
 use Rattle.session_known.specs.Form.{Fits}
-use Rattle.session_known.specs.Script.{IsOneOf}
+use Rattle.placement.specs.Config.{IsOneOf}
+use Rattle.session_known.specs.Script.{key_name, session_name}
 use Rattle.session_known.specs.declared.report.Answer.{Answer}
 use Rattle.session_known.specs.declared.report.Answer.TheVariants as answers
 use Rattle.session_known.specs.declared.script.Level.{Level}
@@ -17,7 +18,7 @@ use Rattle.session_known.specs.declared.script.Script.{Script}
 use Rattle.report_lines.proofs.AnswersLemmas.{word_at, committed_words}
 use Rattle.report_reader.specs.ReadAnswers.{IsGotIn, got_words, IsEndedIn, ended_words}
 use Rattle.report_reader.specs.Reads.{Reads}
-use Rattle.report_lines.specs.Text.{key_name, session_name, worker_word, answer_words}
+use Rattle.report_lines.specs.Text.{worker_word, answer_words}
 
 -- a worker is told from its word
 pub worker_told : (workers : ℕ) → workers ≤ 8 → (a b : ℕ) → IsOneOf workers b → IsOneOf workers a → worker_word a ≡ worker_word b → a ≡ b

@@ -14,7 +14,8 @@ use Rattle.report_reader.specs.ReadLines.{IsFinalAt}
 use Rattle.report_reader.specs.Reads.{Reads}
 use Rattle.report_lines.specs.Text.{cell_words, final_words}
 use Rattle.report_reader.specs.declared.cells.Cell.{Cell}
-use Rattle.report_reader.proofs.ReadCellWords.{texts, texts_two}
+use Rattle.script_reader.specs.Words.{texts}
+use Rattle.report_reader.proofs.ReadCellWords.{texts_two}
 
 -- the words of a cell
 abbrev pub words_of_cell : Script → Cell → List (List ℕ)

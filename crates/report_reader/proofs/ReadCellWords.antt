@@ -1,16 +1,11 @@
 -- Words of a line as slices, and their texts.
-use Rattle.std.proofs.Common.{◌≡◌, ℕ, ◌<◌, ◌≤◌, ◌-◌, Bool, true, false, not, List, [], ◌∷◌, map, take, drop, length, get_or, Bor, refl, sym, ap, ◌∙◌, arith}
+use Rattle.std.proofs.Common.{◌≡◌, ℕ, ◌<◌, ◌≤◌, ◌-◌, Bool, true, false, not, List, [], ◌∷◌, take, drop, length, get_or, Bor, refl, sym, ap, ◌∙◌, arith}
 use Rattle.std.specs.Bool.{IsTrue}
 use Rattle.std.specs.Str.{bytes_eq}
-use Rattle.session_known.specs.Script.{IsOneOf}
+use Rattle.script_reader.specs.Words.{texts}
 use Rattle.std.proofs.Math.Seq.{take-length}
 use Rattle.std.proofs.lemmas.Bool.{not-false}
-use Rattle.std.proofs.lemmas.List.{get_or-map}
 use Rattle.std.proofs.lemmas.Slice.Eq.{bytes_eq-Decides}
-
--- the texts of slices
-abbrev pub texts : List (Bor (List ℕ)) → List (List ℕ)
-texts words = map (λ word. word.now) words
 
 -- the first two of some
 pub texts_two : (words : List (Bor (List ℕ))) (d : Bor (List ℕ)) → 2 ≤ length words → texts words ≡ (get_or words 0 d).now ∷ (get_or words 1 d).now ∷ texts (take (length words - 2) (drop 2 words))
@@ -34,12 +29,6 @@ text_tested known text other result tested is = (
   (λ yes. sym ((bytes_eq-Decides known text).0 (sym tested ∙ yes)) ∙ is),
   (λ same. tested ∙ (bytes_eq-Decides known text).1 (is ∙ sym same)),
 )
-
--- the name of what stands at a number from 1
-pub found_name : {X : Type 0} (name : X → List ℕ) (xs ys : List X) (n m : ℕ) (found : X) → found ≡ get_or ys (m - 1) found → ys ≡ xs → m ≡ n → IsOneOf (length xs) n → name found ≡ get_or (map name xs) (n - 1) []
-found_name name xs ys n m found is same number one =
-    let here : found ≡ get_or xs (n - 1) found = is ∙ (λ i. get_or (same i) (number i - 1) found) in
-    ap name here ∙ sym (get_or-map name xs (n - 1) found [] (omega (arith, one.0, one.1)))
 
 -- the test of two texts holds where they are one
 pub one_text : (text other : List ℕ) → bytes_eq text other ≡ true → text ≡ other

@@ -11,14 +11,15 @@ use Rattle.lattice_laws.proofs.ListLemmas.{All-front}
 use Rattle.clock_lattice.specs.Clock.{IsClock}
 use Rattle.clock_lattice.specs.Needs.{IsNeeds}
 use Rattle.session_known.specs.Form.{AreNeedsIn, IsClockIn, NamesSessions}
-use Rattle.session_known.specs.Script.{IsOneOf}
+use Rattle.placement.specs.Config.{IsOneOf}
+use Rattle.session_known.specs.Script.{key_name, session_name}
 use Rattle.session_known.specs.declared.script.Script.{Script}
 use Rattle.report_lines.specs.Parts.{IsCounted}
 use Rattle.report_lines.proofs.ClocksLemmas.{clock_counted, clock_passes, count_tells, count_passes, need_ends}
 use Rattle.report_lines.proofs.NamesLemmas.{TellsNames, key_spelled, session_spelled, spelled_made}
 use Rattle.report_reader.specs.ReadNeeds.{IsNeedIn, open_text}
 use Rattle.report_lines.proofs.RenderingLemmas.{Passes, Stops, both_pass, made_of}
-use Rattle.report_lines.specs.Text.{clock_word, count_text, key_name, need_text, session_name}
+use Rattle.report_lines.specs.Text.{clock_word, count_text, need_text}
 use Rattle.report_reader.proofs.ReadRows.{AreRead, IsCut, IsNext, IsNoRow, Lacks, PieceLaws, RowLaws, lacks_failing, left_again, map_front, no_cut, no_row, one_read, same_cut}
 
 -- ---- clocks

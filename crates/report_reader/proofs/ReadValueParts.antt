@@ -12,7 +12,8 @@ use Rattle.session_known.specs.declared.script.Script.{Script}
 use Rattle.version_antichain.specs.declared.version.Version.{Version}
 use Rattle.report_lines.proofs.NamesLemmas.{TellsNames, decimal_spelled, session_spelled}
 use Rattle.report_reader.specs.ReadValues.{IsField, IsStampIn, stamp_text, IsStampedIn, IsVersionIn}
-use Rattle.report_lines.specs.Text.{session_name, clock_word, field_text, stamped_text, version_text}
+use Rattle.session_known.specs.Script.{session_name}
+use Rattle.report_lines.specs.Text.{clock_word, field_text, stamped_text, version_text}
 use Rattle.report_reader.proofs.ReadRows.{IsCut, lacks_failing, same_cut}
 use Rattle.report_reader.proofs.ReadValueForms.{word_lacks}
 

@@ -12,7 +12,7 @@ use Rattle.std.proofs.lemmas.List.{take-append-drop, drop_more, take_rest, lengt
 use Rattle.std.proofs.lemmas.List.Folds.{list_any_none}
 use Rattle.std.proofs.lemmas.List.Quantifiers.{position-Some}
 use Rattle.std.proofs.lemmas.Str.{IsUtf8-from_ascii}
-use Rattle.session_known.specs.Script.{IsOneOf}
+use Rattle.placement.specs.Config.{IsOneOf}
 use Rattle.report_lines.specs.Text.{worker_word}
 
 -- where the first does not pass, and there is no first place in the rest

@@ -1,9 +1,10 @@
 -- Needs read entry by entry.
 use Rattle.std.specs.Prelude.{ℕ, List, ◌++◌, length, codes}
 use Rattle.session_known.specs.Form.{IsClockIn}
-use Rattle.session_known.specs.Script.{IsOneOf}
+use Rattle.placement.specs.Config.{IsOneOf}
+use Rattle.session_known.specs.Script.{key_name}
 use Rattle.session_known.specs.declared.script.Script.{Script}
-use Rattle.report_lines.specs.Text.{key_name, clock_word}
+use Rattle.report_lines.specs.Text.{clock_word}
 
 -- a key with a clock in form, which may be empty
 abbrev pub IsNeedIn : Script → ℕ × List (ℕ × ℕ) → Type 0

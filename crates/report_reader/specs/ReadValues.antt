@@ -8,12 +8,13 @@ use Rattle.basic_lattices.specs.Stamped.{IsStamped}
 use Rattle.basic_lattices.specs.Word.{IsWord}
 use Rattle.basic_lattices.specs.declared.stamped.Stamped.{Stamped}
 use Rattle.session_known.specs.Form.{NamesSessions}
-use Rattle.session_known.specs.Script.{IsOneOf}
+use Rattle.placement.specs.Config.{IsOneOf}
+use Rattle.session_known.specs.Script.{session_name}
 use Rattle.session_known.specs.declared.script.Script.{Script}
 use Rattle.version_antichain.specs.Version.{IsVersion}
 use Rattle.version_antichain.specs.Versions.{IsVersions}
 use Rattle.version_antichain.specs.declared.version.Version.{Version}
-use Rattle.report_lines.specs.Text.{session_name, stamped_text}
+use Rattle.report_lines.specs.Text.{stamped_text}
 
 -- ---- numbers and flags
 

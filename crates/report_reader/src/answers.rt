@@ -3,7 +3,8 @@ ghost use Rattle.std.specs.Prelude.{◌≡◌, ◌↔◌, ◌∷◌, [], ℕ, Li
 ghost use Rattle.std.specs.List.{join_with_byte};
 ghost use Rattle.composed_value.specs.declared.payload.Payload.{Payload};
 ghost use Rattle.session_known.specs.Form.{Fits, NeedsFit};
-ghost use Rattle.session_known.specs.Script.{IsOneOf, MayStand, IsValid, IsValidScript};
+ghost use Rattle.placement.specs.Config.{IsOneOf};
+ghost use Rattle.session_known.specs.Script.{MayStand, IsValid, IsValidScript, key_name, session_name};
 ghost use Rattle.session_known.specs.declared.script.Level.{Level};
 ghost use Rattle.session_known.specs.declared.script.Level.TheVariants as levels;
 ghost use Rattle.session_known.specs.declared.script.Line.TheVariants as lines;
@@ -12,7 +13,7 @@ ghost use Rattle.report_reader.specs.ReadAnswers.{IsEndedIn, IsGotIn, IsShownCel
 ghost use Rattle.report_reader.specs.ReadLines.{IsFinalAt};
 ghost use Rattle.script_reader.specs.Words.{texts};
 ghost use Rattle.report_reader.specs.Reads.{Reads};
-ghost use Rattle.report_lines.specs.Text.{key_name, session_name, needs_words, answer_words, final_words, worker_word};
+ghost use Rattle.report_lines.specs.Text.{needs_words, answer_words, final_words, worker_word};
 
 use crate::cells::{is_key, named, read_cell};
 use crate::clocks::{read_clock, read_needs};
@@ -70,7 +71,6 @@ fn read_answer_words(
 
 /// Reads the answer to a put.
 fn read_put(script: &Script, level: Level, key: u16, words: &[&[u8]]) -> Option<Answer>
-    requires { IsOneOf (length script.now.config.keys) key }
     ensures { (payload : Payload) → Reads (Fits script.now level (lines.Put key payload))
         (answer_words script.now (lines.Put key payload)) (texts words.now) result }
 {
@@ -189,7 +189,6 @@ fn read_await(
 ) -> Result<Option<Answer>, NoMemory>
     requires valid { IsValid script.now }
     requires key { IsOneOf (length script.now.config.keys) key }
-    requires session { IsOneOf (length script.now.sessions) session }
     ensures { IfOk result (Reads (Fits script.now level (lines.Await key session count))
         (answer_words script.now (lines.Await key session count)) (texts words.now)) }
 {
@@ -238,11 +237,9 @@ fn read_await_end(
 
 /// Whether a word is the name of a session.
 fn is_session(script: &Script, session: u16, word: &[u8]) -> bool
-    requires { IsOneOf (length script.now.sessions) session }
     ensures { IsTrue result ↔ (word.now ≡ session_name script.now session) }
 {
-    let plan = &script.sessions.as_slice()[usize::from(session) - 1];
-    plan.name.as_bytes() == word
+    script.session_name(session) == word
 }
 
 /// Whether a word is a number.

@@ -1,16 +1,17 @@
 //! Cells, read: what answers and final cells share.
 ghost use Rattle.std.specs.Prelude.{◌≡◌, ◌↔◌, ◌∷◌, [], List, ℕ, IfOk, IsTrue, MatchOption, length};
-ghost use Rattle.session_known.specs.Script.{IsOneOf, kind_at, IsValid};
+ghost use Rattle.placement.specs.Config.{IsOneOf};
+ghost use Rattle.session_known.specs.Script.{kind_at, IsValid, key_name};
 ghost use Rattle.report_reader.specs.ReadCells.{IsCellIn, parts_of_cell};
 ghost use Rattle.script_reader.specs.Words.{texts};
 ghost use Rattle.report_reader.specs.Reads.{Reads};
-ghost use Rattle.report_lines.specs.Text.{cell_words, key_name};
+ghost use Rattle.report_lines.specs.Text.{cell_words};
 
 use crate::clocks::read_clock;
 use crate::values::read_value;
 use crate::words::read_number;
 use clock_lattice::Clock;
-use composed_value::{Kind, Value};
+use composed_value::Value;
 use lattice_laws::NoMemory;
 use session_known::Script;
 use std::alloc::Global;
@@ -43,20 +44,9 @@ pub(crate) fn named<'w, 'a>(
 
 /// Whether a word is the name of a key.
 pub(crate) fn is_key(script: &Script, key: u16, word: &[u8]) -> bool
-    requires { IsOneOf (length script.now.config.keys) key }
     ensures { IsTrue result ↔ (word.now ≡ key_name script.now key) }
 {
-    let place = &script.config.keys.as_slice()[usize::from(key) - 1];
-    place.name.as_bytes() == word
-}
-
-/// The kind of a key.
-fn kind_of_key(script: &Script, key: u16) -> Kind
-    requires valid { IsValid script.now }
-    requires key { IsOneOf (length script.now.config.keys) key }
-    ensures { result ≡ kind_at script.now.kinds key }
-{
-    script.kinds.as_slice()[usize::from(key) - 1]
+    script.key_name(key) == word
 }
 
 /// The clock, the top and the value in the words of a cell.
@@ -101,7 +91,7 @@ pub(crate) fn read_cell(
     let Some(top) = read_number(top) else {
         return Ok(None);
     };
-    let Some(value) = read_value(alloc, script, kind_of_key(script, key), value)? else {
+    let Some(value) = read_value(alloc, script, script.kind_of(key), value)? else {
         return Ok(None);
     };
     Ok(Some(Cell { clock, top, value }))

@@ -3,7 +3,8 @@ ghost use Rattle.std.specs.Prelude.{◌≡◌, List, ℕ, ◌+◌, ◌<◌, ◌�
 ghost use Rattle.std.specs.List.{AllZip, flat_map, join_with_byte, list_any, range_with_len};
 ghost use Rattle.placement.specs.Name.{IsName};
 ghost use Rattle.session_known.specs.Form.{Fits, IsFinalIn, HasForm, final_places};
-ghost use Rattle.session_known.specs.Script.{IsOneOf, IsValidSession, MayStand, IsValid, IsValidScript};
+ghost use Rattle.placement.specs.Config.{IsOneOf};
+ghost use Rattle.session_known.specs.Script.{IsValidSession, MayStand, IsValid, IsValidScript};
 ghost use Rattle.session_known.specs.declared.report.Answer.{Answer};
 ghost use Rattle.report_reader.specs.declared.ReportFault.TheVariants.{Form};
 ghost use Rattle.report_reader.specs.ReadLines.{Answered, FinalOf, IsFinalAt, session_dues, finals_dues, report_dues, HasGot, IsPartFault};

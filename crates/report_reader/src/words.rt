@@ -1,9 +1,10 @@
 //! Words of a report, read: numbers, names and workers, and texts cut at a byte.
 ghost use Rattle.std.specs.Prelude.{◌≡◌, ◌↔◌, List, ℕ, ◌<◌, ◌^◌, ◌==◌, ◌∷◌, ◌++◌, false, map, length, decimal, IfOk, IsTrue, MatchOption};
 ghost use Rattle.std.specs.List.{list_any, slice_split};
-ghost use Rattle.session_known.specs.Script.{IsOneOf, IsValid};
+ghost use Rattle.placement.specs.Config.{IsOneOf};
+ghost use Rattle.session_known.specs.Script.{IsValid, key_name, session_name};
 ghost use Rattle.report_reader.specs.Reads.{Reads};
-ghost use Rattle.report_lines.specs.Text.{key_name, session_name, worker_word};
+ghost use Rattle.report_lines.specs.Text.{worker_word};
 
 use itoa::Buffer;
 use lattice_laws::NoMemory;

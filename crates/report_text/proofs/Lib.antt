@@ -1,3 +1,2 @@
 pub mod ReportLemmas
-pub mod TestedLemmas
 pub mod WritesLemmas

@@ -10,8 +10,7 @@ use Rattle.std.proofs.lemmas.Option.{slice_get-get_or}
 use Rattle.std.proofs.lemmas.Slice.Zip.{length-zip, get_or-zip}
 use Rattle.std.specs.List.{All, AllZip, flat_map, slice_get, zip}
 use Rattle.session_known.specs.Form.{Fits, HasForm}
-use Rattle.session_known.proofs.FormLemmas.{finals_known}
-use Rattle.session_known.specs.Script.{IsOneOf, IsValidScript, IsValidSession, MayStand}
+use Rattle.session_known.specs.Script.{IsValidScript, IsValidSession, MayStand}
 use Rattle.session_known.specs.declared.report.Answer.{Answer}
 use Rattle.session_known.specs.declared.report.FinalCell.{FinalCell}
 use Rattle.session_known.specs.declared.report.Report.{Report}
@@ -107,7 +106,3 @@ sessions_may script table (plan ∷ plans) (answers ∷ others) valid fit = (
 -- Each answer of a report in form is one that its line may have.
 pub report_may : (script : Script) (table : List (List ℕ)) (report : Report) → IsValidScript script table → HasForm script table report → AllZip (λ plan answers. AllZip (MayAnswer script) plan.lines answers) script.sessions report.answers
 report_may script table report valid form = sessions_may script table script.sessions report.answers valid.sessions form.answers
-
--- The final cells of a report in form have keys of the script.
-pub finals_keys : (script : Script) (table : List (List ℕ)) (report : Report) → HasForm script table report → All (λ cell. IsOneOf (length script.config.keys) cell.key) report.finals
-finals_keys script table report form = λ k d within. (finals_known script table report form k d within).0

@@ -1,10 +1,9 @@
 -- What is written, in the pieces in which it is written.
 use Rattle.std.specs.Prelude.{ℕ, zero, suc, List, [], ◌∷◌, ◌++◌, codes}
 use Rattle.std.specs.List.{flat_map}
-use Rattle.session_known.specs.Form.{Fits, IsShownIn}
+use Rattle.session_known.specs.Form.{Fits}
 use Rattle.session_known.specs.Script.{MayStand}
 use Rattle.session_known.specs.declared.report.Answer.{Answer}
-use Rattle.session_known.specs.declared.report.Shown.{Shown}
 use Rattle.session_known.specs.declared.script.Level.{Level}
 use Rattle.session_known.specs.declared.script.Line.{Line}
 use Rattle.session_known.specs.declared.script.Script.{Script}
@@ -28,7 +27,3 @@ session_text script plan answers = line_text (codes "session" ∷ plan.name ∷ 
 -- the line may stand in a session of the script, and the answer is one that it may have
 abbrev pub MayAnswer : Script → Line → Answer → Type 0
 MayAnswer script line answer = (table : List (List ℕ)) × (level : Level) × MayStand script table level line × Fits script level line answer
-
--- the cell is shown by a worker in some session
-abbrev pub IsShown : Script → Shown → Type 0
-IsShown script shown = (level : Level) × (key : ℕ) × (worker : ℕ) × IsShownIn script level key worker shown

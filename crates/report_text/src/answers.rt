@@ -1,11 +1,9 @@
 //! Lines of answers, written to a text.
-ghost use Rattle.std.specs.Prelude.{ℕ, [], ◌∷◌, ◌==◌, codes, decimal, length, if◌then◌else◌};
-ghost use Rattle.session_known.specs.Form.{NamesSessions, IsShownIn};
-ghost use Rattle.session_known.specs.Script.{IsOneOf};
-ghost use Rattle.session_known.specs.declared.script.Level.{Level};
+ghost use Rattle.std.specs.Prelude.{[], ◌∷◌, ◌==◌, codes, decimal, if◌then◌else◌};
+ghost use Rattle.session_known.specs.Script.{key_name, session_name};
 ghost use Rattle.outside.specs.Gathering.{Adds};
-ghost use Rattle.report_lines.specs.Text.{key_name, session_name, worker_word, shown_words, needs_words, again_words, answer_words, line_text};
-ghost use Rattle.report_text.specs.Writes.{MayAnswer, IsShown, spaced};
+ghost use Rattle.report_lines.specs.Text.{worker_word, shown_words, needs_words, again_words, answer_words, line_text};
+ghost use Rattle.report_text.specs.Writes.{MayAnswer, spaced};
 
 use crate::cells::{
     write_cell, write_clock_words, write_needs, write_spaced_key, write_spaced_session,
@@ -22,7 +20,6 @@ use session_known::{Answer, Line, Script, Shown};
 /// Writes the needs of a shown cell, where there are any.
 #[tactic(auto, using(crate::proofs::WritesLemmas::words))]
 fn write_shown_needs<K: Sink>(out: &mut Out<'_, K>, script: &Script, shown: &Shown)
-    requires { IsShown script.now shown.now }
     ensures { Adds K.written K.faults out.old out.new
         (spaced (needs_words script.now shown.now.needs)) }
 {
@@ -35,7 +32,6 @@ fn write_shown_needs<K: Sink>(out: &mut Out<'_, K>, script: &Script, shown: &Sho
 
 /// Writes what a worker showed.
 fn write_shown<K: Sink>(out: &mut Out<'_, K>, script: &Script, worker: u16, shown: &Shown)
-    requires { IsShown script.now shown.now }
     ensures { Adds K.written K.faults out.old out.new
         (spaced (shown_words script.now worker shown.now)) }
 {
@@ -53,7 +49,6 @@ fn write_again<K: Sink>(
     worker: u16,
     clock: &Clock,
 )
-    requires { NamesSessions script.now clock.now }
     ensures { Adds K.written K.faults out.old out.new
         (spaced (again_words script.now asks worker clock.now)) }
 {
@@ -78,7 +73,6 @@ fn write_stamp<K: Sink, N: Integer>(out: &mut Out<'_, K>, number: N, lamport: u6
 
 /// Writes the line of a put that was accepted.
 fn write_put<K: Sink>(out: &mut Out<'_, K>, script: &Script, key: u16, number: u64, lamport: u64)
-    requires { IsOneOf (length script.now.config.keys) key }
     ensures { Adds K.written K.faults out.old out.new
         (line_text (codes "put" ∷ key_name script.now key
         ∷ decimal number ∷ codes "at" ∷ decimal lamport ∷ [])) }
@@ -91,7 +85,6 @@ fn write_put<K: Sink>(out: &mut Out<'_, K>, script: &Script, key: u16, number: u
 
 /// Writes the line of a put that was not accepted yet, or not at all, with the word that says so.
 fn write_other_put<K: Sink>(out: &mut Out<'_, K>, script: &Script, key: u16, word: &[u8])
-    requires { IsOneOf (length script.now.config.keys) key }
     ensures { Adds K.written K.faults out.old out.new
         (line_text (codes "put" ∷ key_name script.now key ∷ word.now ∷ [])) }
 {
@@ -105,8 +98,6 @@ fn write_other_put<K: Sink>(out: &mut Out<'_, K>, script: &Script, key: u16, wor
 
 /// Writes the line of a get that was shown a cell.
 fn write_got<K: Sink>(out: &mut Out<'_, K>, script: &Script, key: u16, worker: u16, shown: &Shown)
-    requires key { IsOneOf (length script.now.config.keys) key }
-    requires shown { IsShown script.now shown.now }
     ensures { Adds K.written K.faults out.old out.new
         (line_text (codes "get" ∷ key_name script.now key
         ∷ shown_words script.now worker shown.now)) }
@@ -126,8 +117,6 @@ fn write_get_again<K: Sink>(
     worker: u16,
     clock: &Clock,
 )
-    requires key { IsOneOf (length script.now.config.keys) key }
-    requires clock { NamesSessions script.now clock.now }
     ensures { Adds K.written K.faults out.old out.new
         (line_text (codes "again" ∷ key_name script.now key
         ∷ again_words script.now asks worker clock.now)) }
@@ -143,8 +132,6 @@ fn write_get_again<K: Sink>(
 /// Writes what is awaited: puts of a session on a key, so many.
 #[tactic(auto, using(crate::proofs::WritesLemmas::words))]
 fn write_awaited<K: Sink>(out: &mut Out<'_, K>, script: &Script, key: u16, session: u16, count: u64)
-    requires key { IsOneOf (length script.now.config.keys) key }
-    requires session { IsOneOf (length script.now.sessions) session }
     ensures { Adds K.written K.faults out.old out.new
         (spaced (key_name script.now key ∷ session_name script.now session ∷ decimal count ∷ [])) }
 {
@@ -162,7 +149,6 @@ fn write_gave_up<K: Sink>(
     worker: u16,
     clock: &Clock,
 )
-    requires { NamesSessions script.now clock.now }
     ensures { Adds K.written K.faults out.old out.new
         (spaced (codes "gave" ∷ codes "up" ∷ again_words script.now asks worker clock.now)) }
 {

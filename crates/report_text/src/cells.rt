@@ -1,10 +1,9 @@
 //! Words of cells, written to a text.
 
-ghost use Rattle.std.specs.Prelude.{[], ◌∷◌, All, length, map, codes, decimal, if◌then◌else◌};
+ghost use Rattle.std.specs.Prelude.{[], ◌∷◌, map, codes, decimal, if◌then◌else◌};
 ghost use Rattle.std.specs.List.{join_with_byte};
-ghost use Rattle.session_known.specs.Form.{NamesSessions, ValueNamesSessions};
-ghost use Rattle.session_known.specs.Script.{IsOneOf};
-ghost use Rattle.report_lines.specs.Text.{key_name, session_name, count_text, clock_word, need_text, needs_word, braced, field_text, stamped_text, version_text, versions_word, value_word, worker_word, cell_words};
+ghost use Rattle.session_known.specs.Script.{key_name, session_name};
+ghost use Rattle.report_lines.specs.Text.{count_text, clock_word, need_text, needs_word, braced, field_text, stamped_text, version_text, versions_word, value_word, worker_word, cell_words};
 ghost use Rattle.outside.specs.Gathering.{Adds};
 ghost use Rattle.report_text.specs.Writes.{spaced};
 
@@ -27,26 +26,21 @@ pub(crate) fn write_name<K: Sink>(out: &mut Out<'_, K>, name: &Name)
 
 /// Writes the name of a key.
 pub(crate) fn write_key<K: Sink>(out: &mut Out<'_, K>, script: &Script, key: u16)
-    requires { IsOneOf (length script.now.config.keys) key }
     ensures { Adds K.written K.faults out.old out.new (key_name script.now key) }
 {
-    let place = &script.config.keys.as_slice()[usize::from(key) - 1];
-    write_name(out, &place.name);
+    out.write(script.key_name(key));
 }
 
 /// Writes the name of a session.
 pub(crate) fn write_session<K: Sink>(out: &mut Out<'_, K>, script: &Script, session: u16)
-    requires { IsOneOf (length script.now.sessions) session }
     ensures { Adds K.written K.faults out.old out.new (session_name script.now session) }
 {
-    let plan = &script.sessions.as_slice()[usize::from(session) - 1];
-    write_name(out, &plan.name);
+    out.write(script.session_name(session));
 }
 
 /// Writes the name of a key after a space.
 #[tactic(auto, using(crate::proofs::WritesLemmas::words))]
 pub(crate) fn write_spaced_key<K: Sink>(out: &mut Out<'_, K>, script: &Script, key: u16)
-    requires { IsOneOf (length script.now.config.keys) key }
     ensures { Adds K.written K.faults out.old out.new (spaced (key_name script.now key ∷ [])) }
 {
     out.write(b" ");
@@ -56,7 +50,6 @@ pub(crate) fn write_spaced_key<K: Sink>(out: &mut Out<'_, K>, script: &Script, k
 /// Writes the name of a session after a space.
 #[tactic(auto, using(crate::proofs::WritesLemmas::words))]
 pub(crate) fn write_spaced_session<K: Sink>(out: &mut Out<'_, K>, script: &Script, session: u16)
-    requires { IsOneOf (length script.now.sessions) session }
     ensures { Adds K.written K.faults out.old out.new
         (spaced (session_name script.now session ∷ [])) }
 {
@@ -87,7 +80,6 @@ pub(crate) fn write_spaced_worker<K: Sink>(out: &mut Out<'_, K>, worker: u16)
 /// Writes a session with the number of its puts, `NAME:COUNT`.
 #[tactic(auto, using(crate::proofs::WritesLemmas::parts))]
 fn write_count<K: Sink>(out: &mut Out<'_, K>, script: &Script, session: u16, count: u64)
-    requires { IsOneOf (length script.now.sessions) session }
     ensures { Adds K.written K.faults out.old out.new (count_text script.now (session, count)) }
 {
     write_session(out, script, session);
@@ -97,7 +89,6 @@ fn write_count<K: Sink>(out: &mut Out<'_, K>, script: &Script, session: u16, cou
 
 /// Writes the counts of a clock between commas.
 fn write_counts<K: Sink>(out: &mut Out<'_, K>, script: &Script, clock: &Clock)
-    requires { NamesSessions script.now clock.now }
     ensures { Adds K.written K.faults out.old out.new
         (join_with_byte 44 (map (count_text script.now) clock.now)) }
 {
@@ -112,10 +103,9 @@ fn write_counts<K: Sink>(out: &mut Out<'_, K>, script: &Script, clock: &Clock)
 
 /// Writes a clock, as a dash where it counts nothing.
 pub(crate) fn write_clock<K: Sink>(out: &mut Out<'_, K>, script: &Script, clock: &Clock)
-    requires { NamesSessions script.now clock.now }
     ensures { Adds K.written K.faults out.old out.new (clock_word script.now clock.now) }
 {
-    if clock.len() == 0 {
+    if clock.is_empty() {
         out.write(b"-");
     } else {
         write_counts(out, script, clock);
@@ -127,8 +117,6 @@ pub(crate) fn write_clock<K: Sink>(out: &mut Out<'_, K>, script: &Script, clock:
 /// Writes a key with the clock that is needed of it, `KEY{CLOCK}`.
 #[tactic(auto, using(crate::proofs::WritesLemmas::parts))]
 fn write_need<K: Sink>(out: &mut Out<'_, K>, script: &Script, key: u16, clock: &Clock)
-    requires key { IsOneOf (length script.now.config.keys) key }
-    requires clock { NamesSessions script.now clock.now }
     ensures { Adds K.written K.faults out.old out.new (need_text script.now (key, clock.now)) }
 {
     write_key(out, script, key);
@@ -139,8 +127,6 @@ fn write_need<K: Sink>(out: &mut Out<'_, K>, script: &Script, key: u16, clock: &
 
 /// Writes the clocks that are needed of keys between commas.
 fn write_each_need<K: Sink>(out: &mut Out<'_, K>, script: &Script, needs: &Needs)
-    requires keys { All (λ entry. IsOneOf (length script.now.config.keys) entry.0) needs.now }
-    requires clocks { All (λ entry. NamesSessions script.now entry.1) needs.now }
     ensures { Adds K.written K.faults out.old out.new
         (join_with_byte 44 (map (need_text script.now) needs.now)) }
 {
@@ -155,11 +141,9 @@ fn write_each_need<K: Sink>(out: &mut Out<'_, K>, script: &Script, needs: &Needs
 
 /// Writes needs, as a dash where nothing is needed.
 pub(crate) fn write_needs<K: Sink>(out: &mut Out<'_, K>, script: &Script, needs: &Needs)
-    requires keys { All (λ entry. IsOneOf (length script.now.config.keys) entry.0) needs.now }
-    requires clocks { All (λ entry. NamesSessions script.now entry.1) needs.now }
     ensures { Adds K.written K.faults out.old out.new (needs_word script.now needs.now) }
 {
-    if needs.len() == 0 {
+    if needs.is_empty() {
         out.write(b"-");
     } else {
         write_each_need(out, script, needs);
@@ -212,7 +196,7 @@ fn write_words<K: Sink>(out: &mut Out<'_, K>, words: &TextSet)
 fn write_set<K: Sink>(out: &mut Out<'_, K>, words: &TextSet)
     ensures { Adds K.written K.faults out.old out.new (braced words.now) }
 {
-    if words.len() == 0 {
+    if words.is_empty() {
         out.write(b"none");
     } else {
         out.write(b"{");
@@ -250,7 +234,7 @@ fn write_fields<K: Sink>(out: &mut Out<'_, K>, fields: &FieldMax)
 fn write_map<K: Sink>(out: &mut Out<'_, K>, fields: &FieldMax)
     ensures { Adds K.written K.faults out.old out.new (braced (map field_text fields.now)) }
 {
-    if fields.len() == 0 {
+    if fields.is_empty() {
         out.write(b"none");
     } else {
         out.write(b"{");
@@ -261,7 +245,6 @@ fn write_map<K: Sink>(out: &mut Out<'_, K>, fields: &FieldMax)
 
 /// Writes a stamped word, `WORD/NUMBER/SESSION/PLACE`.
 fn write_stamped<K: Sink>(out: &mut Out<'_, K>, script: &Script, stamped: &Stamped)
-    requires { IsOneOf (length script.now.sessions) stamped.now.session }
     ensures { Adds K.written K.faults out.old out.new (stamped_text script.now stamped.now) }
 {
     write_word(out, &stamped.word);
@@ -276,7 +259,6 @@ fn write_stamped<K: Sink>(out: &mut Out<'_, K>, script: &Script, stamped: &Stamp
 /// Writes a version, `WORD(CLOCK)`.
 #[tactic(auto, using(crate::proofs::WritesLemmas::parts))]
 fn write_version<K: Sink>(out: &mut Out<'_, K>, script: &Script, clock: &Clock, word: &Word)
-    requires { NamesSessions script.now clock.now }
     ensures { Adds K.written K.faults out.old out.new
         (version_text script.now (record { clock = clock.now; word = word.now })) }
 {
@@ -288,7 +270,6 @@ fn write_version<K: Sink>(out: &mut Out<'_, K>, script: &Script, clock: &Clock, 
 
 /// Writes versions between vertical bars.
 fn write_each_version<K: Sink>(out: &mut Out<'_, K>, script: &Script, versions: &Versions)
-    requires { All (λ version. NamesSessions script.now version.clock) versions.now }
     ensures { Adds K.written K.faults out.old out.new
         (join_with_byte 124 (map (version_text script.now) versions.now)) }
 {
@@ -303,10 +284,9 @@ fn write_each_version<K: Sink>(out: &mut Out<'_, K>, script: &Script, versions: 
 
 /// Writes the versions of a register.
 fn write_versions<K: Sink>(out: &mut Out<'_, K>, script: &Script, versions: &Versions)
-    requires { All (λ version. NamesSessions script.now version.clock) versions.now }
     ensures { Adds K.written K.faults out.old out.new (versions_word script.now versions.now) }
 {
-    if versions.len() == 0 {
+    if versions.is_empty() {
         out.write(b"none");
     } else {
         write_each_version(out, script, versions);
@@ -315,7 +295,6 @@ fn write_versions<K: Sink>(out: &mut Out<'_, K>, script: &Script, versions: &Ver
 
 /// Writes a value.
 pub(crate) fn write_value<K: Sink>(out: &mut Out<'_, K>, script: &Script, value: &Value)
-    requires { ValueNamesSessions script.now value.now }
     ensures { Adds K.written K.faults out.old out.new (value_word script.now value.now) }
 {
     match value {
@@ -334,7 +313,6 @@ pub(crate) fn write_value<K: Sink>(out: &mut Out<'_, K>, script: &Script, value:
 /// Writes a clock as the words of a line, ` clock CLOCK`.
 #[tactic(auto, using(crate::proofs::WritesLemmas::words))]
 pub(crate) fn write_clock_words<K: Sink>(out: &mut Out<'_, K>, script: &Script, clock: &Clock)
-    requires { NamesSessions script.now clock.now }
     ensures { Adds K.written K.faults out.old out.new
         (spaced (codes "clock" ∷ clock_word script.now clock.now ∷ [])) }
 {
@@ -346,7 +324,6 @@ pub(crate) fn write_clock_words<K: Sink>(out: &mut Out<'_, K>, script: &Script, 
 /// Writes a value as the words of a line, ` value VALUE`.
 #[tactic(auto, using(crate::proofs::WritesLemmas::words))]
 pub(crate) fn write_value_words<K: Sink>(out: &mut Out<'_, K>, script: &Script, value: &Value)
-    requires { ValueNamesSessions script.now value.now }
     ensures { Adds K.written K.faults out.old out.new
         (spaced (codes "value" ∷ value_word script.now value.now ∷ [])) }
 {
@@ -364,8 +341,6 @@ pub(crate) fn write_cell<K: Sink>(
     top: u64,
     value: &Value,
 )
-    requires clock { NamesSessions script.now clock.now }
-    requires value { ValueNamesSessions script.now value.now }
     ensures { Adds K.written K.faults out.old out.new
         (spaced (cell_words script.now clock.now top value.now [])) }
 {

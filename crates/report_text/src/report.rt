@@ -1,8 +1,7 @@
 //! Writes reports.
-ghost use Rattle.std.specs.Prelude.{List, ℕ, [], ◌∷◌, All, codes, length};
+ghost use Rattle.std.specs.Prelude.{[], ◌∷◌, codes};
 ghost use Rattle.std.specs.List.{AllZip, flat_map};
-ghost use Rattle.session_known.specs.Form.{HasFormSomewhere, IsFinalIn};
-ghost use Rattle.session_known.specs.Script.{IsOneOf, IsValid};
+ghost use Rattle.session_known.specs.Form.{HasFormSomewhere};
 ghost use Rattle.outside.specs.Gathering.{Adds, Wrote};
 ghost use Rattle.outside.specs.Outside.{HasCause};
 ghost use Rattle.report_lines.specs.Text.{level_word, answers_lines, sessions_lines, text_of, line_text, final_words, short_words};
@@ -34,14 +33,9 @@ pub fn write_report<K: Sink>(script: &Script, report: &Report, sink: &mut K) -> 
     out.finish()
 }
 
-/// Writes the line of a final cell, `K @W CELL` and a line feed. The cell's key, worker and sessions
-/// are the script's, and its value is of the key's kind. `Failed` as for [`write_report`]. Takes no
-/// memory.
+/// Writes the line of a final cell, `K @W CELL` and a line feed, with the names that the script gives
+/// its keys and sessions. `Failed` as for [`write_report`]. Takes no memory.
 pub fn write_final<K: Sink>(script: &Script, cell: &FinalCell, sink: &mut K) -> Result<(), Failed>
-    requires valid { IsValid script.now }
-    requires key { IsOneOf (length script.now.config.keys) cell.now.key }
-    requires worker { IsOneOf script.now.config.workers cell.now.worker }
-    requires cell { IsFinalIn script.now cell.now }
     ensures wrote { Wrote (K.written sink.old) (K.written sink.new)
         (line_text (final_words script.now cell.now)) result }
     ensures cause { HasCause (K.faults sink.old) (K.faults sink.new) result }
@@ -51,14 +45,9 @@ pub fn write_final<K: Sink>(script: &Script, cell: &FinalCell, sink: &mut K) -> 
     out.finish()
 }
 
-/// Writes the short line of a cell, `K clock CLOCK value VALUE` and a line feed, for a summary. The
-/// cell's key, worker and sessions are the script's, and its value is of the key's kind. `Failed` as
-/// for [`write_report`]. Takes no memory.
+/// Writes the short line of a cell, `K clock CLOCK value VALUE` and a line feed, for a summary, with the
+/// names that the script gives its keys and sessions. `Failed` as for [`write_report`]. Takes no memory.
 pub fn write_short<K: Sink>(script: &Script, cell: &FinalCell, sink: &mut K) -> Result<(), Failed>
-    requires valid { IsValid script.now }
-    requires key { IsOneOf (length script.now.config.keys) cell.now.key }
-    requires worker { IsOneOf script.now.config.workers cell.now.worker }
-    requires cell { IsFinalIn script.now cell.now }
     ensures wrote { Wrote (K.written sink.old) (K.written sink.new)
         (line_text (short_words script.now cell.now)) result }
     ensures cause { HasCause (K.faults sink.old) (K.faults sink.new) result }
@@ -132,8 +121,6 @@ fn write_sessions<K: Sink>(out: &mut Out<'_, K>, script: &Script, answers: &[Ite
 
 /// Writes the line of a final cell.
 fn write_final_line<K: Sink>(out: &mut Out<'_, K>, script: &Script, cell: &FinalCell)
-    requires key { IsOneOf (length script.now.config.keys) cell.now.key }
-    requires cell { IsFinalIn script.now cell.now }
     ensures { Adds K.written K.faults out.old out.new
         (line_text (final_words script.now cell.now)) }
 {
@@ -145,8 +132,6 @@ fn write_final_line<K: Sink>(out: &mut Out<'_, K>, script: &Script, cell: &Final
 
 /// Writes the short line of a cell.
 fn write_short_line<K: Sink>(out: &mut Out<'_, K>, script: &Script, cell: &FinalCell)
-    requires key { IsOneOf (length script.now.config.keys) cell.now.key }
-    requires cell { IsFinalIn script.now cell.now }
     ensures { Adds K.written K.faults out.old out.new
         (line_text (short_words script.now cell.now)) }
 {
@@ -158,8 +143,6 @@ fn write_short_line<K: Sink>(out: &mut Out<'_, K>, script: &Script, cell: &Final
 
 /// Writes the lines of the final cells.
 fn write_finals<K: Sink>(out: &mut Out<'_, K>, script: &Script, finals: &[FinalCell])
-    requires keys { All (λ cell. IsOneOf (length script.now.config.keys) cell.key) finals.now }
-    requires cells { All (IsFinalIn script.now) finals.now }
     ensures { Adds K.written K.faults out.old out.new
         (flat_map (λ cell. line_text (final_words script.now cell)) finals.now) }
 {

@@ -12,7 +12,7 @@ use Rattle.std.proofs.lemmas.List.Sorted.{All-permutation}
 use Rattle.std.proofs.lemmas.List.Sums.{sum_by_push}
 use Rattle.composed_value.specs.declared.kind.Kind.{Kind}
 use Rattle.composed_value.specs.declared.payload.Payload.{Payload}
-use Rattle.placement.specs.Config.{IsWorker, ArePins, IsValidConfig, IsRing, pinned_or, replicas_on, placed}
+use Rattle.placement.specs.Config.{IsOneOf, ArePins, IsValidConfig, IsRing, pinned_or, replicas_on, placed}
 use Rattle.placement.specs.ConfigLaws.{is_placement}
 use Rattle.placement.specs.Hash.{hash_of}
 use Rattle.placement.specs.Ring.{point_of, points_of, round, workers_met, walked}
@@ -25,7 +25,7 @@ use Rattle.script_reader.specs.Entries.{Shows}
 use Rattle.script_reader.specs.Faults.{Context, code_of, keys_of, level_of, last_level, commands_of, is_committed, is_declared, is_replica, kind_of_key, may_follow, may_have, suits, is_served, lacks_word, lacks_number, lacks_name, repeats, is_unknown, misfits, passes_limit, breaks_transaction}
 use Rattle.script_reader.proofs.FaultsLaws.{code_limit, code_transaction, code_none}
 use Rattle.script_reader.specs.Keywords.{is_factor, is_round}
-use Rattle.script_reader.specs.Reader.{seen, plans_of, begun_of, with_added, begun_behind, AreKept, IsKept, SuitsPlace, IsFaultOf, HasRead, HasAdded, Reads, IsKeyAt, MayBound, IsBoundFault}
+use Rattle.script_reader.specs.Reader.{so_far, plans_of, begun_of, with_added, begun_after_line, AreKept, IsKept, SuitsPlace, IsFaultOf, HasRead, HasAdded, Reads, IsKeyAt, MayBound, IsBoundFault}
 use Rattle.script_reader.specs.Said.{place_of, number_in, payload_for, line_said}
 use Rattle.script_reader.specs.Steps.{next_context, with_line, with_sessions, with_command, script_after, begun_after}
 use Rattle.script_reader.specs.Words.{is_payload_too_great, number_of, number_said, payload_said}
@@ -101,8 +101,8 @@ has_added old before now line kept was is =
         few_keys = kept.few_keys;
         sessions = (sessions.0, one_more line before.done.items before.last before.commands sessions.1, sessions.2);
       };
-      added = ap (λ plans. with_plans old plans (begun_behind before.begun line)) (sym (line_last line before.done.items before.last))
-          ∙ ap (λ (sessions : Option Sessions). with_plans old (with_line line (plans_of sessions)) (begun_behind (begun_of sessions) line)) (sym was);
+      added = ap (λ plans. with_plans old plans (begun_after_line before.begun line)) (sym (line_last line before.done.items before.last))
+          ∙ ap (λ (sessions : Option Sessions). with_plans old (with_line line (plans_of sessions)) (begun_after_line (begun_of sessions) line)) (sym was);
     })
 
 -- ---- where a command stands
@@ -132,7 +132,7 @@ pub record SaysLine (context : Context) (keyword : Keyword) (words : List (List 
   pub round : is_round keyword ≡ false
   pub script : script_after context keyword words ≡ with_command context keyword words
   pub said : line_said (keys_of context) context.script.kinds context.named keyword words ≡ line
-  pub begun : begun_after context.begun keyword ≡ begun_behind context.begun line
+  pub begun : begun_after context.begun keyword ≡ begun_after_line context.begun line
   pub faultless : code_of context keyword words ≡ None
 
 or_false : (b c : Bool) → c ≡ false → b ≡ (b || c)
@@ -140,7 +140,7 @@ or_false true c none = refl
 or_false false c none = sym none
 
 -- what is seen with a line more is what the command says
-added_is_after : (old : Reader) (keyword : Keyword) (words : List (List ℕ)) (line : Line) → IsKept old → IsInSession (seen old) → SaysLine (seen old) keyword words line
+added_is_after : (old : Reader) (keyword : Keyword) (words : List (List ℕ)) (line : Line) → IsKept old → IsInSession (so_far old) → SaysLine (so_far old) keyword words line
     → record {
       built = old.built;
       named = old.named;
@@ -148,21 +148,21 @@ added_is_after : (old : Reader) (keyword : Keyword) (words : List (List ℕ)) (l
       has_workers = old.has_workers;
       has_factor = old.has_factor;
       has_round = old.has_round;
-      script = with_sessions (with_line line (seen old).script.sessions) (seen old).script;
-      begun = begun_behind (seen old).begun line;
-    } ≡ next_context (seen old) keyword words
+      script = with_sessions (with_line line (so_far old).script.sessions) (so_far old).script;
+      begun = begun_after_line (so_far old).begun line;
+    } ≡ next_context (so_far old) keyword words
 added_is_after old keyword words line kept stands says =
     let header : old.has_header ≡ true = kept.headed stands.workers in
     let workers : old.has_workers ≡ old.has_header = stands.workers ∙ sym header in
     let factor : old.has_factor ≡ (old.has_factor || is_factor keyword) = or_false old.has_factor (is_factor keyword) says.factor in
     let round : old.has_round ≡ (old.has_round || is_round keyword) = or_false old.has_round (is_round keyword) says.round in
-    let script : with_sessions (with_line line (seen old).script.sessions) (seen old).script ≡ script_after (seen old) keyword words =
-    ap (λ (line : Line). with_sessions (with_line line (seen old).script.sessions) (seen old).script) (sym says.said) ∙ sym says.script in
-    let begun : begun_behind (seen old).begun line ≡ begun_after (seen old).begun keyword = sym says.begun in
+    let script : with_sessions (with_line line (so_far old).script.sessions) (so_far old).script ≡ script_after (so_far old) keyword words =
+    ap (λ (line : Line). with_sessions (with_line line (so_far old).script.sessions) (so_far old).script) (sym says.said) ∙ sym says.script in
+    let begun : begun_after_line (so_far old).begun line ≡ begun_after (so_far old).begun keyword = sym says.begun in
     λ i. record { built = old.built; named = old.named; has_header = header i; has_workers = workers i; has_factor = factor i; has_round = round i; script = script i; begun = begun i }
 
 -- a command that was added, or for which there was no memory
-pub command_read : (old new : Reader) (result : Result (Unit {0}) LineFault) (keyword : Keyword) (words : List (List ℕ)) (line : Line) → IsKept old → IsInSession (seen old) → SaysLine (seen old) keyword words line
+pub command_read : (old new : Reader) (result : Result (Unit {0}) LineFault) (keyword : Keyword) (words : List (List ℕ)) (line : Line) → IsKept old → IsInSession (so_far old) → SaysLine (so_far old) keyword words line
     → MatchResult result (λ _. HasAdded old new line) (λ fault. fault ≡ faults.NoMemory) → Reads old result new keyword words
 command_read old new (Ok _) keyword words line kept stands says added = record { kept = added.kept; faultless = says.faultless; added = added.added ∙ added_is_after old keyword words line kept stands says }
 command_read old new (Err (faults.Code why)) keyword words line kept stands says full = absurd cc
@@ -268,35 +268,35 @@ bound_faultless context keyword begun bounds stands may = code_none context keyw
 -- ---- the numbers of replicas
 
 -- the numbers of a row of workers
-row_within : (workers n : ℕ) → n ≤ workers → All (IsWorker workers) (range_with_len 1 n)
+row_within : (workers n : ℕ) → n ≤ workers → All (IsOneOf workers) (range_with_len 1 n)
 row_within workers n few = λ k d within.
     let lt : k < n = omega (arith, length-range_with_len 1 n) in
-    subst (IsWorker workers) (sym (get_or-range_with_len 1 n k d lt)) (omega arith, omega arith)
+    subst (IsOneOf workers) (sym (get_or-range_with_len 1 n k d lt)) (omega arith, omega arith)
 
 -- the points of these workers are theirs
-points_within : (workers : ℕ) (row : List ℕ) → All (IsWorker workers) row → All (λ (point : Point). IsWorker workers point.worker) (flat_map (λ worker. map (point_of worker) (range_with_len 0 16)) row)
-points_within workers [] all = All-nil (λ (point : Point). IsWorker workers point.worker)
+points_within : (workers : ℕ) (row : List ℕ) → All (IsOneOf workers) row → All (λ (point : Point). IsOneOf workers point.worker) (flat_map (λ worker. map (point_of worker) (range_with_len 0 16)) row)
+points_within workers [] all = All-nil (λ (point : Point). IsOneOf workers point.worker)
 points_within workers (worker ∷ row) all =
-    let Known : Point → Type 0 = λ point. IsWorker workers point.worker in
+    let Known : Point → Type 0 = λ point. IsOneOf workers point.worker in
     let own : List Point = map (point_of worker) (range_with_len 0 16) in
     All-same Known _ _ (flat_map-cons (λ worker. map (point_of worker) (range_with_len 0 16)) worker row)
-    (All-append Known own _ (All-map Known (point_of worker) (range_with_len 0 16) (λ k d within. All-head (IsWorker workers) worker row all)) (points_within workers row (All-tail (IsWorker workers) worker row all)))
+    (All-append Known own _ (All-map Known (point_of worker) (range_with_len 0 16) (λ k d within. All-head (IsOneOf workers) worker row all)) (points_within workers row (All-tail (IsOneOf workers) worker row all)))
 
 -- the workers met at points of workers
-met_within : (workers : ℕ) (points : List Point) → All (λ (point : Point). IsWorker workers point.worker) points → All (IsWorker workers) (workers_met points)
-met_within workers [] all = All-nil (IsWorker workers)
+met_within : (workers : ℕ) (points : List Point) → All (λ (point : Point). IsOneOf workers point.worker) points → All (IsOneOf workers) (workers_met points)
+met_within workers [] all = All-nil (IsOneOf workers)
 met_within workers (point ∷ points) all =
-    let Known : Point → Type 0 = λ point. IsWorker workers point.worker in
-    All-cons (IsWorker workers) point.worker _ (All-head Known point points all) (All-filter (λ worker. not (worker == point.worker)) (IsWorker workers) (workers_met points) (met_within workers points (All-tail Known point points all)))
+    let Known : Point → Type 0 = λ point. IsOneOf workers point.worker in
+    All-cons (IsOneOf workers) point.worker _ (All-head Known point points all) (All-filter (λ worker. not (worker == point.worker)) (IsOneOf workers) (workers_met points) (met_within workers points (All-tail Known point points all)))
 
 -- the workers met on a walk
-walk_within : (workers hash factor : ℕ) (ring : List Point) → IsRing workers ring → All (IsWorker workers) (walked ring hash factor)
+walk_within : (workers hash factor : ℕ) (ring : List Point) → IsRing workers ring → All (IsOneOf workers) (walked ring hash factor)
 walk_within workers hash factor ring is =
-    let Known : Point → Type 0 = λ point. IsWorker workers point.worker in
+    let Known : Point → Type 0 = λ point. IsOneOf workers point.worker in
     let all : All Known ring = All-permutation Known (points_of workers) ring is.all (points_within workers (range_with_len 1 workers) (row_within workers workers (omega arith))) in
-    All-take (IsWorker workers) factor (workers_met (round ring hash)) (met_within workers (round ring hash) (All-append Known _ _ (All-filter (λ point. nat_le hash point.hash) Known ring all) (All-filter (λ point. nat_lt point.hash hash) Known ring all)))
+    All-take (IsOneOf workers) factor (workers_met (round ring hash)) (met_within workers (round ring hash) (All-append Known _ _ (All-filter (λ point. nat_le hash point.hash) Known ring all) (All-filter (λ point. nat_lt point.hash hash) Known ring all)))
 
-pinned_within : (workers : ℕ) (pins walk : List ℕ) → All (IsWorker workers) pins → All (IsWorker workers) walk → All (IsWorker workers) (pinned_or pins walk)
+pinned_within : (workers : ℕ) (pins walk : List ℕ) → All (IsOneOf workers) pins → All (IsOneOf workers) walk → All (IsOneOf workers) (pinned_or pins walk)
 pinned_within workers [] walk pinned met = met
 pinned_within workers (pin ∷ pins) walk pinned met = pinned
 
@@ -307,10 +307,10 @@ replica_few config place worker valid within is =
     let key : KeyPlace = get_or config.keys place (record { name = []; pins = [] }) in
     let pins = All-get_or (λ (key : KeyPlace). ArePins config.workers key.pins) config.keys place (record { name = []; pins = [] }) within valid.pins in
     let row : slice_index_or (placed config) place [] ≡ replicas_on known.ring config key = ap (λ (table : List (List ℕ)). slice_index_or table place []) known.replicas ∙ get_or-map (replicas_on known.ring config) config.keys place (record { name = []; pins = [] }) [] within in
-    let all : All (IsWorker config.workers) (replicas_on known.ring config key) = pinned_within config.workers key.pins (walked known.ring (hash_of key.name) config.factor) pins.are_workers (walk_within config.workers (hash_of key.name) config.factor known.ring known.is_ring) in
+    let all : All (IsOneOf config.workers) (replicas_on known.ring config key) = pinned_within config.workers key.pins (walked known.ring (hash_of key.name) config.factor) pins.are_workers (walk_within config.workers (hash_of key.name) config.factor known.ring known.is_ring) in
     let at = Any-from_list_any (λ replica. replica == worker) (replicas_on known.ring config key) (ap (list_any (λ replica. replica == worker)) (sym row) ∙ is) in
     let same : at.1 ≡ worker = eqb-true at.1 worker at.4 in
-    let one : IsWorker config.workers at.1 = subst (IsWorker config.workers) at.3 (all at.0 at.1 at.2) in
+    let one : IsOneOf config.workers at.1 = subst (IsOneOf config.workers) at.3 (all at.0 at.1 at.2) in
     let most : config.workers ≤ 8 = valid.workers_most in
     omega arith
 
@@ -327,7 +327,7 @@ all_two true rest is = refl
 all_two false rest is = absurd cc
 
 -- an end line after no transaction adds nothing
-pub end_read : (reader : Reader) → IsKept reader → SuitsPlace (seen reader) keywords.End [] → begun_of reader.sessions ≡ false → HasRead reader reader keywords.End []
+pub end_read : (reader : Reader) → IsKept reader → SuitsPlace (so_far reader) keywords.End [] → begun_of reader.sessions ≡ false → HasRead reader reader keywords.End []
 end_read reader kept stands ended =
     let workers : reader.has_workers ≡ true = all_two reader.has_workers _ stands.word in
     let header : reader.has_header ≡ true = kept.headed workers in
@@ -337,7 +337,7 @@ end_read reader kept stands ended =
     record {
       kept = kept;
       faultless = code_none _ _ _ stands.header stands.word refl refl refl refl refl refl ended;
-      added = λ i. record { built = reader.built; named = reader.named; has_header = header i; has_workers = both i; has_factor = factor i; has_round = round i; script = (seen reader).script; begun = (seen reader).begun };
+      added = λ i. record { built = reader.built; named = reader.named; has_header = header i; has_workers = both i; has_factor = factor i; has_round = round i; script = (so_far reader).script; begun = (so_far reader).begun };
     }
 
 -- ---- where a line may stand
@@ -402,7 +402,7 @@ with_header reader = record {
   sessions = reader.sessions;
 }
 
-first_read : (reader : Reader) (version : List ℕ) → IsKept reader → SuitsPlace (seen reader) keywords.Anna (version ∷ []) → HasRead reader (with_header reader) keywords.Anna (version ∷ [])
+first_read : (reader : Reader) (version : List ℕ) → IsKept reader → SuitsPlace (so_far reader) keywords.Anna (version ∷ []) → HasRead reader (with_header reader) keywords.Anna (version ∷ [])
 first_read reader version kept stands =
     let none : reader.has_header ≡ false = none_before reader.has_header _ stands.word in
     let workers : reader.has_workers ≡ reader.has_header = no_workers reader.has_workers reader.has_header kept.headed none in
@@ -411,10 +411,10 @@ first_read reader version kept stands =
     record {
       kept = record { headed = λ _. refl; fresh = kept.fresh; valid = kept.valid; names = kept.names; kinds = kept.kinds; few_keys = kept.few_keys; sessions = kept.sessions };
       faultless = code_none _ _ _ stands.header stands.word refl refl refl refl refl refl refl;
-      added = λ i. record { built = reader.built; named = reader.named; has_header = true; has_workers = workers i; has_factor = factor i; has_round = round i; script = (seen reader).script; begun = (seen reader).begun };
+      added = λ i. record { built = reader.built; named = reader.named; has_header = true; has_workers = workers i; has_factor = factor i; has_round = round i; script = (so_far reader).script; begun = (so_far reader).begun };
     }
 
 -- a header that was read
-pub header_read : (reader : Reader) (keyword : Keyword) (words : List (List ℕ)) (version : List ℕ) → keyword ≡ keywords.Anna → words ≡ version ∷ [] → IsKept reader → SuitsPlace (seen reader) keyword words → HasRead reader (with_header reader) keyword words
+pub header_read : (reader : Reader) (keyword : Keyword) (words : List (List ℕ)) (version : List ℕ) → keyword ≡ keywords.Anna → words ≡ version ∷ [] → IsKept reader → SuitsPlace (so_far reader) keyword words → HasRead reader (with_header reader) keyword words
 header_read reader keyword words version same alike kept stands =
-    reads_at reader (with_header reader) (Ok tt) keyword keywords.Anna words (version ∷ []) same alike (first_read reader version kept (stands_at (seen reader) keyword keywords.Anna words (version ∷ []) same alike stands))
+    reads_at reader (with_header reader) (Ok tt) keyword keywords.Anna words (version ∷ []) same alike (first_read reader version kept (stands_at (so_far reader) keyword keywords.Anna words (version ∷ []) same alike stands))

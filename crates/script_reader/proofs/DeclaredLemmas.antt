@@ -10,7 +10,7 @@ use Rattle.std.proofs.lemmas.List.Folds.{list_any-append}
 use Rattle.std.proofs.lemmas.Option.{MatchOption-at_some, MatchOption-at_none}
 use Rattle.composed_value.specs.declared.kind.Kind.{Kind}
 use Rattle.composed_value.specs.declared.kind.Kind.TheVariants as kinds_of
-use Rattle.placement.specs.Config.{ArePins, IsWorker, IsPlacement, placed, replicas_on}
+use Rattle.placement.specs.Config.{ArePins, IsOneOf, IsPlacement, placed, replicas_on}
 use Rattle.placement.specs.ConfigLaws.{placement_is}
 use Rattle.placement.specs.Ring.{ring_of}
 use Rattle.placement.specs.declared.config.Config.{Config}
@@ -22,7 +22,7 @@ use Rattle.session_known.specs.declared.script.SessionPlan.{SessionPlan}
 use Rattle.script_reader.specs.Entries.{AreKeyWords, AreSessionWords}
 use Rattle.script_reader.specs.Faults.{Context, level_of, sessions_of, may_follow, may_have, suits, is_served, is_declared, has_repeat, is_within, code_of}
 use Rattle.script_reader.proofs.FaultsLaws.{code_number, code_name, code_twice, code_unknown, code_limit, code_transaction, code_none}
-use Rattle.script_reader.specs.Reader.{seen, plans_of, begun_of, AreKept, IsKept, SuitsPlace, IsFaultOf, IsNameFault, HasRead, Reads, HasOpened}
+use Rattle.script_reader.specs.Reader.{so_far, plans_of, begun_of, AreKept, IsKept, SuitsPlace, IsFaultOf, IsNameFault, HasRead, Reads, HasOpened}
 use Rattle.script_reader.specs.Said.{place_of, with_name, pins_said}
 use Rattle.script_reader.proofs.ValidListsLaws.{within_is, are_workers, no_repeat, name_new}
 use Rattle.script_reader.specs.Words.{number_said, is_number, number_of, is_name, kind_said, level_said}
@@ -109,10 +109,10 @@ kept_workers : (config : Config) (n : ℕ) (sessions : Option Sessions) → conf
 kept_workers config n None none kept = tt
 kept_workers config n (Some sessions) none kept = (kept.0 ∙ placed_none config none ∙ sym (placed_none (record { workers = n; factor = config.factor; keys = config.keys }) none), kept.1, kept.2)
 
-pub workers_read : (reader : Reader) (word : List ℕ) (n : ℕ) → IsKept reader → SuitsPlace (seen reader) keywords.Workers (word ∷ []) → number_said word ≡ Some n → is_within 1 8 n ≡ true
+pub workers_read : (reader : Reader) (word : List ℕ) (n : ℕ) → IsKept reader → SuitsPlace (so_far reader) keywords.Workers (word ∷ []) → number_said word ≡ Some n → is_within 1 8 n ≡ true
     → HasRead reader (record reader { has_workers = true; config = record { workers = n; factor = reader.config.factor; keys = reader.config.keys } }) keywords.Workers (word ∷ [])
 workers_read reader word n kept stands is inside =
-    let follow = and_parts reader.has_header (not reader.has_workers) (follows (seen reader) keywords.Workers (word ∷ []) stands) in
+    let follow = and_parts reader.has_header (not reader.has_workers) (follows (so_far reader) keywords.Workers (word ∷ []) stands) in
     let fresh = kept.fresh (not-true reader.has_workers follow.1) in
     let bounds = within_is 1 8 n inside in
     record {
@@ -161,10 +161,10 @@ factor_twice context word n stands is twice = code_twice _ _ _ stands.header sta
 pub factor_limit : (context : Context) (word : List ℕ) (n : ℕ) → SuitsPlace context keywords.Factor (word ∷ []) → number_said word ≡ Some n → context.has_factor ≡ false → is_within 1 context.script.config.workers n ≡ false → code_of context keywords.Factor (word ∷ []) ≡ Some codes_of.Limit
 factor_limit context word n stands is once outside = code_limit _ _ _ stands.header stands.word (is_number_is word n is) refl once refl refl (not_within 1 context.script.config.workers n word is outside)
 
-pub factor_read : (reader : Reader) (word : List ℕ) (n : ℕ) → IsKept reader → SuitsPlace (seen reader) keywords.Factor (word ∷ []) → number_said word ≡ Some n → reader.has_factor ≡ false → is_within 1 reader.config.workers n ≡ true
+pub factor_read : (reader : Reader) (word : List ℕ) (n : ℕ) → IsKept reader → SuitsPlace (so_far reader) keywords.Factor (word ∷ []) → number_said word ≡ Some n → reader.has_factor ≡ false → is_within 1 reader.config.workers n ≡ true
     → HasRead reader (record reader { has_factor = true; config = record { workers = reader.config.workers; factor = n; keys = reader.config.keys } }) keywords.Factor (word ∷ [])
 factor_read reader word n kept stands is once inside =
-    let follow = and_parts reader.has_workers (nat_le (length reader.config.keys) 0 && nat_le (length (plans_of reader.sessions)) 0) (follows (seen reader) keywords.Factor (word ∷ []) stands) in
+    let follow = and_parts reader.has_workers (nat_le (length reader.config.keys) 0 && nat_le (length (plans_of reader.sessions)) 0) (follows (so_far reader) keywords.Factor (word ∷ []) stands) in
     let none = no_sessions reader.sessions (and_parts (nat_le (length reader.config.keys) 0) (nat_le (length (plans_of reader.sessions)) 0) follow.1).1 in
     let headed = kept.headed follow.0 in
     let valid = kept.valid follow.0 in
@@ -215,10 +215,10 @@ round_twice context word n stands is twice = code_twice _ _ _ stands.header stan
 pub round_limit : (context : Context) (word : List ℕ) (n : ℕ) → SuitsPlace context keywords.Round (word ∷ []) → number_said word ≡ Some n → context.has_round ≡ false → is_within 1 64 n ≡ false → code_of context keywords.Round (word ∷ []) ≡ Some codes_of.Limit
 round_limit context word n stands is once outside = code_limit _ _ _ stands.header stands.word (is_number_is word n is) refl once refl refl (not_within 1 64 n word is outside)
 
-pub round_read : (reader : Reader) (word : List ℕ) (n : ℕ) → IsKept reader → SuitsPlace (seen reader) keywords.Round (word ∷ []) → number_said word ≡ Some n → reader.has_round ≡ false → is_within 1 64 n ≡ true
+pub round_read : (reader : Reader) (word : List ℕ) (n : ℕ) → IsKept reader → SuitsPlace (so_far reader) keywords.Round (word ∷ []) → number_said word ≡ Some n → reader.has_round ≡ false → is_within 1 64 n ≡ true
     → HasRead reader (record reader { has_round = true; round = n }) keywords.Round (word ∷ [])
 round_read reader word n kept stands is once inside =
-    let follow = and_parts reader.has_workers (nat_le (length reader.config.keys) 0 && nat_le (length (plans_of reader.sessions)) 0) (follows (seen reader) keywords.Round (word ∷ []) stands) in
+    let follow = and_parts reader.has_workers (nat_le (length reader.config.keys) 0 && nat_le (length (plans_of reader.sessions)) 0) (follows (so_far reader) keywords.Round (word ∷ []) stands) in
     let headed = kept.headed follow.0 in
     record {
       kept = record { headed = kept.headed; fresh = kept.fresh; valid = kept.valid; names = kept.names; kinds = kept.kinds; few_keys = kept.few_keys; sessions = kept.sessions };
@@ -281,13 +281,13 @@ session_begun context words name level are stands named once few begun =
 pub session_follows : (context : Context) (words : List (List ℕ)) → SuitsPlace context keywords.Session words → context.has_workers ≡ true
 session_follows context words stands = follows context keywords.Session words stands
 
-pub session_read : (old new : Reader) (words : List (List ℕ)) (name : List ℕ) (plan : SessionPlan) → IsKept old → AreSessionWords words name plan.level → SuitsPlace (seen old) keywords.Session words
-    → is_name name ≡ true → list_any (bytes_eq name) (sessions_of (seen old)) ≡ false → length (plans_of old.sessions) < 16 → begun_of old.sessions ≡ false
+pub session_read : (old new : Reader) (words : List (List ℕ)) (name : List ℕ) (plan : SessionPlan) → IsKept old → AreSessionWords words name plan.level → SuitsPlace (so_far old) keywords.Session words
+    → is_name name ≡ true → list_any (bytes_eq name) (sessions_of (so_far old)) ≡ false → length (plans_of old.sessions) < 16 → begun_of old.sessions ≡ false
     → plan.name ≡ name → plan.lines ≡ [] → HasOpened old new plan → HasRead old new keywords.Session words
 session_read old new words name plan kept are stands named once few ended name_is empty opened =
-    at_session (λ words. SuitsPlace (seen old) keywords.Session words → HasRead old new keywords.Session words) words name plan.level are
+    at_session (λ words. SuitsPlace (so_far old) keywords.Session words → HasRead old new keywords.Session words) words name plan.level are
     (λ word said stands.
-    let has : old.has_workers ≡ true = session_follows (seen old) (name ∷ word ∷ []) stands in
+    let has : old.has_workers ≡ true = session_follows (so_far old) (name ∷ word ∷ []) stands in
     let headed : old.has_header ≡ true = kept.headed has in
     let level_is : plan.level ≡ unwrap_or (level_said word) Eventual = sym (ap (λ said. unwrap_or said Eventual) said) in
     record {
@@ -312,11 +312,11 @@ session_read old new words name plan kept are stands named once few ended name_i
     stands
 
 -- what is told of a session's line
-pub session_told : (old new : Reader) (result : Result (Unit {0}) LineFault) (words : List (List ℕ)) (name : List ℕ) (plan : SessionPlan) → IsKept old → AreSessionWords words name plan.level → SuitsPlace (seen old) keywords.Session words
-    → is_name name ≡ true → list_any (bytes_eq name) (sessions_of (seen old)) ≡ false → length (plans_of old.sessions) < 16 → begun_of old.sessions ≡ false
+pub session_told : (old new : Reader) (result : Result (Unit {0}) LineFault) (words : List (List ℕ)) (name : List ℕ) (plan : SessionPlan) → IsKept old → AreSessionWords words name plan.level → SuitsPlace (so_far old) keywords.Session words
+    → is_name name ≡ true → list_any (bytes_eq name) (sessions_of (so_far old)) ≡ false → length (plans_of old.sessions) < 16 → begun_of old.sessions ≡ false
     → plan.name ≡ name → plan.lines ≡ [] → MatchResult result (λ _. HasOpened old new plan) (λ fault. fault ≡ faults.NoMemory) → Reads old result new keywords.Session words
 session_told old new (Ok _) words name plan kept are stands named once few ended name_is empty opened = session_read old new words name plan kept are stands named once few ended name_is empty opened
-session_told old new (Err fault) words name plan kept are stands named once few ended name_is empty is = subst (IsFaultOf (code_of (seen old) keywords.Session words)) (sym is) tt
+session_told old new (Err fault) words name plan kept are stands named once few ended name_is empty is = subst (IsFaultOf (code_of (so_far old) keywords.Session words)) (sym is) tt
 
 -- the first session
 pub opened_first : (reader : Reader) (plan : SessionPlan) (placement : List (List ℕ)) (done : Vec SessionPlan Global) → IsKept reader → reader.has_workers ≡ true → plan.lines ≡ [] → reader.sessions ≡ None → IsPlacement reader.config placement → done.items ≡ []
@@ -425,26 +425,26 @@ named_last : (names : List (List ℕ)) (name : List ℕ) → is_some (place_of n
 named_last names name new = ap (λ t. cond t names (names ++ name ∷ [])) (name_new names name new)
 
 -- a name has its place among those of the keys
-pub declared_is : (reader : Reader) (name : List ℕ) → IsKept reader → is_declared (seen reader) name ≡ is_some (place_of reader.keys name)
+pub declared_is : (reader : Reader) (name : List ℕ) → IsKept reader → is_declared (so_far reader) name ≡ is_some (place_of reader.keys name)
 declared_is reader name kept = ap (λ names. is_some (place_of names name)) (sym kept.names)
 
 pub key_read : (reader : Reader) (words : List (List ℕ)) (name : List ℕ) (kind : Kind) (pins : List (List ℕ)) (numbers : List ℕ) (names : List (List ℕ)) (kinds : Vec Kind Global) (keys : List KeyPlace) (key : KeyPlace)
-    → IsKept reader → AreKeyWords words name kind pins → SuitsPlace (seen reader) keywords.Key words → AreNumbers pins numbers → is_name name ≡ true
-    → (is_declared (seen reader) name || has_repeat numbers) ≡ false → list_any (λ pin. not (is_within 1 reader.config.workers pin)) numbers ≡ false → length reader.config.keys < 128
+    → IsKept reader → AreKeyWords words name kind pins → SuitsPlace (so_far reader) keywords.Key words → AreNumbers pins numbers → is_name name ≡ true
+    → (is_declared (so_far reader) name || has_repeat numbers) ≡ false → list_any (λ pin. not (is_within 1 reader.config.workers pin)) numbers ≡ false → length reader.config.keys < 128
     → names ≡ with_name reader.keys name → kinds.items ≡ reader.kinds.items ++ kind ∷ [] → keys ≡ reader.config.keys ++ key ∷ [] → key.name ≡ name → key.pins ≡ numbers
     → HasRead reader (record reader { config = record { workers = reader.config.workers; factor = reader.config.factor; keys = keys }; keys = names; kinds = kinds }) keywords.Key words
 key_read reader words name kind pins numbers names kinds keys key kept are stands read named once known few names_are kinds_are keys_are name_is numbers_are =
     let config : Config = record { workers = reader.config.workers; factor = reader.config.factor; keys = keys } in
     let new : Reader = record reader { config = config; keys = names; kinds = kinds } in
-    at_key (λ words. SuitsPlace (seen reader) keywords.Key words → HasRead reader new keywords.Key words) words name kind pins are
+    at_key (λ words. SuitsPlace (so_far reader) keywords.Key words → HasRead reader new keywords.Key words) words name kind pins are
     (λ rest kind_is pins_are stands.
-    let follow = and_parts reader.has_workers (nat_le (length (plans_of reader.sessions)) 0) (follows (seen reader) keywords.Key (name ∷ rest) stands) in
+    let follow = and_parts reader.has_workers (nat_le (length (plans_of reader.sessions)) 0) (follows (so_far reader) keywords.Key (name ∷ rest) stands) in
     let has = follow.0 in
     let none = no_sessions reader.sessions follow.1 in
     let headed = kept.headed has in
     let valid = kept.valid has in
     let said = said_is (name ∷ rest) pins numbers pins_are read in
-    let apart = or_parts (is_declared (seen reader) name) (has_repeat numbers) once in
+    let apart = or_parts (is_declared (so_far reader) name) (has_repeat numbers) once in
     let own : ArePins reader.config.workers key.pins = subst (ArePins reader.config.workers) (sym numbers_are) (record { are_workers = are_workers reader.config.workers numbers known; different = no_repeat numbers apart.1 }) in
     let new_name : is_some (place_of reader.keys name) ≡ false = sym (declared_is reader name kept) ∙ apart.0 in
     let most : length keys ≤ 128 = omega (arith, ap length keys_are, length_push reader.config.keys key) in
@@ -467,7 +467,7 @@ key_read reader words name kind pins numbers names kinds keys key kept are stand
         sessions = subst (AreKept config) (sym none) tt;
       };
       faultless = code_none _ _ _ stands.header stands.word (ap lacks pins_are ∙ read.each) (ap not named)
-          (ap (λ said. is_declared (seen reader) name || has_repeat said) said ∙ once)
+          (ap (λ said. is_declared (so_far reader) name || has_repeat said) said ∙ once)
           (ap (list_any (λ pin. not (is_within 1 reader.config.workers pin))) said ∙ known) refl (at_least_is few) refl;
       added = λ i. record {
         built = reader.built;
@@ -500,7 +500,7 @@ most_workers reader false is kept = omega (arith, (kept.fresh is).2)
 pub few_workers : (reader : Reader) (numbers : List ℕ) → IsKept reader → list_any (λ pin. not (is_within 1 reader.config.workers pin)) numbers ≡ false → All (λ n. n ≤ 8) numbers
 few_workers reader numbers kept known =
     let most = most_workers reader reader.has_workers refl kept in
-    All-weaker (IsWorker reader.config.workers) (λ n. n ≤ 8) (λ n is. omega (arith, is.1, most)) numbers (are_workers reader.config.workers numbers known)
+    All-weaker (IsOneOf reader.config.workers) (λ n. n ≤ 8) (λ n is. omega (arith, is.1, most)) numbers (are_workers reader.config.workers numbers known)
 
 -- the numbers that the pins write
 pub numbers_read : (pins : List (List ℕ)) (found : Option (Vec ℕ Global)) (numbers : Vec ℕ Global) → found ≡ Some numbers → MatchOption found (lacks pins ≡ true) (λ numbers. (lacks pins ≡ false) × (numbers.items ≡ map number_of pins)) → AreNumbers pins numbers.items

@@ -39,10 +39,10 @@ cut_append true b lines more some = refl
 cut_append false b lines more some = onto_append b lines more some
 
 -- what stands after a line feed is cut by itself
-pub split_behind : (text more : List ℕ) → slice_split is_line_feed (text ++ 10 ∷ more) ≡ slice_split is_line_feed text ++ slice_split is_line_feed more
-split_behind [] more = refl
-split_behind (b ∷ text) more =
-    ap (λ lines. cond (is_line_feed b) ([] ∷ lines) (onto_first b lines)) (split_behind text more)
+pub split_after : (text more : List ℕ) → slice_split is_line_feed (text ++ 10 ∷ more) ≡ slice_split is_line_feed text ++ slice_split is_line_feed more
+split_after [] more = refl
+split_after (b ∷ text) more =
+    ap (λ lines. cond (is_line_feed b) ([] ∷ lines) (onto_first b lines)) (split_after text more)
     ∙ cut_append (is_line_feed b) b (slice_split is_line_feed text) (slice_split is_line_feed more) (omega (arith, length-slice_split is_line_feed text))
 
 -- a byte more is one more, be it a line feed or not

@@ -4,7 +4,7 @@ use Rattle.std.specs.Option.{option_map_or}
 use Rattle.std.proofs.Common.{refl, sym, subst, arith}
 use Rattle.std.proofs.lemmas.Bool.{false≢true, both_ways, not-true, not-false, and_parts, leb-false}
 use Rattle.std.proofs.lemmas.List.Elements.{All-nil, All-cons, All-head, All-tail, All-push}
-use Rattle.script_reader.proofs.BehindLaws.{holds_behind}
+use Rattle.script_reader.proofs.FrontLaws.{holds_after}
 use Rattle.script_reader.specs.Faults.{Context, context_of, level_of, may_follow, may_have, suits, is_eventual, is_served, is_within, passes_limit, code_of}
 use Rattle.script_reader.proofs.FaultsLaws.{word_fine, limit_fine}
 use Rattle.script_reader.specs.Grammar.{IsScript, HasForms, setting_of}
@@ -115,31 +115,31 @@ of_round context [] served fine = absurd (false≢true fine.has)
 of_round context (number ∷ words) served fine = left context Round (number ∷ words) served refl refl
 
 -- any line that has no code
-served_behind : (context : Context) (keyword : Keyword) (words : List (List ℕ)) → AreServed context → IsFaultless context keyword words → AreServed (next_context context keyword words)
-served_behind context Anna words served fine = left context Anna words served refl refl
-served_behind context Workers words served fine = of_workers context words served fine
-served_behind context Factor words served fine = of_factor context words served fine
-served_behind context Round words served fine = of_round context words served fine
-served_behind context Key words served fine = left context Key words served refl refl
-served_behind context Session words served fine = of_session context words served fine
-served_behind context Put words served fine = with_command context Put words _ served refl refl
-served_behind context Get words served fine = with_command context Get words _ served refl refl
-served_behind context Await words served fine = with_command context Await words _ served refl refl
-served_behind context Begin words served fine = with_command context Begin words _ served refl refl
-served_behind context Commit words served fine = with_command context Commit words _ served refl refl
-served_behind context Abort words served fine = with_command context Abort words _ served refl refl
-served_behind context End words served fine = left context End words served refl refl
-served_behind context Unknown words served fine = left context Unknown words served refl refl
+served_after : (context : Context) (keyword : Keyword) (words : List (List ℕ)) → AreServed context → IsFaultless context keyword words → AreServed (next_context context keyword words)
+served_after context Anna words served fine = left context Anna words served refl refl
+served_after context Workers words served fine = of_workers context words served fine
+served_after context Factor words served fine = of_factor context words served fine
+served_after context Round words served fine = of_round context words served fine
+served_after context Key words served fine = left context Key words served refl refl
+served_after context Session words served fine = of_session context words served fine
+served_after context Put words served fine = with_command context Put words _ served refl refl
+served_after context Get words served fine = with_command context Get words _ served refl refl
+served_after context Await words served fine = with_command context Await words _ served refl refl
+served_after context Begin words served fine = with_command context Begin words _ served refl refl
+served_after context Commit words served fine = with_command context Commit words _ served refl refl
+served_after context Abort words served fine = with_command context Abort words _ served refl refl
+served_after context End words served fine = left context End words served refl refl
+served_after context Unknown words served fine = left context Unknown words served refl refl
 
 step : (context : Context) (keyword : Keyword) (words : List (List ℕ)) → AreServed context → code_of context keyword words ≡ None → AreServed (next_context context keyword words)
-step context keyword words served none = served_behind context keyword words served (faultless context keyword words none)
+step context keyword words served none = served_after context keyword words served (faultless context keyword words none)
 
 -- A script has only forms that are served.
 pub script_has_forms : (built : Built) (text : List ℕ) (script : Script) → IsScript built text script → HasForms built script
 script_has_forms built text script is =
     let setting = setting_of built (script_lines text) in
     let start : AreServed (context_of setting []) = record { workers = λ alone. omega arith; levels = λ eventual. All-nil IsEventual } in
-    let served = holds_behind (λ ended. AreServed) step setting (script_lines text) start is.lines.in_order in
+    let served = holds_after (λ ended. AreServed) step setting (script_lines text) start is.lines.in_order in
     let valid = script_is_valid built text script is in
     record {
       workers = λ alone. let few = subst (λ said. said.config.workers ≤ 1) (sym is.lines.says) (served.workers alone) in let some = valid.config.workers_some in omega arith;

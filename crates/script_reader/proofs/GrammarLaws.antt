@@ -3,14 +3,14 @@ use Rattle.std.specs.Prelude.{◌≡◌, ℕ, ◌+◌, ◌⊎◌, List, [], ◌�
 use Rattle.std.proofs.Common.{inl, inr, refl, sym, ap, ◌∙◌, arith}
 use Rattle.session_known.specs.declared.script.Script.{Script}
 use Rattle.script_reader.specs.Codes.{number_of_code}
-use Rattle.script_reader.specs.Faults.{Setting, code_behind}
+use Rattle.script_reader.specs.Faults.{Setting, code_after}
 use Rattle.script_reader.specs.Grammar.{setting_of, AreInOrder, IsFirstFault, IsScript, IsRefused}
 use Rattle.script_reader.specs.Lines.{script_lines}
 use Rattle.script_reader.specs.declared.built.Built.{Built}
 use Rattle.script_reader.specs.declared.code.Code.{Code}
 
 -- A line with a code is not in order.
-not_in_order : (setting : Setting) (before : List (List ℕ)) (line : List ℕ) (why : Code) → code_behind setting before line ≡ None → code_behind setting before line ≡ Some why → ⊥
+not_in_order : (setting : Setting) (before : List (List ℕ)) (line : List ℕ) (why : Code) → code_after setting before line ≡ None → code_after setting before line ≡ Some why → ⊥
 not_in_order setting before line why none some = cc
 
 -- Where all lines are in order, none is the first at fault.
@@ -42,9 +42,9 @@ two_cuts (w ∷ xs) x xs' (z ∷ ys) y ys' e =
     ]
 
 -- A line has one code at most.
-one_code : (setting : Setting) (before before' : List (List ℕ)) (line line' : List ℕ) (why why' : Code) → before ≡ before' → line ≡ line' → code_behind setting before line ≡ Some why → code_behind setting before' line' ≡ Some why' → why ≡ why'
+one_code : (setting : Setting) (before before' : List (List ℕ)) (line line' : List ℕ) (why why' : Code) → before ≡ before' → line ≡ line' → code_after setting before line ≡ Some why → code_after setting before' line' ≡ Some why' → why ≡ why'
 one_code setting before before' line line' why why' same_before same_line has has' =
-    let same : code_behind setting before line ≡ code_behind setting before' line' = λ i. code_behind setting (same_before i) (same_line i) in
+    let same : code_after setting before line ≡ code_after setting before' line' = λ i. code_after setting (same_before i) (same_line i) in
     let codes : Some why ≡ Some why' = sym has ∙ same ∙ has' in
     cc
 

@@ -8,13 +8,13 @@ use Rattle.std.proofs.lemmas.List.Elements.{filter_map-append}
 use Rattle.std.proofs.lemmas.List.Folds.{list_any-append}
 use Rattle.std.proofs.lemmas.List.Sums.{fold-append}
 use Rattle.script_reader.specs.Codes.{number_of_code}
-use Rattle.script_reader.specs.Faults.{Setting, Context, context_of, code_of, code_said, code_behind, is_text_byte}
+use Rattle.script_reader.specs.Faults.{Setting, Context, context_of, code_of, code_said, code_after, is_text_byte}
 use Rattle.script_reader.specs.Grammar.{AreInOrder, IsFirstFault, IsEndMissing, IsScriptOf}
 use Rattle.script_reader.proofs.GrammarLaws.{two_cuts}
 use Rattle.script_reader.specs.Keywords.{is_end, is_session}
-use Rattle.script_reader.specs.LineReads.{HasReadLine, IsWhyNoLines, named_after, says_end, told}
+use Rattle.script_reader.specs.LineReads.{HasReadLine, IsWhyNoLines, named_after, says_end, fault_at}
 use Rattle.script_reader.specs.Lines.{Statement, those, word, statement_of, statements_of, is_end_line, has_end}
-use Rattle.script_reader.specs.Reader.{seen, IsKept, IsFaultOf, HasRead}
+use Rattle.script_reader.specs.Reader.{so_far, IsKept, IsFaultOf, HasRead}
 use Rattle.script_reader.specs.Said.{named_in, with_name, script_said}
 use Rattle.script_reader.proofs.SaidLaws.{those_keep, those_skip}
 use Rattle.script_reader.specs.Steps.{next_context}
@@ -113,10 +113,10 @@ before_end lines line rest none end =
 -- ---- lines in order
 
 -- lines in order and one that is not at fault
-pub in_order_push : (setting : Setting) (before : List (List ℕ)) (line : List ℕ) → AreInOrder setting before → code_behind setting before line ≡ None → AreInOrder setting (before ++ line ∷ [])
+pub in_order_push : (setting : Setting) (before : List (List ℕ)) (line : List ℕ) → AreInOrder setting before → code_after setting before line ≡ None → AreInOrder setting (before ++ line ∷ [])
 in_order_push setting before line all is = λ front back each e.
-    elim (two_cuts before line [] front each back e) as (λ _. code_behind setting front each ≡ None) [
-      | inl same ↦ subst (λ lines. code_behind setting lines each ≡ None) same.0 (subst (λ l. code_behind setting before l ≡ None) same.1 is)
+    elim (two_cuts before line [] front each back e) as (λ _. code_after setting front each ≡ None) [
+      | inl same ↦ subst (λ lines. code_after setting lines each ≡ None) same.0 (subst (λ l. code_after setting before l ≡ None) same.1 is)
       | inr (inl (between, later)) ↦ absurd (omega (arith, ap length e, ap length later, length-append before (line ∷ []), length-append front (each ∷ back), length-append before (line ∷ between)))
       | inr (inr (between, sooner)) ↦ all front between each sooner
     ]
@@ -139,16 +139,16 @@ said_fine context false line statement none = (refl, text_fine (list_all is_text
 -- The first lines were read.
 pub record HasReadLines (setting : Setting) (lines : List (List ℕ)) (n : ℕ) (reader : Reader) (ended : Bool) : Type 0 where
   pub kept : IsKept reader
-  pub holds : seen reader ≡ context_of setting (statements_of (take n lines))
+  pub holds : so_far reader ≡ context_of setting (statements_of (take n lines))
   pub ended_is : ended ≡ has_end (take n lines)
   pub in_order : AreInOrder setting (take n lines)
 
 -- what is held after these lines is what they say
-code_here : (setting : Setting) (lines : List (List ℕ)) (n : ℕ) (reader : Reader) (ended : Bool) (line : List ℕ) → HasReadLines setting lines n reader ended → code_said (seen reader) ended line (statement_of line) ≡ code_behind setting (take n lines) line
+code_here : (setting : Setting) (lines : List (List ℕ)) (n : ℕ) (reader : Reader) (ended : Bool) (line : List ℕ) → HasReadLines setting lines n reader ended → code_said (so_far reader) ended line (statement_of line) ≡ code_after setting (take n lines) line
 code_here setting lines n reader ended line read = λ i. code_said (read.holds i) (read.ended_is i) line (statement_of line)
 
 -- no line was read
-pub read_none : (setting : Setting) (lines : List (List ℕ)) (reader : Reader) → IsKept reader → seen reader ≡ context_of setting [] → HasReadLines setting lines 0 reader false
+pub read_none : (setting : Setting) (lines : List (List ℕ)) (reader : Reader) → IsKept reader → so_far reader ≡ context_of setting [] → HasReadLines setting lines 0 reader false
 read_none setting lines reader kept holds = record { kept = kept; holds = holds; ended_is = refl; in_order = none_in_order setting }
 
 -- what is left begins with the next line
@@ -160,7 +160,7 @@ rest_at lines n line within at =
 length-take_le : (n : ℕ) (lines : List (List ℕ)) → n < length lines → length (take n lines) ≡ n
 length-take_le n lines within = omega (arith, length-take n lines)
 
-read_code : (setting : Setting) (lines : List (List ℕ)) (n : ℕ) (reader : Reader) (ended : Bool) (line : List ℕ) (why : Code) → HasReadLines setting lines n reader ended → n < length lines → line ≡ get_or lines n [] → code_said (seen reader) ended line (statement_of line) ≡ Some why → IsFirstFault setting lines (n + 1) (number_of_code why)
+read_code : (setting : Setting) (lines : List (List ℕ)) (n : ℕ) (reader : Reader) (ended : Bool) (line : List ℕ) (why : Code) → HasReadLines setting lines n reader ended → n < length lines → line ≡ get_or lines n [] → code_said (so_far reader) ended line (statement_of line) ≡ Some why → IsFirstFault setting lines (n + 1) (number_of_code why)
 read_code setting lines n reader ended line why read within at fault = record {
   before = take n lines;
   line = line;
@@ -174,19 +174,19 @@ read_code setting lines n reader ended line why read within at fault = record {
 }
 
 -- A line is at fault after those that were read.
-pub read_fault : (setting : Setting) (lines : List (List ℕ)) (n : ℕ) (reader : Reader) (ended : Bool) (line : List ℕ) (fault : LineFault) → HasReadLines setting lines n reader ended → n < length lines → line ≡ get_or lines n [] → IsFaultOf (code_said (seen reader) ended line (statement_of line)) fault → IsWhyNoLines setting lines (told (n + 1) fault)
+pub read_fault : (setting : Setting) (lines : List (List ℕ)) (n : ℕ) (reader : Reader) (ended : Bool) (line : List ℕ) (fault : LineFault) → HasReadLines setting lines n reader ended → n < length lines → line ≡ get_or lines n [] → IsFaultOf (code_said (so_far reader) ended line (statement_of line)) fault → IsWhyNoLines setting lines (fault_at (n + 1) fault)
 read_fault setting lines n reader ended line (line_faults.Code why) read within at fault = inl (read_code setting lines n reader ended line why read within at fault)
 read_fault setting lines n reader ended line line_faults.NoMemory read within at fault = tt
 
 -- what the lines say, whatever the line says
-pub held_after : (setting : Setting) (front : List (List ℕ)) (reader new : Reader) (ended now : Bool) (line : List ℕ) (said : Option Statement) → statement_of line ≡ said → IsKept reader → seen reader ≡ context_of setting (statements_of front) → ended ≡ has_end front → HasReadLine reader new ended now line said
-    → IsKept new × (seen new ≡ context_of setting (statements_of (front ++ line ∷ []))) × (now ≡ has_end (front ++ line ∷ [])) × (code_said (seen reader) ended line said ≡ None)
+pub held_after : (setting : Setting) (front : List (List ℕ)) (reader new : Reader) (ended now : Bool) (line : List ℕ) (said : Option Statement) → statement_of line ≡ said → IsKept reader → so_far reader ≡ context_of setting (statements_of front) → ended ≡ has_end front → HasReadLine reader new ended now line said
+    → IsKept new × (so_far new ≡ context_of setting (statements_of (front ++ line ∷ []))) × (now ≡ has_end (front ++ line ∷ [])) × (code_said (so_far reader) ended line said ≡ None)
 held_after setting front reader new ended now line None is kept holds ended_is read =
     let more : statements_of (front ++ line ∷ []) ≡ statements_of front = statements_push front line ∙ ap (λ s. statements_of front ++ cons_option s []) is ∙ append-nil (statements_of front) in
-    (subst IsKept (sym read.0) kept, ap seen read.0 ∙ holds ∙ ap (context_of setting) (sym more), read.1 ∙ ended_is ∙ ap (list_any is_end_line) (sym more), refl)
+    (subst IsKept (sym read.0) kept, ap so_far read.0 ∙ holds ∙ ap (context_of setting) (sym more), read.1 ∙ ended_is ∙ ap (list_any is_end_line) (sym more), refl)
 held_after setting front reader new ended now line (Some statement) is kept holds ended_is read =
     let more : statements_of (front ++ line ∷ []) ≡ statements_of front ++ statement ∷ [] = statements_push front line ∙ ap (λ s. statements_of front ++ cons_option s []) is in
-    let fine = said_fine (seen reader) ended line statement read.0 in
+    let fine = said_fine (so_far reader) ended line statement read.0 in
     let code : code_of (context_of setting (statements_of front)) statement.keyword statement.words ≡ None = ap (λ context. code_of context statement.keyword statement.words) (sym holds) ∙ fine.1 in (
       read.1,
       read.2 ∙ ap (λ context. next_context context statement.keyword statement.words) holds ∙ sym (context_after setting (statements_of front) statement code) ∙ ap (context_of setting) (sym more),
@@ -213,16 +213,16 @@ read_missing setting lines n reader ended read all none at counted =
     record { in_order = subst (AreInOrder setting) whole read.in_order; no_end = ap has_end (sym whole) ∙ sym read.ended_is ∙ none; counted = counted; code_is = refl }
 
 -- All lines were read, and there is an end.
-pub read_script : (setting : Setting) (lines : List (List ℕ)) (n : ℕ) (reader : Reader) (ended : Bool) → HasReadLines setting lines n reader ended → n ≡ length lines → ended ≡ true → IsScriptOf setting lines (seen reader).script
+pub read_script : (setting : Setting) (lines : List (List ℕ)) (n : ℕ) (reader : Reader) (ended : Bool) → HasReadLines setting lines n reader ended → n ≡ length lines → ended ≡ true → IsScriptOf setting lines (so_far reader).script
 read_script setting lines n reader ended read all end =
     let whole : take n lines ≡ lines = take_all n lines (omega arith) in
     record { in_order = subst (AreInOrder setting) whole read.in_order; ended = ap has_end (sym whole) ∙ sym read.ended_is ∙ end; says = ap (λ context. context.script) read.holds ∙ ap (λ front. script_said setting.named (statements_of front)) whole }
 
 -- ---- lines after references
 
--- a line after its reference
-pub line_behind : (lines : List (Bor (List ℕ))) (n : ℕ) (d : Bor (List ℕ)) → n < length lines → (get_or lines n d).now ≡ get_or (map (λ line. line.now) lines) n []
-line_behind lines n d within = sym (get_or-map (λ (line : Bor (List ℕ)). line.now) lines n d [] within)
+-- a line of lines by reference
+pub line_of_references : (lines : List (Bor (List ℕ))) (n : ℕ) (d : Bor (List ℕ)) → n < length lines → (get_or lines n d).now ≡ get_or (map (λ line. line.now) lines) n []
+line_of_references lines n d within = sym (get_or-map (λ (line : Bor (List ℕ)). line.now) lines n d [] within)
 
 -- the sessions of the first lines and one more, where none of them is an end line
 pub named_more : (lines : List (List ℕ)) (n : ℕ) (line : List ℕ) (names new : List (List ℕ)) (end : Bool) → n < length lines → line ≡ get_or lines n [] → names ≡ named_in (statements_of (take n lines)) → has_end (take n lines) ≡ false → end ≡ says_end (statement_of line) → end ≡ false → new ≡ named_after names (statement_of line)
@@ -256,9 +256,9 @@ code_plain context line said keyword words is text =
 -- A line was read.
 pub line_read : (reader new : Reader) (line : List ℕ) (said : Option Statement) (keyword : Keyword) (words : List (List ℕ)) (now : Bool) → said ≡ Some (record { keyword = keyword; words = words }) → list_all is_text_byte line ≡ true → HasRead reader new keyword words → now ≡ is_end keyword → HasReadLine reader new false now line said
 line_read reader new line said keyword words now is text read end =
-    let plain = code_plain (seen reader) line (Some (record { keyword = keyword; words = words })) keyword words refl text in
+    let plain = code_plain (so_far reader) line (Some (record { keyword = keyword; words = words })) keyword words refl text in
     subst (HasReadLine reader new false now line) (sym is) (plain ∙ read.faultless, read.kept, read.added, end)
 
 -- A line is at fault.
-pub line_fault : (reader : Reader) (line : List ℕ) (said : Option Statement) (keyword : Keyword) (words : List (List ℕ)) (fault : LineFault) → said ≡ Some (record { keyword = keyword; words = words }) → list_all is_text_byte line ≡ true → IsFaultOf (code_of (seen reader) keyword words) fault → IsFaultOf (code_said (seen reader) false line said) fault
-line_fault reader line said keyword words fault is text why = subst (λ code. IsFaultOf code fault) (sym (code_plain (seen reader) line said keyword words is text)) why
+pub line_fault : (reader : Reader) (line : List ℕ) (said : Option Statement) (keyword : Keyword) (words : List (List ℕ)) (fault : LineFault) → said ≡ Some (record { keyword = keyword; words = words }) → list_all is_text_byte line ≡ true → IsFaultOf (code_of (so_far reader) keyword words) fault → IsFaultOf (code_said (so_far reader) false line said) fault
+line_fault reader line said keyword words fault is text why = subst (λ code. IsFaultOf code fault) (sym (code_plain (so_far reader) line said keyword words is text)) why

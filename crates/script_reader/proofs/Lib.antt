@@ -1,4 +1,4 @@
-pub mod BehindLaws
+pub mod FrontLaws
 pub mod CommandLemmas
 pub mod DeclaredLemmas
 pub mod EqLemmas

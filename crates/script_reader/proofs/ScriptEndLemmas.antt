@@ -10,7 +10,7 @@ use Rattle.std.proofs.lemmas.List.Elements.{filter_map-append}
 use Rattle.std.proofs.lemmas.List.Splits.{length-slice_split}
 use Rattle.std.proofs.lemmas.Slice.Eq.{bytes_eq-Decides}
 use Rattle.session_known.specs.declared.script.Script.{Script}
-use Rattle.script_reader.specs.Faults.{Setting, Context, context_of, code_of, code_said, code_behind}
+use Rattle.script_reader.specs.Faults.{Setting, Context, context_of, code_of, code_said, code_after}
 use Rattle.script_reader.proofs.FaultsLaws.{word_fine}
 use Rattle.script_reader.specs.Grammar.{AreInOrder, IsScript, setting_of}
 use Rattle.script_reader.specs.Keywords.{keyword_of, is_end}
@@ -21,7 +21,7 @@ use Rattle.script_reader.specs.Split.{are_end_alone, is_end_alone, bytes_to_end,
 use Rattle.script_reader.specs.declared.built.Built.{Built}
 use Rattle.script_reader.specs.declared.keyword.Keyword.{Keyword}
 use Rattle.script_reader.specs.declared.keyword.Keyword.TheVariants.{End}
-use Rattle.script_reader.proofs.FedLemmas.{fed, fed_append, place_at, split_behind, fed_split, front_split, lines_fed}
+use Rattle.script_reader.proofs.FedLemmas.{fed, fed_append, place_at, split_after, fed_split, front_split, lines_fed}
 use Rattle.script_reader.proofs.GrammarLemmas.{end_push, said_fine, statements_push}
 
 -- ---- what an end line says
@@ -61,7 +61,7 @@ words_alone context line [] fine = refl
 words_alone context line (first ∷ words) fine = said_alone context line first words (slice_index first 0 == 35) refl fine
 
 -- a line that is not at fault, with no end before it, is an end line where its only word is `end`
-line_alone : (setting : Setting) (before : List (List ℕ)) (line : List ℕ) → has_end before ≡ false → code_behind setting before line ≡ None → says_end (statement_of line) ≡ are_end_alone (words_of line)
+line_alone : (setting : Setting) (before : List (List ℕ)) (line : List ℕ) → has_end before ≡ false → code_after setting before line ≡ None → says_end (statement_of line) ≡ are_end_alone (words_of line)
 line_alone setting before line none fine =
     words_alone (context_of setting (statements_of before)) line (words_of line) (subst (λ ended. code_said (context_of setting (statements_of before)) ended line (statement_of line) ≡ None) none fine)
 
@@ -83,13 +83,13 @@ silent_line context line None fine = refl
 silent_line context line (Some statement) fine = absurd cc
 
 -- after an end, lines in order say nothing
-silent_behind : (setting : Setting) (front rest : List (List ℕ)) → AreInOrder setting (front ++ rest) → has_end front ≡ true → statements_of rest ≡ []
-silent_behind setting front [] order ended = refl
-silent_behind setting front (line ∷ rest) order ended =
+silent_after : (setting : Setting) (front rest : List (List ℕ)) → AreInOrder setting (front ++ rest) → has_end front ≡ true → statements_of rest ≡ []
+silent_after setting front [] order ended = refl
+silent_after setting front (line ∷ rest) order ended =
     let context : Context = context_of setting (statements_of front) in
     let none : statement_of line ≡ None = silent_line context line (statement_of line) (subst (λ ended. code_said context ended line (statement_of line) ≡ None) ended (order front rest line refl)) in
     ap (λ said. cons_option said (statements_of rest)) none
-    ∙ silent_behind setting (front ++ line ∷ []) rest (subst (AreInOrder setting) (sym (append_assoc front (line ∷ []) rest)) order) (end_push front line ∙ ap (λ ended. ended || says_end (statement_of line)) ended)
+    ∙ silent_after setting (front ++ line ∷ []) rest (subst (AreInOrder setting) (sym (append_assoc front (line ∷ []) rest)) order) (end_push front line ∙ ap (λ ended. ended || says_end (statement_of line)) ended)
 
 -- The first of the lines whose only word is `end`, after which no line says anything.
 pub record HasEndAlone (lines : List (List ℕ)) : Type 0 where
@@ -112,7 +112,7 @@ end_here setting front line lines true is order ended next = record {
   place = refl;
   none = refl;
   ends = is;
-  silent = silent_behind setting (front ++ strip_carriage_return line ∷ []) (map strip_carriage_return lines) order ended;
+  silent = silent_after setting (front ++ strip_carriage_return line ∷ []) (map strip_carriage_return lines) order ended;
 }
 end_here setting front line lines false is order ended next =
     let at : HasEndAlone lines = next ended in
@@ -127,54 +127,54 @@ end_here setting front line lines false is order ended next =
     }
 
 -- lines in order that have an end
-end_behind : (setting : Setting) (front lines : List (List ℕ)) → AreInOrder setting (front ++ map strip_carriage_return lines) → has_end front ≡ false → has_end (front ++ map strip_carriage_return lines) ≡ true → HasEndAlone lines
-end_behind setting front [] order none some = absurd (true≢false (sym some ∙ ap has_end (append-nil front) ∙ none))
-end_behind setting front (line ∷ lines) order none some =
+end_after : (setting : Setting) (front lines : List (List ℕ)) → AreInOrder setting (front ++ map strip_carriage_return lines) → has_end front ≡ false → has_end (front ++ map strip_carriage_return lines) ≡ true → HasEndAlone lines
+end_after setting front [] order none some = absurd (true≢false (sym some ∙ ap has_end (append-nil front) ∙ none))
+end_after setting front (line ∷ lines) order none some =
     let stripped : List ℕ = strip_carriage_return line in
     let rest : List (List ℕ) = map strip_carriage_return lines in
     let moved : (front ++ stripped ∷ []) ++ rest ≡ front ++ stripped ∷ rest = append_assoc front (stripped ∷ []) rest in
     let order_moved : AreInOrder setting ((front ++ stripped ∷ []) ++ rest) = subst (AreInOrder setting) (sym moved) order in
     let ended : has_end (front ++ stripped ∷ []) ≡ is_end_alone line =
     end_push front stripped ∙ ap (λ ended. ended || says_end (statement_of stripped)) none ∙ line_alone setting front stripped none (order front rest stripped refl) in
-    end_here setting front line lines (is_end_alone line) refl order_moved ended (λ none. end_behind setting (front ++ stripped ∷ []) lines order_moved none (ap has_end moved ∙ some))
+    end_here setting front line lines (is_end_alone line) refl order_moved ended (λ none. end_after setting (front ++ stripped ∷ []) lines order_moved none (ap has_end moved ∙ some))
 
 -- ---- a script that ends with a line feed
 
 -- the lines of the script
 lines_of_script : (text : List ℕ) → script_lines (text ++ 10 ∷ []) ≡ map strip_carriage_return (slice_split is_line_feed text)
-lines_of_script text = lines_fed (text ++ 10 ∷ []) (slice_split is_line_feed text) (split_behind text [])
+lines_of_script text = lines_fed (text ++ 10 ∷ []) (slice_split is_line_feed text) (split_after text [])
 
 -- they have an end
 end_of_script : (built : Built) (text : List ℕ) (script : Script) → IsScript built (text ++ 10 ∷ []) script → HasEndAlone (slice_split is_line_feed text)
 end_of_script built text script is =
-    end_behind (setting_of built (script_lines (text ++ 10 ∷ []))) [] (slice_split is_line_feed text)
+    end_after (setting_of built (script_lines (text ++ 10 ∷ []))) [] (slice_split is_line_feed text)
     (subst (AreInOrder (setting_of built (script_lines (text ++ 10 ∷ [])))) (lines_of_script text) is.lines.in_order) refl (ap has_end (sym (lines_of_script text)) ∙ is.lines.ended)
 
 -- the lines of an input that begins with it
-cut_behind : (text more : List ℕ) (at : HasEndAlone (slice_split is_line_feed text)) → slice_split is_line_feed (text ++ 10 ∷ more) ≡ at.before ++ at.end ∷ (at.after ++ slice_split is_line_feed more)
-cut_behind text more at = split_behind text more ∙ ap (λ lines. lines ++ slice_split is_line_feed more) at.place ∙ append_assoc at.before (at.end ∷ at.after) (slice_split is_line_feed more)
+cut_after : (text more : List ℕ) (at : HasEndAlone (slice_split is_line_feed text)) → slice_split is_line_feed (text ++ 10 ∷ more) ≡ at.before ++ at.end ∷ (at.after ++ slice_split is_line_feed more)
+cut_after text more at = split_after text more ∙ ap (λ lines. lines ++ slice_split is_line_feed more) at.place ∙ append_assoc at.before (at.end ∷ at.after) (slice_split is_line_feed more)
 
 -- lines follow its end
-some_behind : (text more : List ℕ) (at : HasEndAlone (slice_split is_line_feed text)) → 0 < length (at.after ++ slice_split is_line_feed more)
-some_behind text more at = omega (arith, length-append at.after (slice_split is_line_feed more), length-slice_split is_line_feed more)
+some_after : (text more : List ℕ) (at : HasEndAlone (slice_split is_line_feed text)) → 0 < length (at.after ++ slice_split is_line_feed more)
+some_after text more at = omega (arith, length-append at.after (slice_split is_line_feed more), length-slice_split is_line_feed more)
 
 -- it is split after its end, whatever follows
-place_behind_end : (text more : List ℕ) (at : HasEndAlone (slice_split is_line_feed text)) → split_place (text ++ 10 ∷ more) ≡ fed (at.before ++ at.end ∷ [])
-place_behind_end text more at =
-    ap bytes_to_end (cut_behind text more at) ∙ place_at at.before at.end (at.after ++ slice_split is_line_feed more) at.none at.ends (some_behind text more at)
+place_after_end : (text more : List ℕ) (at : HasEndAlone (slice_split is_line_feed text)) → split_place (text ++ 10 ∷ more) ≡ fed (at.before ++ at.end ∷ [])
+place_after_end text more at =
+    ap bytes_to_end (cut_after text more at) ∙ place_at at.before at.end (at.after ++ slice_split is_line_feed more) at.none at.ends (some_after text more at)
 
 -- at the same place as by itself
 pub same_place : (built : Built) (text more : List ℕ) (script : Script) → IsScript built (text ++ 10 ∷ []) script → split_place (text ++ 10 ∷ more) ≡ split_place (text ++ 10 ∷ [])
 same_place built text more script is =
     let at = end_of_script built text script is in
-    place_behind_end text more at ∙ sym (place_behind_end text [] at)
+    place_after_end text more at ∙ sym (place_after_end text [] at)
 
 -- where a list with a last element is cut, nothing is after the cut, or the last
-last_behind : {A : Type 0} (xs : List A) (last : A) (ys : List A) (y : A) (zs : List A) → xs ++ last ∷ [] ≡ ys ++ y ∷ zs → (zs ≡ []) ⊎ ((between : List A) × (zs ≡ between ++ last ∷ []))
-last_behind [] last [] y zs e = inl cc
-last_behind [] last (z ∷ ys) y zs e = let none : [] ≡ ys ++ y ∷ zs = cc in absurd (omega (arith, ap length none, length-append ys (y ∷ zs)))
-last_behind (x ∷ xs) last [] y zs e = inr (xs, cc)
-last_behind (x ∷ xs) last (z ∷ ys) y zs e = last_behind xs last ys y zs cc
+last_after : {A : Type 0} (xs : List A) (last : A) (ys : List A) (y : A) (zs : List A) → xs ++ last ∷ [] ≡ ys ++ y ∷ zs → (zs ≡ []) ⊎ ((between : List A) × (zs ≡ between ++ last ∷ []))
+last_after [] last [] y zs e = inl cc
+last_after [] last (z ∷ ys) y zs e = let none : [] ≡ ys ++ y ∷ zs = cc in absurd (omega (arith, ap length none, length-append ys (y ∷ zs)))
+last_after (x ∷ xs) last [] y zs e = inr (xs, cc)
+last_after (x ∷ xs) last (z ∷ ys) y zs e = last_after xs last ys y zs cc
 
 -- statements and one more are some
 no_last : (statements : List Statement) (said : Option Statement) → is_some said ≡ true → statements ++ cons_option said [] ≡ [] → ⊥
@@ -193,8 +193,8 @@ silent_last between last ends silent =
 pub split_whole : (built : Built) (text more : List ℕ) (script : Script) (lines : List (List ℕ)) (last : List ℕ) → IsScript built (text ++ 10 ∷ []) script → slice_split is_line_feed text ≡ lines ++ last ∷ [] → is_end_alone last ≡ true → split_place (text ++ 10 ∷ more) ≡ length text + 1
 split_whole built text more script lines last is cut ends =
     let at : HasEndAlone (slice_split is_line_feed text) = end_of_script built text script is in
-    elim (last_behind lines last at.before at.end at.after (sym cut ∙ at.place)) as (λ _. split_place (text ++ 10 ∷ more) ≡ length text + 1) [
-      | inl none ↦ place_behind_end text more at ∙ ap (λ after. fed (at.before ++ at.end ∷ after)) (sym none) ∙ ap fed (sym at.place) ∙ fed_split text
+    elim (last_after lines last at.before at.end at.after (sym cut ∙ at.place)) as (λ _. split_place (text ++ 10 ∷ more) ≡ length text + 1) [
+      | inl none ↦ place_after_end text more at ∙ ap (λ after. fed (at.before ++ at.end ∷ after)) (sym none) ∙ ap fed (sym at.place) ∙ fed_split text
       | inr (between, after) ↦ absurd (silent_last between last ends (ap (λ after. statements_of (map strip_carriage_return after)) (sym after) ∙ at.silent))
     ]
 
@@ -202,12 +202,12 @@ split_whole built text more script lines last is cut ends =
 front_is_script : (built : Built) (text front : List ℕ) (script : Script) (rest : List (List ℕ)) → script_lines text ≡ script_lines front ++ rest → statements_of rest ≡ [] → length front ≤ length text → IsScript built text script → IsScript built front script
 front_is_script built text front script rest lines silent short is =
     let same : statements_of (script_lines text) ≡ statements_of (script_lines front) =
-    ap statements_of lines ∙ filter_map-append statement_of (script_lines front) rest ∙ ap (λ behind. statements_of (script_lines front) ++ behind) silent ∙ append-nil (statements_of (script_lines front)) in
+    ap statements_of lines ∙ filter_map-append statement_of (script_lines front) rest ∙ ap (λ others. statements_of (script_lines front) ++ others) silent ∙ append-nil (statements_of (script_lines front)) in
     let named : (setting_of built (script_lines text)) ≡ (setting_of built (script_lines front)) = ap (λ statements. record { built = built; named = named_in (before_first is_end_line statements) }) same in
     record {
       short = omega (arith, is.short);
       lines = record {
-        in_order = λ before after line e. subst (λ setting. code_behind setting before line ≡ None) named
+        in_order = λ before after line e. subst (λ setting. code_after setting before line ≡ None) named
             (is.lines.in_order before (after ++ rest) line (lines ∙ ap (λ lines. lines ++ rest) e ∙ append_assoc before (line ∷ after) rest));
         ended = ap (list_any is_end_line) (sym same) ∙ is.lines.ended;
         says = is.lines.says ∙ (λ i. script_said (named i).named (same i));
@@ -222,9 +222,9 @@ split_script built text more script is =
     let front : List ℕ = take (fed ending) (text ++ 10 ∷ more) in
     let whole : slice_split is_line_feed text ≡ ending ++ at.after = at.place ∙ sym (append_assoc at.before (at.end ∷ []) at.after) in
     let cut : slice_split is_line_feed (text ++ 10 ∷ more) ≡ ending ++ (at.after ++ slice_split is_line_feed more) =
-    cut_behind text more at ∙ sym (append_assoc at.before (at.end ∷ []) (at.after ++ slice_split is_line_feed more)) in
-    let front_lines : script_lines front ≡ map strip_carriage_return ending = lines_fed front ending (front_split (text ++ 10 ∷ more) ending (at.after ++ slice_split is_line_feed more) (some_behind text more at) cut) in
+    cut_after text more at ∙ sym (append_assoc at.before (at.end ∷ []) (at.after ++ slice_split is_line_feed more)) in
+    let front_lines : script_lines front ≡ map strip_carriage_return ending = lines_fed front ending (front_split (text ++ 10 ∷ more) ending (at.after ++ slice_split is_line_feed more) (some_after text more at) cut) in
     let lines : script_lines (text ++ 10 ∷ []) ≡ script_lines front ++ map strip_carriage_return at.after =
     lines_of_script text ∙ ap (map strip_carriage_return) whole ∙ map-append strip_carriage_return ending at.after ∙ ap (λ lines. lines ++ map strip_carriage_return at.after) (sym front_lines) in
     let short : length front ≤ length (text ++ 10 ∷ []) = omega (arith, length-take (fed ending) (text ++ 10 ∷ more), fed_append ending at.after, fed_split text, ap fed whole, length-append text (10 ∷ [])) in
-    subst (λ n. IsScript built (take n (text ++ 10 ∷ more)) script) (sym (place_behind_end text more at)) (front_is_script built (text ++ 10 ∷ []) front script (map strip_carriage_return at.after) lines at.silent short is)
+    subst (λ n. IsScript built (take n (text ++ 10 ∷ more)) script) (sym (place_after_end text more at)) (front_is_script built (text ++ 10 ∷ []) front script (map strip_carriage_return at.after) lines at.silent short is)

@@ -40,8 +40,8 @@ before_lines line [] some = absurd (omega arith)
 before_lines line (next ∷ lines) some = refl
 
 -- in a text: the same of its first line and what stands after that
-pub place_behind : (text line rest : List ℕ) (ends : Bool) → slice_split is_line_feed text ≡ line ∷ slice_split is_line_feed rest → ends ≡ is_end_alone line
+pub place_after : (text line rest : List ℕ) (ends : Bool) → slice_split is_line_feed text ≡ line ∷ slice_split is_line_feed rest → ends ≡ is_end_alone line
     → split_place text ≡ length line + 1 + cond ends 0 (split_place rest)
-place_behind text line rest ends cut says =
+place_after text line rest ends cut says =
     ap bytes_to_end cut ∙ before_lines line (slice_split is_line_feed rest) (omega (arith, length-slice_split is_line_feed rest))
     ∙ ap (λ ends. length line + 1 + cond ends 0 (split_place rest)) (sym says)

@@ -80,30 +80,30 @@ workers_push setting (first ∷ []) (number ∷ []) follows has =
 -- the last line says nothing of the script
 end_push : (setting : Setting) (before : List Statement) (words : List (List ℕ)) → nat_lt 1 (length before) ≡ true
     → script_said setting.named (before ++ record { keyword = End; words = words } ∷ []) ≡ script_after (context_of setting before) End words
-end_push setting before words behind =
+end_push setting before words after =
     let statement : Statement = record { keyword = End; words = words } in
-    same_script (script_said setting.named (before ++ statement ∷ [])) (script_after (context_of setting before) End words) (workers_kept before statement behind)
+    same_script (script_said setting.named (before ++ statement ∷ [])) (script_after (context_of setting before) End words) (workers_kept before statement after)
     (factor_kept setting.named before statement refl) (keys_kept setting.named before statement refl) (round_kept setting.named before statement refl) (kinds_kept setting.named before statement refl) (plans_kept setting.named before statement refl refl refl)
 
 -- a line that says the replication factor
 factor_push : (setting : Setting) (before : List Statement) (words : List (List ℕ)) → nat_lt 1 (length before) ≡ true → may_have Factor words ≡ true → repeats (context_of setting before) Factor words ≡ false
     → script_said setting.named (before ++ record { keyword = Factor; words = words } ∷ []) ≡ script_after (context_of setting before) Factor words
-factor_push setting before [] behind has new = absurd cc
-factor_push setting before (number ∷ other ∷ words) behind has new = absurd cc
-factor_push setting before (number ∷ []) behind has new =
+factor_push setting before [] after has new = absurd cc
+factor_push setting before (number ∷ other ∷ words) after has new = absurd cc
+factor_push setting before (number ∷ []) after has new =
     let statement : Statement = record { keyword = Factor; words = number ∷ [] } in
-    same_script (script_said setting.named (before ++ statement ∷ [])) (script_after (context_of setting before) Factor (number ∷ [])) (workers_kept before statement behind)
+    same_script (script_said setting.named (before ++ statement ∷ [])) (script_after (context_of setting before) Factor (number ∷ [])) (workers_kept before statement after)
     (ap (λ (lines : List Statement). number_or 1 lines) (those_keep is_factor before statement refl) ∙ number_first 1 (those is_factor before) statement new)
     (keys_kept setting.named before statement refl) (round_kept setting.named before statement refl) (kinds_kept setting.named before statement refl) (plans_kept setting.named before statement refl refl refl)
 
 -- a line that says the number of requests between two rounds
 round_push : (setting : Setting) (before : List Statement) (words : List (List ℕ)) → nat_lt 1 (length before) ≡ true → may_have Round words ≡ true → repeats (context_of setting before) Round words ≡ false
     → script_said setting.named (before ++ record { keyword = Round; words = words } ∷ []) ≡ script_after (context_of setting before) Round words
-round_push setting before [] behind has new = absurd cc
-round_push setting before (number ∷ other ∷ words) behind has new = absurd cc
-round_push setting before (number ∷ []) behind has new =
+round_push setting before [] after has new = absurd cc
+round_push setting before (number ∷ other ∷ words) after has new = absurd cc
+round_push setting before (number ∷ []) after has new =
     let statement : Statement = record { keyword = Round; words = number ∷ [] } in
-    same_script (script_said setting.named (before ++ statement ∷ [])) (script_after (context_of setting before) Round (number ∷ [])) (workers_kept before statement behind)
+    same_script (script_said setting.named (before ++ statement ∷ [])) (script_after (context_of setting before) Round (number ∷ [])) (workers_kept before statement after)
     (factor_kept setting.named before statement refl) (keys_kept setting.named before statement refl)
     (ap (λ (lines : List Statement). number_or 4 lines) (those_keep is_round before statement refl) ∙ number_first 4 (those is_round before) statement new)
     (kinds_kept setting.named before statement refl) (plans_kept setting.named before statement refl refl refl)
@@ -132,9 +132,9 @@ key_push setting before words follows =
 -- a line that begins a session
 session_push : (setting : Setting) (before : List Statement) (words : List (List ℕ)) → nat_lt 1 (length before) ≡ true
     → script_said setting.named (before ++ record { keyword = Session; words = words } ∷ []) ≡ script_after (context_of setting before) Session words
-session_push setting before words behind =
+session_push setting before words after =
     let statement : Statement = record { keyword = Session; words = words } in
-    same_script (script_said setting.named (before ++ statement ∷ [])) (script_after (context_of setting before) Session words) (workers_kept before statement behind)
+    same_script (script_said setting.named (before ++ statement ∷ [])) (script_after (context_of setting before) Session words) (workers_kept before statement after)
     (factor_kept setting.named before statement refl) (keys_kept setting.named before statement refl) (round_kept setting.named before statement refl) (kinds_kept setting.named before statement refl)
     (old_keys setting.named before statement refl ∙ sessions_begun (map (word 0) (those is_key before)) (map kind_in (those is_key before)) setting.named before statement refl)
 
@@ -153,28 +153,28 @@ command_plans setting before statement no_key no_start one =
 command_push : (setting : Setting) (before : List Statement) (statement : Statement) (sessions : List SessionPlan) → nat_lt 1 (length before) ≡ true → is_key statement.keyword ≡ false → is_factor statement.keyword ≡ false → is_round statement.keyword ≡ false
     → (script_said setting.named (before ++ statement ∷ [])).sessions ≡ sessions
     → script_said setting.named (before ++ statement ∷ []) ≡ record { config = (script_said setting.named before).config; round = (script_said setting.named before).round; kinds = (script_said setting.named before).kinds; sessions = sessions }
-command_push setting before statement sessions behind no_key no_factor no_round same =
+command_push setting before statement sessions after no_key no_factor no_round same =
     same_script (script_said setting.named (before ++ statement ∷ [])) (record { config = (script_said setting.named before).config; round = (script_said setting.named before).round; kinds = (script_said setting.named before).kinds; sessions = sessions })
-    (workers_kept before statement behind) (factor_kept setting.named before statement no_factor) (keys_kept setting.named before statement no_key) (round_kept setting.named before statement no_round) (kinds_kept setting.named before statement no_key) same
+    (workers_kept before statement after) (factor_kept setting.named before statement no_factor) (keys_kept setting.named before statement no_key) (round_kept setting.named before statement no_round) (kinds_kept setting.named before statement no_key) same
 
 -- such a line stands after the number of workers
-behind_workers : (behind rest : Bool) → (behind && rest) ≡ true → behind ≡ true
-behind_workers behind rest both = (and_parts behind rest both).0
+after_workers : (after rest : Bool) → (after && rest) ≡ true → after ≡ true
+after_workers after rest both = (and_parts after rest both).0
 
 -- what a line that may stand there adds to the script
 script_push : (setting : Setting) (before : List Statement) (keyword : Keyword) (words : List (List ℕ)) → may_follow (context_of setting before) keyword ≡ true → may_have keyword words ≡ true → repeats (context_of setting before) keyword words ≡ false
     → script_said setting.named (before ++ record { keyword = keyword; words = words } ∷ []) ≡ script_after (context_of setting before) keyword words
 script_push setting before Anna words follows has new = anna_push setting before words follows
 script_push setting before Workers words follows has new = workers_push setting before words follows has
-script_push setting before Factor words follows has new = factor_push setting before words (behind_workers (nat_lt 1 (length before)) _ follows) has new
-script_push setting before Round words follows has new = round_push setting before words (behind_workers (nat_lt 1 (length before)) _ follows) has new
+script_push setting before Factor words follows has new = factor_push setting before words (after_workers (nat_lt 1 (length before)) _ follows) has new
+script_push setting before Round words follows has new = round_push setting before words (after_workers (nat_lt 1 (length before)) _ follows) has new
 script_push setting before Key words follows has new = key_push setting before words follows
 script_push setting before Session words follows has new = session_push setting before words follows
 script_push setting before End words follows has new = end_push setting before words follows
 script_push setting before Unknown words follows has new = let never = (and_parts (nat_lt 1 (length before)) false follows).1 in absurd cc
 script_push setting before keyword words follows has new =
     let statement : Statement = record { keyword = keyword; words = words } in
-    command_push setting before statement _ (behind_workers (nat_lt 1 (length before)) _ follows) refl refl refl (command_plans setting before statement refl refl refl)
+    command_push setting before statement _ (after_workers (nat_lt 1 (length before)) _ follows) refl refl refl (command_plans setting before statement refl refl refl)
 
 -- whether a transaction is begun after a line
 begun_push : (before : List Statement) (keyword : Keyword) (words : List (List ℕ)) → last_begins (those is_boundary (before ++ record { keyword = keyword; words = words } ∷ [])) ≡ begun_after (last_begins (those is_boundary before)) keyword

@@ -3,11 +3,11 @@ use Rattle.std.specs.Prelude.{◌≡◌, ◌≢◌, ℕ, ◌≤◌, Bool, true, 
 use Rattle.composed_value.specs.Kind.{kind_of}
 use Rattle.composed_value.specs.Put.{IsPayload}
 use Rattle.composed_value.specs.declared.kind.Kind.{Kind}
-use Rattle.placement.specs.Config.{ArePins, placed}
+use Rattle.placement.specs.Config.{IsOneOf, ArePins, placed}
 use Rattle.placement.specs.Name.{IsName}
 use Rattle.placement.specs.declared.config.Config.{Config}
 use Rattle.script_reader.specs.Faults.{Context}
-use Rattle.session_known.specs.Script.{IsOneOf, MayName, kind_at}
+use Rattle.session_known.specs.Script.{MayName, kind_at}
 use Rattle.placement.specs.Asked.{replicas_of}
 use Rattle.session_known.specs.declared.script.Level.{Level}
 use Rattle.session_known.specs.declared.script.Level.TheVariants.{Committed, Causal}
@@ -26,11 +26,11 @@ Stands keys of_keys named table level Abort = level ≡ Committed
 
 -- The lines begin and end transactions in turn; `begun` says whether one is begun before the first line, and `after` after the last.
 abbrev pub Leads : Bool → List Line → Bool → Type 0
-Leads begun [] behind = begun ≡ behind
-Leads begun (Begin ∷ lines) behind = IsFalse begun × Leads true lines behind
-Leads begun (Commit ∷ lines) behind = IsTrue begun × Leads false lines behind
-Leads begun (Abort ∷ lines) behind = IsTrue begun × Leads false lines behind
-Leads begun (line ∷ lines) behind = Leads begun lines behind
+Leads begun [] after = begun ≡ after
+Leads begun (Begin ∷ lines) after = IsFalse begun × Leads true lines after
+Leads begun (Commit ∷ lines) after = IsTrue begun × Leads false lines after
+Leads begun (Abort ∷ lines) after = IsTrue begun × Leads false lines after
+Leads begun (line ∷ lines) after = Leads begun lines after
 
 -- each session but the last has ended its transactions, and `begun` says whether the last has one begun
 abbrev pub AreLed : List SessionPlan → Bool → Type 0

@@ -7,7 +7,7 @@ use Rattle.std.proofs.lemmas.Bool.{false≢true, true≢false, both_ways, not-tr
 use Rattle.std.proofs.lemmas.List.{map_push, length_push, length-map}
 use Rattle.std.proofs.lemmas.List.Elements.{All-nil, All-push}
 use Rattle.composed_value.specs.declared.kind.Kind.{Kind}
-use Rattle.placement.specs.Config.{ArePins, placed}
+use Rattle.placement.specs.Config.{IsOneOf, ArePins, placed}
 use Rattle.placement.specs.Name.{IsName}
 use Rattle.placement.specs.declared.config.KeyPlace.{KeyPlace}
 use Rattle.script_reader.specs.Faults.{Setting, Context, context_of, keys_of, level_of, commands_of, is_declared, is_causal, is_committed, may_follow, may_have, suits, lacks_name, repeats, is_unknown, misfits, passes_limit, breaks_transaction, code_of}
@@ -21,7 +21,7 @@ use Rattle.script_reader.proofs.ValidSessionsLaws.{sessions_line, sessions_push,
 use Rattle.script_reader.specs.Words.{number_of}
 use Rattle.script_reader.specs.declared.keyword.Keyword.{Keyword}
 use Rattle.script_reader.specs.declared.keyword.Keyword.TheVariants.{Anna, Workers, Factor, Round, Key, Session, Put, Get, Await, Begin, Commit, Abort, End, Unknown}
-use Rattle.session_known.specs.Script.{IsOneOf, MayName}
+use Rattle.session_known.specs.Script.{MayName}
 use Rattle.session_known.specs.declared.script.Level.{Level}
 use Rattle.session_known.specs.declared.script.Level.TheVariants.{Eventual, Committed, Causal}
 use Rattle.session_known.specs.declared.script.Line.{Line}
@@ -81,13 +81,13 @@ start setting = record {
 }
 
 -- a line after the line of workers
-behind_workers : (context : Context) (keyword : Keyword) (words : List (List ℕ)) → IsValidContext context → context.has_workers ≡ true
+after_workers : (context : Context) (keyword : Keyword) (words : List (List ℕ)) → IsValidContext context → context.has_workers ≡ true
     → IsOneOf 8 (next_context context keyword words).script.config.workers × IsOneOf (next_context context keyword words).script.config.workers (next_context context keyword words).script.config.factor
     → IsOneOf 64 (next_context context keyword words).script.round
     → AreKeys (next_context context keyword words).script.config (next_context context keyword words).script.kinds
     → AreSessions (length (next_context context keyword words).script.config.keys) (next_context context keyword words).script.kinds (length (next_context context keyword words).named) (placed (next_context context keyword words).script.config) (next_context context keyword words).begun (next_context context keyword words).script.sessions
     → IsValidContext (next_context context keyword words)
-behind_workers context keyword words valid has numbers round keys sessions = record {
+after_workers context keyword words valid has numbers round keys sessions = record {
   header = λ _. refl;
   workers = λ _. numbers;
   bare = λ no. absurd (both_ways _ no (valid.header has));
@@ -142,14 +142,14 @@ step_factor context (number ∷ words) valid fine =
     let follows = option_follows context fine.follows in
     let within = within_is 1 context.script.config.workers (number_of number) (not-false _ fine.limit) in
     let keys : AreKeys (with_factor (number_of number) context.script).config context.script.kinds = record { few = valid.keys.few; pins = valid.keys.pins; kinds = valid.keys.kinds; names = valid.keys.names } in
-    behind_workers context Factor (number ∷ words) valid follows.0 ((valid.workers follows.0).0, within) valid.round keys (sessions_none _ _ _ _ _ _ _ _ _ follows.1 valid.sessions)
+    after_workers context Factor (number ∷ words) valid follows.0 ((valid.workers follows.0).0, within) valid.round keys (sessions_none _ _ _ _ _ _ _ _ _ follows.1 valid.sessions)
 
 -- the requests between rounds
 step_round : (context : Context) (words : List (List ℕ)) → IsValidContext context → IsFaultless context Round words → IsValidContext (next_context context Round words)
 step_round context [] valid fine = absurd (false≢true fine.has)
 step_round context (number ∷ words) valid fine =
     let follows = option_follows context fine.follows in
-    behind_workers context Round (number ∷ words) valid follows.0 (valid.workers follows.0) (within_is 1 64 (number_of number) (not-false _ fine.limit)) valid.keys valid.sessions
+    after_workers context Round (number ∷ words) valid follows.0 (valid.workers follows.0) (within_is 1 64 (number_of number) (not-false _ fine.limit)) valid.keys valid.sessions
 
 -- the keys of a config with one more
 keys_push : (workers factor : ℕ) (keys : List KeyPlace) (of_keys : List Kind) (key : KeyPlace) (kind : Kind) → AreKeys (record { workers = workers; factor = factor; keys = keys }) of_keys → length keys < 128 → ArePins workers key.pins → IsName key.name → list_any (bytes_eq key.name) (map (λ key. key.name) keys) ≡ false → AreKeys (record { workers = workers; factor = factor; keys = keys ++ key ∷ [] }) (of_keys ++ kind ∷ [])
@@ -170,19 +170,19 @@ step_key context (name ∷ words) valid fine =
     let pins : ArePins config.workers (pins_said (name ∷ words)) = record { are_workers = are_workers config.workers (pins_said (name ∷ words)) fine.unknown; different = no_repeat (pins_said (name ∷ words)) twice.1 } in
     let statement : Statement = record { keyword = Key; words = name ∷ words } in
     let keys = keys_push config.workers config.factor config.keys context.script.kinds (key_said statement) (kind_in statement) valid.keys (leb-false _ _ fine.limit) pins (is_spelling 32 name (not-false _ fine.named)) (name_new (keys_of context) name twice.0) in
-    behind_workers context Key (name ∷ words) valid follows.0 (valid.workers follows.0) valid.round keys (sessions_none _ _ _ _ _ _ _ _ _ (leb-true _ _ follows.1) valid.sessions)
+    after_workers context Key (name ∷ words) valid follows.0 (valid.workers follows.0) valid.round keys (sessions_none _ _ _ _ _ _ _ _ _ (leb-true _ _ follows.1) valid.sessions)
 
 -- a session
 step_session : (context : Context) (words : List (List ℕ)) → IsValidContext context → IsFaultless context Session words → IsValidContext (next_context context Session words)
 step_session context [] valid fine = absurd (false≢true fine.has)
 step_session context (name ∷ words) valid fine =
     let statement : Statement = record { keyword = Session; words = name ∷ words } in
-    behind_workers context Session (name ∷ words) valid fine.follows (valid.workers fine.follows) valid.round valid.keys
+    after_workers context Session (name ∷ words) valid fine.follows (valid.workers fine.follows) valid.round valid.keys
     (sessions_push _ _ _ _ _ context.script.sessions (new_session statement) valid.sessions fine.transaction refl (leb-false _ _ fine.limit) (is_spelling 32 name (not-false _ fine.named)) fine.twice)
 
 -- the end
 step_end : (context : Context) (words : List (List ℕ)) → IsValidContext context → IsFaultless context End words → IsValidContext (next_context context End words)
-step_end context words valid fine = behind_workers context End words valid fine.follows (valid.workers fine.follows) valid.round valid.keys valid.sessions
+step_end context words valid fine = after_workers context End words valid fine.follows (valid.workers fine.follows) valid.round valid.keys valid.sessions
 
 -- a command
 command_follows : (context : Context) → (context.has_workers && (true && nat_lt 0 (length context.script.sessions))) ≡ true → (context.has_workers ≡ true) × (0 < length context.script.sessions)
@@ -191,10 +191,10 @@ command_follows context follows =
     (has.0, ltb-true _ _ has.1)
 
 -- a line that a session takes
-takes_line : (context : Context) (behind : Bool) (line : Line) → IsValidContext context → 0 < length context.script.sessions → nat_le 4096 (commands_of context) ≡ false
-    → Stands (length context.script.config.keys) context.script.kinds (length context.named) (placed context.script.config) (level_of context) line → Leads context.begun (line ∷ []) behind
-    → AreSessions (length context.script.config.keys) context.script.kinds (length context.named) (placed context.script.config) behind (with_line line context.script.sessions)
-takes_line context behind line valid some room stands leads = sessions_line _ _ _ _ context.begun behind context.script.sessions line valid.sessions some (leb-false _ _ room) stands leads
+takes_line : (context : Context) (after : Bool) (line : Line) → IsValidContext context → 0 < length context.script.sessions → nat_le 4096 (commands_of context) ≡ false
+    → Stands (length context.script.config.keys) context.script.kinds (length context.named) (placed context.script.config) (level_of context) line → Leads context.begun (line ∷ []) after
+    → AreSessions (length context.script.config.keys) context.script.kinds (length context.named) (placed context.script.config) after (with_line line context.script.sessions)
+takes_line context after line valid some room stands leads = sessions_line _ _ _ _ context.begun after context.script.sessions line valid.sessions some (leb-false _ _ room) stands leads
 
 -- a name of a declared key has the number of a key
 key_within : (context : Context) (key : List ℕ) → is_declared context key ≡ true → IsOneOf (length context.script.config.keys) (number_in (keys_of context) key)
@@ -208,7 +208,7 @@ step_put context (key ∷ words) valid fine =
     let within = key_within context key (not-false _ fine.unknown) in
     let payload = payload_is (keys_of context) context.script.kinds key words (not-false _ fine.kind) in
     let kind = payload_kind (keys_of context) context.script.kinds key words (not-false _ fine.kind) in
-    behind_workers context Put (key ∷ words) valid follows.0 (valid.workers follows.0) valid.round valid.keys
+    after_workers context Put (key ∷ words) valid follows.0 (valid.workers follows.0) valid.round valid.keys
     (takes_line context context.begun (line_said (keys_of context) context.script.kinds context.named Put (key ∷ words)) valid follows.1 fine.limit (within, payload, kind) refl)
 
 -- a session that is not causal may name a replica
@@ -223,14 +223,14 @@ step_get context [] valid fine = absurd (false≢true fine.has)
 step_get context (key ∷ []) valid fine =
     let follows = command_follows context fine.follows in
     let within = key_within context key (not-false _ fine.unknown) in
-    behind_workers context Get (key ∷ []) valid follows.0 (valid.workers follows.0) valid.round valid.keys
+    after_workers context Get (key ∷ []) valid follows.0 (valid.workers follows.0) valid.round valid.keys
     (takes_line context context.begun (line_said (keys_of context) context.script.kinds context.named Get (key ∷ [])) valid follows.1 fine.limit (within, tt) refl)
 step_get context (key ∷ worker ∷ words) valid fine =
     let follows = command_follows context fine.follows in
     let known = and_parts (is_declared context key) _ (not-false _ fine.unknown) in
     let within = key_within context key known.0 in
     let replica = replica_contained (keys_of context) key (placed context.script.config) (number_of worker) known.1 in
-    behind_workers context Get (key ∷ worker ∷ words) valid follows.0 (valid.workers follows.0) valid.round valid.keys
+    after_workers context Get (key ∷ worker ∷ words) valid follows.0 (valid.workers follows.0) valid.round valid.keys
     (takes_line context context.begun (line_said (keys_of context) context.script.kinds context.named Get (key ∷ worker ∷ words)) valid follows.1 fine.limit (within, may_name (level_of context) _ (number_of worker) fine.suited replica) refl)
 
 -- a level that passes the test of causal ones
@@ -247,7 +247,7 @@ step_await context (key ∷ session ∷ []) valid fine = absurd (false≢true fi
 step_await context (key ∷ session ∷ count ∷ words) valid fine =
     let follows = command_follows context fine.follows in
     let known = and_parts (is_declared context key) _ (not-false _ fine.unknown) in
-    behind_workers context Await (key ∷ session ∷ count ∷ words) valid follows.0 (valid.workers follows.0) valid.round valid.keys
+    after_workers context Await (key ∷ session ∷ count ∷ words) valid follows.0 (valid.workers follows.0) valid.round valid.keys
     (takes_line context context.begun (line_said (keys_of context) context.script.kinds context.named Await (key ∷ session ∷ count ∷ words)) valid follows.1 fine.limit (key_within context key known.0, session_within context.named session known.1, causal_is (level_of context) fine.suited) refl)
 
 -- a level that passes the test of committed ones
@@ -261,7 +261,7 @@ step_begin : (context : Context) (words : List (List ℕ)) → IsValidContext co
 step_begin context words valid fine =
     let follows = command_follows context fine.follows in
     let held = or_parts (not (is_committed (level_of context))) _ fine.transaction in
-    behind_workers context Begin words valid follows.0 (valid.workers follows.0) valid.round valid.keys
+    after_workers context Begin words valid follows.0 (valid.workers follows.0) valid.round valid.keys
     (takes_line context true lines.Begin valid follows.1 fine.limit (committed_is (level_of context) held.0) (held.1, refl))
 
 -- the commit of a transaction
@@ -269,7 +269,7 @@ step_commit : (context : Context) (words : List (List ℕ)) → IsValidContext c
 step_commit context words valid fine =
     let follows = command_follows context fine.follows in
     let held = or_parts (not (is_committed (level_of context))) _ fine.transaction in
-    behind_workers context Commit words valid follows.0 (valid.workers follows.0) valid.round valid.keys
+    after_workers context Commit words valid follows.0 (valid.workers follows.0) valid.round valid.keys
     (takes_line context false lines.Commit valid follows.1 fine.limit (committed_is (level_of context) held.0) (not-false _ held.1, refl))
 
 -- the abort of a transaction
@@ -277,7 +277,7 @@ step_abort : (context : Context) (words : List (List ℕ)) → IsValidContext co
 step_abort context words valid fine =
     let follows = command_follows context fine.follows in
     let held = or_parts (not (is_committed (level_of context))) _ fine.transaction in
-    behind_workers context Abort words valid follows.0 (valid.workers follows.0) valid.round valid.keys
+    after_workers context Abort words valid follows.0 (valid.workers follows.0) valid.round valid.keys
     (takes_line context false lines.Abort valid follows.1 fine.limit (committed_is (level_of context) held.0) (not-false _ held.1, refl))
 
 -- a line without faults, by its first word

@@ -11,7 +11,7 @@ use Rattle.placement.specs.Config.{placed}
 use Rattle.placement.specs.ConfigLaws.{is_placement}
 use Rattle.placement.specs.Name.{IsName}
 use Rattle.placement.specs.declared.config.KeyPlace.{KeyPlace}
-use Rattle.script_reader.proofs.BehindLaws.{holds_behind}
+use Rattle.script_reader.proofs.FrontLaws.{holds_after}
 use Rattle.script_reader.specs.Faults.{Setting, Context, context_of, code_of}
 use Rattle.script_reader.specs.Grammar.{IsScript, IsScriptOf, setting_of}
 use Rattle.script_reader.specs.Keywords.{is_end, is_session}
@@ -40,15 +40,15 @@ record IsFront (ended : Bool) (context : Context) : Type 0 where
   closed : ended ≡ true → IsClosed context
 
 -- an end that is not at fault leaves the context closed
-closed_behind : (context : Context) (keyword : Keyword) (words : List (List ℕ)) → IsValidContext context → code_of context keyword words ≡ None → is_end keyword ≡ true → IsClosed (next_context context keyword words)
-closed_behind context End words valid none is = ended context words valid none
-closed_behind context keyword words valid none is = absurd (false≢true is)
+closed_after : (context : Context) (keyword : Keyword) (words : List (List ℕ)) → IsValidContext context → code_of context keyword words ≡ None → is_end keyword ≡ true → IsClosed (next_context context keyword words)
+closed_after context End words valid none is = ended context words valid none
+closed_after context keyword words valid none is = absurd (false≢true is)
 
 -- each line that is not at fault leaves it so
 front_step : (context : Context) (keyword : Keyword) (words : List (List ℕ)) → IsFront false context → code_of context keyword words ≡ None → IsFront (is_end keyword) (next_context context keyword words)
 front_step context keyword words front none = record {
   valid = step context keyword words front.valid none;
-  closed = closed_behind context keyword words front.valid none;
+  closed = closed_after context keyword words front.valid none;
 }
 
 -- a name adds one at most
@@ -151,7 +151,7 @@ valid_closed context valid closed named =
 -- The script that the lines of a text say is valid.
 of_lines : (setting : Setting) (lines : List (List ℕ)) (script : Script) → setting.named ≡ named_in (before_first is_end_line (statements_of lines)) → IsScriptOf setting lines script → IsValidScript script (placed script.config)
 of_lines setting lines script named is =
-    let front = holds_behind IsFront front_step setting lines (record { valid = start setting; closed = λ any. absurd (false≢true any) }) is.in_order in
+    let front = holds_after IsFront front_step setting lines (record { valid = start setting; closed = λ any. absurd (false≢true any) }) is.in_order in
     let context = context_of setting (statements_of lines) in
     let enough = named_are _ _ setting.named (statements_of lines) in
     let room : length context.named ≤ length context.script.sessions = subst (λ names. length names ≤ length context.script.sessions) (sym named) enough in

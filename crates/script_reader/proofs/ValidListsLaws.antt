@@ -22,13 +22,13 @@ use Rattle.composed_value.specs.declared.kind.Kind.{Kind}
 use Rattle.composed_value.specs.declared.kind.Kind.TheVariants as kinds
 use Rattle.composed_value.specs.declared.payload.Payload.{Payload}
 use Rattle.composed_value.specs.declared.payload.Payload.TheVariants as payloads
-use Rattle.placement.specs.Config.{AreDifferent, IsWorker}
+use Rattle.placement.specs.Config.{AreDifferent, IsOneOf}
 use Rattle.placement.specs.Name.{IsName}
 use Rattle.script_reader.specs.Faults.{has_repeat, is_within}
 use Rattle.script_reader.specs.Said.{place_of, number_in, session_number, payload_for}
 use Rattle.script_reader.proofs.ValidContext.{AreApart}
 use Rattle.script_reader.specs.Words.{is_spelled, is_value_word, is_numeral, number_said, word_said, payload_said}
-use Rattle.session_known.specs.Script.{IsOneOf, kind_at}
+use Rattle.session_known.specs.Script.{kind_at}
 use Rattle.placement.specs.Asked.{replicas_of}
 
 -- a number within bounds is one of them
@@ -38,7 +38,7 @@ within_is least greatest n is =
     (leb-true least n both.0, leb-true n greatest both.1)
 
 -- each of the numbers is a worker, where none is out of the bounds
-pub are_workers : (workers : ℕ) (pins : List ℕ) → list_any (λ pin. not (is_within 1 workers pin)) pins ≡ false → All (IsWorker workers) pins
+pub are_workers : (workers : ℕ) (pins : List ℕ) → list_any (λ pin. not (is_within 1 workers pin)) pins ≡ false → All (IsOneOf workers) pins
 are_workers workers pins none =
     let each = none_passes (λ pin. not (is_within 1 workers pin)) pins none in
     λ k d lt. within_is 1 workers (slice_index_or pins k d) (not-false _ (each k d lt))

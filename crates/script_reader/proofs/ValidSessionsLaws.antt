@@ -49,14 +49,14 @@ line_stands May line (plan ∷ other ∷ plans) may all =
     All-cons (λ plan. All (May plan.level) plan.lines) plan (with_line line (other ∷ plans)) (All-head (λ plan. All (May plan.level) plan.lines) plan (other ∷ plans) all) rest
 
 -- lines lead on with one more
-leads_push : (begun middle behind : Bool) (lines : List Line) (line : Line) → Leads begun lines middle → Leads middle (line ∷ []) behind → Leads begun (lines ++ line ∷ []) behind
-leads_push begun middle behind [] line first next = subst (λ b. Leads b (line ∷ []) behind) (sym first) next
-leads_push begun middle behind (Put key payload ∷ lines) line first next = leads_push begun middle behind lines line first next
-leads_push begun middle behind (Get key worker ∷ lines) line first next = leads_push begun middle behind lines line first next
-leads_push begun middle behind (Await key session count ∷ lines) line first next = leads_push begun middle behind lines line first next
-leads_push begun middle behind (Begin ∷ lines) line first next = (first.0, leads_push true middle behind lines line first.1 next)
-leads_push begun middle behind (Commit ∷ lines) line first next = (first.0, leads_push false middle behind lines line first.1 next)
-leads_push begun middle behind (Abort ∷ lines) line first next = (first.0, leads_push false middle behind lines line first.1 next)
+leads_push : (begun middle after : Bool) (lines : List Line) (line : Line) → Leads begun lines middle → Leads middle (line ∷ []) after → Leads begun (lines ++ line ∷ []) after
+leads_push begun middle after [] line first next = subst (λ b. Leads b (line ∷ []) after) (sym first) next
+leads_push begun middle after (Put key payload ∷ lines) line first next = leads_push begun middle after lines line first next
+leads_push begun middle after (Get key worker ∷ lines) line first next = leads_push begun middle after lines line first next
+leads_push begun middle after (Await key session count ∷ lines) line first next = leads_push begun middle after lines line first next
+leads_push begun middle after (Begin ∷ lines) line first next = (first.0, leads_push true middle after lines line first.1 next)
+leads_push begun middle after (Commit ∷ lines) line first next = (first.0, leads_push false middle after lines line first.1 next)
+leads_push begun middle after (Abort ∷ lines) line first next = (first.0, leads_push false middle after lines line first.1 next)
 
 -- a session that has ended its transactions stands before others
 led_cons : (plan : SessionPlan) (plans : List SessionPlan) (begun : Bool) → 0 < length plans → Leads false plan.lines false → AreLed plans begun → AreLed (plan ∷ plans) begun
@@ -64,12 +64,12 @@ led_cons plan [] begun some leads led = absurd (omega arith)
 led_cons plan (other ∷ plans) begun some leads led = (leads, led)
 
 -- sessions lead on with one more line in the last
-led_line : (line : Line) (plans : List SessionPlan) (begun behind : Bool) → 0 < length plans → AreLed plans begun → Leads begun (line ∷ []) behind → AreLed (with_line line plans) behind
-led_line line [] begun behind some led next = absurd (omega arith)
-led_line line (plan ∷ []) begun behind some led next = leads_push false begun behind plan.lines line led next
-led_line line (plan ∷ other ∷ plans) begun behind some led next =
+led_line : (line : Line) (plans : List SessionPlan) (begun after : Bool) → 0 < length plans → AreLed plans begun → Leads begun (line ∷ []) after → AreLed (with_line line plans) after
+led_line line [] begun after some led next = absurd (omega arith)
+led_line line (plan ∷ []) begun after some led next = leads_push false begun after plan.lines line led next
+led_line line (plan ∷ other ∷ plans) begun after some led next =
     let length_is = line_length line (other ∷ plans) in
-    led_cons plan (with_line line (other ∷ plans)) behind (omega arith) led.0 (led_line line (other ∷ plans) begun behind (omega arith) led.1 next)
+    led_cons plan (with_line line (other ∷ plans)) after (omega arith) led.0 (led_line line (other ∷ plans) begun after (omega arith) led.1 next)
 
 -- sessions that have ended their transactions stand before one that has no line
 led_session : (plan : SessionPlan) (plans : List SessionPlan) → plan.lines ≡ [] → AreLed plans false → AreLed (plans ++ plan ∷ []) false
@@ -78,15 +78,15 @@ led_session plan (first ∷ []) none led = (led, subst (λ lines. Leads false li
 led_session plan (first ∷ other ∷ plans) none led = (led.0, led_session plan (other ∷ plans) none led.1)
 
 -- sessions that take a line
-pub sessions_line : (keys : ℕ) (of_keys : List Kind) (named : ℕ) (table : List (List ℕ)) (begun behind : Bool) (plans : List SessionPlan) (line : Line)
-    → AreSessions keys of_keys named table begun plans → 0 < length plans → sum_by (λ plan. length plan.lines) plans < 4096 → Stands keys of_keys named table (last_level plans) line → Leads begun (line ∷ []) behind
-    → AreSessions keys of_keys named table behind (with_line line plans)
-sessions_line keys of_keys named table begun behind plans line are some room stands leads = record {
+pub sessions_line : (keys : ℕ) (of_keys : List Kind) (named : ℕ) (table : List (List ℕ)) (begun after : Bool) (plans : List SessionPlan) (line : Line)
+    → AreSessions keys of_keys named table begun plans → 0 < length plans → sum_by (λ plan. length plan.lines) plans < 4096 → Stands keys of_keys named table (last_level plans) line → Leads begun (line ∷ []) after
+    → AreSessions keys of_keys named table after (with_line line plans)
+sessions_line keys of_keys named table begun after plans line are some room stands leads = record {
   names = subst AreApart (sym (line_names line plans)) are.names;
   few = let length_is = line_length line plans in let few = are.few in omega arith;
   few_lines = let count = line_count line plans in omega arith;
   stand = line_stands (Stands keys of_keys named table) line plans stands are.stand;
-  led = led_line line plans begun behind some are.led leads;
+  led = led_line line plans begun after some are.led leads;
 }
 
 -- sessions that have ended their transactions, and take a session that has no line

@@ -262,5 +262,5 @@ code_said context ended line (Some statement) =
     (if not (list_all is_text_byte line) then Some codes_of.Byte else code_of context statement.keyword statement.words)
 
 -- The code of a line at fault after these lines.
-abbrev pub code_behind : Setting → List (List ℕ) → List ℕ → Option Code
-code_behind setting before line = code_said (context_of setting (statements_of before)) (has_end before) line (statement_of line)
+abbrev pub code_after : Setting → List (List ℕ) → List ℕ → Option Code
+code_after setting before line = code_said (context_of setting (statements_of before)) (has_end before) line (statement_of line)

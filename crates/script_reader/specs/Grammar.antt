@@ -4,7 +4,7 @@ use Rattle.std.specs.List.{before_first}
 use Rattle.session_known.specs.declared.script.Level.TheVariants.{Eventual}
 use Rattle.session_known.specs.declared.script.Script.{Script}
 use Rattle.script_reader.specs.Codes.{number_of_code}
-use Rattle.script_reader.specs.Faults.{Setting, code_behind}
+use Rattle.script_reader.specs.Faults.{Setting, code_after}
 use Rattle.script_reader.specs.Lines.{script_lines, statements_of, is_end_line, has_end}
 use Rattle.script_reader.specs.Said.{named_in, script_said}
 use Rattle.script_reader.specs.declared.built.Built.{Built}
@@ -23,7 +23,7 @@ setting_of built lines = record { built = built; named = named_in (before_first 
 
 -- no line is at fault after those before it
 abbrev pub AreInOrder : Setting → List (List ℕ) → Type 0
-AreInOrder setting lines = (before after : List (List ℕ)) (line : List ℕ) → lines ≡ before ++ line ∷ after → code_behind setting before line ≡ None
+AreInOrder setting lines = (before after : List (List ℕ)) (line : List ℕ) → lines ≡ before ++ line ∷ after → code_after setting before line ≡ None
 
 -- The lines are a script: none is at fault, and there is an end.
 pub record IsScriptOf (setting : Setting) (lines : List (List ℕ)) (script : Script) : Type 0 where
@@ -39,7 +39,7 @@ pub record IsFirstFault (setting : Setting) (lines : List (List ℕ)) (at code :
   pub place : lines ≡ before ++ line ∷ after
   pub in_order : AreInOrder setting before
   pub why : Code
-  pub fault : code_behind setting before line ≡ Some why
+  pub fault : code_after setting before line ≡ Some why
   pub counted : at ≡ length before + 1
   pub code_is : code ≡ number_of_code why
 

@@ -5,7 +5,7 @@ use Rattle.script_reader.specs.Faults.{Setting, code_said}
 use Rattle.script_reader.specs.Grammar.{IsFirstFault, IsEndMissing}
 use Rattle.script_reader.specs.Keywords.{is_end, is_session}
 use Rattle.script_reader.specs.Lines.{Statement, word}
-use Rattle.script_reader.specs.Reader.{seen, IsKept}
+use Rattle.script_reader.specs.Reader.{so_far, IsKept}
 use Rattle.script_reader.specs.Said.{with_name}
 use Rattle.script_reader.specs.Steps.{next_context}
 use Rattle.script_reader.specs.declared.fault.ScriptFault.{ScriptFault}
@@ -18,7 +18,7 @@ use Rattle.script_reader.specs.declared.reader.Reader.{Reader}
 abbrev pub HasReadLine : Reader → Reader → Bool → Bool → List ℕ → Option Statement → Type 0
 HasReadLine old new ended now line None = (new ≡ old) × (now ≡ ended)
 HasReadLine old new ended now line (Some statement) =
-    (code_said (seen old) ended line (Some statement) ≡ None) × IsKept new × (seen new ≡ next_context (seen old) statement.keyword statement.words) × (now ≡ is_end statement.keyword)
+    (code_said (so_far old) ended line (Some statement) ≡ None) × IsKept new × (so_far new ≡ next_context (so_far old) statement.keyword statement.words) × (now ≡ is_end statement.keyword)
 
 -- The names with that of a session line, where it is one.
 abbrev pub named_after : List (List ℕ) → Option Statement → List (List ℕ)
@@ -31,9 +31,9 @@ says_end None = false
 says_end (Some statement) = is_end statement.keyword
 
 -- the refusal of a line, counted from 1
-abbrev pub told : ℕ → LineFault → ScriptFault
-told line (line_faults.Code code) = Refused line (number_of_code code)
-told line line_faults.NoMemory = NoMemory
+abbrev pub fault_at : ℕ → LineFault → ScriptFault
+fault_at line (line_faults.Code code) = Refused line (number_of_code code)
+fault_at line line_faults.NoMemory = NoMemory
 
 -- The fault says why the lines are no script; of want of memory nothing is said.
 abbrev pub IsWhyNoLines : Setting → List (List ℕ) → ScriptFault → Type 0

@@ -29,8 +29,8 @@ begun_of None = false
 begun_of (Some sessions) = sessions.begun
 
 -- what the reader holds, as what the lines before say
-abbrev pub seen : Reader → Context
-seen reader = record {
+abbrev pub so_far : Reader → Context
+so_far reader = record {
   built = reader.built;
   named = reader.named;
   has_header = reader.has_header;
@@ -69,12 +69,12 @@ IsFaultOf code faults.NoMemory = ⊤
 -- A line was read: it is not at fault, and what it says was added.
 pub record HasRead (old new : Reader) (keyword : Keyword) (words : List (List ℕ)) : Type 0 where
   pub kept : IsKept new
-  pub faultless : code_of (seen old) keyword words ≡ None
-  pub added : seen new ≡ next_context (seen old) keyword words
+  pub faultless : code_of (so_far old) keyword words ≡ None
+  pub added : so_far new ≡ next_context (so_far old) keyword words
 
 -- A line was read, or its fault told.
 abbrev pub Reads : Reader → Result (Unit {0}) LineFault → Reader → Keyword → List (List ℕ) → Type 0
-Reads old result new keyword words = MatchResult result (λ _. HasRead old new keyword words) (IsFaultOf (code_of (seen old) keyword words))
+Reads old result new keyword words = MatchResult result (λ _. HasRead old new keyword words) (IsFaultOf (code_of (so_far old) keyword words))
 
 -- the fault is one of a name
 abbrev pub IsNameFault : List ℕ → LineFault → Type 0
@@ -89,11 +89,11 @@ pub record IsKeyAt (context : Context) (key : List ℕ) (place : ℕ) (kind : Ki
   pub few : length context.script.config.keys ≤ 128
 
 -- whether a transaction is begun after a command
-abbrev pub begun_behind : Bool → Line → Bool
-begun_behind begun lines.Begin = true
-begun_behind begun lines.Commit = false
-begun_behind begun lines.Abort = false
-begun_behind begun line = begun
+abbrev pub begun_after_line : Bool → Line → Bool
+begun_after_line begun lines.Begin = true
+begun_after_line begun lines.Commit = false
+begun_after_line begun lines.Abort = false
+begun_after_line begun line = begun
 
 -- the sessions with one more command in the last
 abbrev pub with_added : Sessions → Line → Sessions
@@ -102,35 +102,35 @@ with_added sessions line = record {
   done = sessions.done;
   last = record { name = sessions.last.name; level = sessions.last.level; lines = sessions.last.lines ++ line ∷ [] };
   commands = sessions.commands + 1;
-  begun = begun_behind sessions.begun line;
+  begun = begun_after_line sessions.begun line;
 }
 
 -- A command was added to the last session.
 pub record HasAdded (old new : Reader) (line : Line) : Type 0 where
   pub kept : IsKept new
-  pub added : seen new ≡ record {
-    built = (seen old).built;
-    named = (seen old).named;
-    has_header = (seen old).has_header;
-    has_workers = (seen old).has_workers;
-    has_factor = (seen old).has_factor;
-    has_round = (seen old).has_round;
-    script = with_sessions (with_line line (seen old).script.sessions) (seen old).script;
-    begun = begun_behind (seen old).begun line;
+  pub added : so_far new ≡ record {
+    built = (so_far old).built;
+    named = (so_far old).named;
+    has_header = (so_far old).has_header;
+    has_workers = (so_far old).has_workers;
+    has_factor = (so_far old).has_factor;
+    has_round = (so_far old).has_round;
+    script = with_sessions (with_line line (so_far old).script.sessions) (so_far old).script;
+    begun = begun_after_line (so_far old).begun line;
   }
 
 -- A session was begun.
 pub record HasOpened (old new : Reader) (plan : SessionPlan) : Type 0 where
   pub kept : IsKept new
-  pub added : seen new ≡ record {
-    built = (seen old).built;
-    named = (seen old).named;
-    has_header = (seen old).has_header;
-    has_workers = (seen old).has_workers;
-    has_factor = (seen old).has_factor;
-    has_round = (seen old).has_round;
-    script = with_sessions ((seen old).script.sessions ++ plan ∷ []) (seen old).script;
-    begun = (seen old).begun;
+  pub added : so_far new ≡ record {
+    built = (so_far old).built;
+    named = (so_far old).named;
+    has_header = (so_far old).has_header;
+    has_workers = (so_far old).has_workers;
+    has_factor = (so_far old).has_factor;
+    has_round = (so_far old).has_round;
+    script = with_sessions ((so_far old).script.sessions ++ plan ∷ []) (so_far old).script;
+    begun = (so_far old).begun;
   }
 
 -- a session stands before, and fewer commands than there may be

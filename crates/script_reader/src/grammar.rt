@@ -7,9 +7,9 @@ ghost use Rattle.session_known.specs.declared.script.Script.{Script};
 ghost use Rattle.script_reader.specs.Codes.{number_of_code};
 ghost use Rattle.script_reader.specs.Faults.{code_said, is_text_byte as text_byte};
 ghost use Rattle.script_reader.specs.Grammar.{IsScript, IsScriptOf, IsRefused, IsWhyNoScript, IsReadAs, IsRefusedAs, HasForms, setting_of, all_built};
-ghost use Rattle.script_reader.specs.LineReads.{HasReadLine, IsWhyNoLines, named_after, says_end, told as fault_told};
+ghost use Rattle.script_reader.specs.LineReads.{HasReadLine, IsWhyNoLines, named_after, says_end, fault_at as fault_there};
 ghost use Rattle.script_reader.specs.Lines.{statement_in, statement_of, statements_of, is_end_line};
-ghost use Rattle.script_reader.specs.Reader.{seen, IsKept, IsFaultOf};
+ghost use Rattle.script_reader.specs.Reader.{so_far, IsKept, IsFaultOf};
 ghost use Rattle.script_reader.specs.Said.{named_in};
 ghost use Rattle.script_reader.specs.Words.{texts};
 
@@ -95,7 +95,7 @@ fn read_line<'a>(
     requires kept { IsKept reader.old }
     ensures { MatchResult result
         (λ now. HasReadLine reader.old reader.new ended now line.now (statement_of line.now))
-        (IsFaultOf (code_said (seen reader.old) ended line.now (statement_of line.now))) }
+        (IsFaultOf (code_said (so_far reader.old) ended line.now (statement_of line.now))) }
 {
     let words = words_of(alloc, line)?;
     let Some((keyword, rest)) = statement(&words) else {
@@ -127,7 +127,7 @@ fn read_lines(alloc: Global, lines: &[&[u8]], built: Built) -> Result<Script, Sc
     for (i, line) in lines.iter().enumerate() {
         match read_line(alloc, &mut reader, ended, line) {
             Ok(now) => ended = now,
-            Err(fault) => return Err(told(i + 1, fault)),
+            Err(fault) => return Err(fault_at(i + 1, fault)),
         }
     }
     if !ended {
@@ -137,9 +137,9 @@ fn read_lines(alloc: Global, lines: &[&[u8]], built: Built) -> Result<Script, Sc
 }
 
 /// A fault at a line, counted from 1.
-fn told(line: usize, fault: LineFault) -> ScriptFault
+fn fault_at(line: usize, fault: LineFault) -> ScriptFault
     requires { line ≤ 2 ^ 20 + 2 }
-    ensures { result ≡ fault_told line fault }
+    ensures { result ≡ fault_there line fault }
 {
     match fault {
         LineFault::Code(code) => refused(line, code),

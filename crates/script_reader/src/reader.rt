@@ -6,7 +6,7 @@ mod declared;
 ghost use Rattle.std.specs.Prelude.{◌≡◌, [], IfOk, MatchResult};
 ghost use Rattle.script_reader.specs.Entries.{Shows};
 ghost use Rattle.script_reader.specs.Faults.{code_of, context_of, may_follow, level_of, is_header as header_is, suits as level_suits, is_served as served};
-ghost use Rattle.script_reader.specs.Reader.{seen, plans_of, IsKept, IsFaultOf, SuitsPlace, Reads};
+ghost use Rattle.script_reader.specs.Reader.{so_far, plans_of, IsKept, IsFaultOf, SuitsPlace, Reads};
 ghost use Rattle.script_reader.specs.Words.{texts};
 
 use crate::built::Built;
@@ -102,7 +102,7 @@ pub(crate) struct Reader<'a> {
 impl<'a> Reader<'a> {
     /// Whether a line that begins with the keyword may stand next.
     fn may_follow(&self, keyword: Keyword) -> bool
-        ensures { result ≡ may_follow (seen self.now) keyword }
+        ensures { result ≡ may_follow (so_far self.now) keyword }
     {
         let has_keys = !self.config.keys.as_slice().is_empty();
         let has_sessions = self.sessions.is_some();
@@ -119,7 +119,7 @@ impl<'a> Reader<'a> {
 
     /// The level of the last session, or eventual where there is none.
     pub(crate) fn level(&self) -> Level
-        ensures { result ≡ level_of (seen self.now) }
+        ensures { result ≡ level_of (so_far self.now) }
     {
         match &self.sessions {
             Some(sessions) => sessions.last.level,
@@ -130,8 +130,8 @@ impl<'a> Reader<'a> {
     /// Tells a line apart, where it may stand here with its words.
     fn check<'w>(&self, keyword: Keyword, words: &'w [&'a [u8]]) -> Result<Entry<'w, 'a>, LineFault>
         ensures { MatchResult result
-            (λ entry. Shows entry keyword (texts words.now) × SuitsPlace (seen self.now) keyword (texts words.now))
-            (IsFaultOf (code_of (seen self.now) keyword (texts words.now))) }
+            (λ entry. Shows entry keyword (texts words.now) × SuitsPlace (so_far self.now) keyword (texts words.now))
+            (IsFaultOf (code_of (so_far self.now) keyword (texts words.now))) }
     {
         if !self.has_header && !is_header(keyword, words) {
             return Err(LineFault::Code(Code::Header));
@@ -187,7 +187,7 @@ impl<'a> Reader<'a> {
     /// A reader that has read no line. Takes no memory.
     pub(crate) fn new(alloc: Global, built: Built, named: Names<'a>) -> Reader<'a>
         ensures kept { IsKept result }
-        ensures nothing { seen result ≡ context_of
+        ensures nothing { so_far result ≡ context_of
             (record { built = built; named = named.entry }) [] }
     {
         Reader {
@@ -211,7 +211,7 @@ impl<'a> Reader<'a> {
 
     /// The script that was read.
     pub(crate) fn into_script(self, alloc: Global) -> Result<Script, NoMemory>
-        ensures { IfOk result (λ script. script ≡ (seen self.entry).script) }
+        ensures { IfOk result (λ script. script ≡ (so_far self.entry).script) }
     {
         let Reader {
             built: _,

@@ -41,8 +41,8 @@ pub fn split_input(bytes: &[u8]) -> usize
     ensures within { result ≤ length bytes.now }
 {
     let mut rest = bytes;
-    while let Some((line, behind)) = first_line(rest) {
-        rest = behind;
+    while let Some((line, after)) = first_line(rest) {
+        rest = after;
         if is_end_alone(line) {
             return bytes.len() - rest.len();
         }
@@ -76,7 +76,7 @@ mod tests {
     use super::*;
 
     #[test]
-    fn splits_behind_the_first_end(rt: HostRuntime) {
+    fn splits_after_the_first_end(rt: HostRuntime) {
         // An input and its place.
         let cases = [
             (b"".as_slice(), 0),

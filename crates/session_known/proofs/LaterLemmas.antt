@@ -18,8 +18,7 @@ use Rattle.clock_lattice.specs.SparseLaws.{first_value}
 use Rattle.composed_value.specs.declared.payload.Payload.{Payload}
 use Rattle.composed_value.specs.declared.put.Put as puts
 use Rattle.session_known.specs.Form.{Fits, NeedsFit}
-use Rattle.session_known.specs.Later.{AnsweredSession, IsAnsweredAt, ShowsNeeds, by_get, by_await, state_before, ShownNeedsAreCoveredLater, PutsOvertakeShownClocks, PutsOvertakeCoveredVersions}
-use Rattle.session_known.specs.Laws.{LaterRepliesCover}
+use Rattle.session_known.specs.Later.{AnsweredSession, IsAnsweredAt, ShowsNeeds, by_get, by_await, state_before, LaterRepliesCover, ShownNeedsAreCoveredLater, PutsOvertakeShownClocks, PutsOvertakeCoveredVersions}
 use Rattle.session_known.specs.Lawful as replies
 use Rattle.session_known.specs.Lawful.{ShowsAt, IsLawful, AreLawful}
 use Rattle.session_known.specs.Session.{Client, Knowledge, State, start, own_count, known_raised, put_made, knows_put, puts_committed, knows_committed, needs_learned, held_puts, after, puts_by}
@@ -65,22 +64,22 @@ module _ (client : Client) (P : State → Type 0) (stays : (state : State) (line
   stays_on state (line ∷ lines) [] (suc place) holds = holds
   stays_on state (line ∷ lines) (answer ∷ answers) (suc place) holds = stays_on (after client state line answer) lines answers place (stays state line answer holds)
 
-  stays_behind : (state : State) (lines : List Line) (answers : List Answer) (i j : ℕ) (line : Line) (answer : Answer) → i < j → length answers ≡ length lines → IsAnsweredAt lines answers i line answer
+  stays_after : (state : State) (lines : List Line) (answers : List Answer) (i j : ℕ) (line : Line) (answer : Answer) → i < j → length answers ≡ length lines → IsAnsweredAt lines answers i line answer
       → P (after client (state_before client state lines answers i) line answer) → P (state_before client state lines answers j)
-  stays_behind state [] answers i j line answer earlier same at holds = absurd (omega (arith, at.within))
-  stays_behind state (first ∷ lines) [] i j line answer earlier same at holds = absurd (omega (arith, same))
-  stays_behind state (first ∷ lines) (its_answer ∷ answers) i zero line answer earlier same at holds = absurd (omega (arith, earlier))
-  stays_behind state (first ∷ lines) (its_answer ∷ answers) zero (suc j) line answer earlier same at holds =
+  stays_after state [] answers i j line answer earlier same at holds = absurd (omega (arith, at.within))
+  stays_after state (first ∷ lines) [] i j line answer earlier same at holds = absurd (omega (arith, same))
+  stays_after state (first ∷ lines) (its_answer ∷ answers) i zero line answer earlier same at holds = absurd (omega (arith, earlier))
+  stays_after state (first ∷ lines) (its_answer ∷ answers) zero (suc j) line answer earlier same at holds =
       stays_on (after client state first its_answer) lines answers j (subst₂ (λ l a. P (after client state l a)) at.line_is at.answer_is holds)
-  stays_behind state (first ∷ lines) (its_answer ∷ answers) (suc i) (suc j) line answer earlier same at holds =
-      stays_behind (after client state first its_answer) lines answers i j line answer (omega (arith, earlier)) (omega (arith, same))
+  stays_after state (first ∷ lines) (its_answer ∷ answers) (suc i) (suc j) line answer earlier same at holds =
+      stays_after (after client state first its_answer) lines answers i j line answer (omega (arith, earlier)) (omega (arith, same))
       (record { within = omega (arith, at.within); line_is = at.line_is; answer_is = at.answer_is }) holds
 
 -- what is known of a key stays known
 known_before : (client : Client) (state : State) (lines : List Line) (answers : List Answer) (i j : ℕ) (line : Line) (answer : Answer) (key : ℕ) (clock : List (ℕ × ℕ)) → i < j → length answers ≡ length lines → IsAnsweredAt lines answers i line answer
     → CountsAtMost clock (clock_at key (after client (state_before client state lines answers i) line answer).knows.clocks) → CountsAtMost clock (clock_at key (state_before client state lines answers j).knows.clocks)
 known_before client state lines answers i j line answer key clock =
-    stays_behind client (λ s. CountsAtMost clock (clock_at key s.knows.clocks)) (λ s l a known session. omega (arith, known session, known_at_line client s l a key session)) state lines answers i j line answer
+    stays_after client (λ s. CountsAtMost clock (clock_at key s.knows.clocks)) (λ s l a known session. omega (arith, known session, known_at_line client s l a key session)) state lines answers i j line answer
 
 -- lawful answers are as many as their lines
 as_many_answers : (table : List (List ℕ)) (client : Client) (state : State) (before : List (Line × Answer)) (lines : List Line) (answers : List Answer) → AreLawful table client state before lines answers → length answers ≡ length lines
@@ -90,17 +89,20 @@ as_many_answers table client state before (line ∷ lines) [] are = absurd are
 as_many_answers table client state before (line ∷ lines) (answer ∷ answers) are =
     let same = as_many_answers table client (after client state line answer) (before ++ (line, answer) ∷ []) lines answers are.1 in omega (arith, same)
 
--- In a causal session a later reply on a key covers the earlier ones.
-pub later_covers_earlier : LaterRepliesCover
-later_covers_earlier script table client lines answers causal lawful fits i j key earlier later before within reply_i reply_j =
-    let at_i : IsAnsweredAt lines answers i reply_i.line reply_i.answer = record { within = omega (arith, before, within); line_is = reply_i.line_is; answer_is = reply_i.answer_is } in
-    let at_j : IsAnsweredAt lines answers j reply_j.line reply_j.answer = record { within = within; line_is = reply_j.line_is; answer_is = reply_j.answer_is } in
-    let is : IsClock earlier = shown_is_clock script Causal reply_i.line reply_i.answer key earlier (fits_at script Causal lines answers i reply_i.line reply_i.answer fits at_i) reply_i.shows in
-    let known = known_before client start lines answers i j reply_i.line reply_i.answer key earlier before (as_many_answers table client start [] lines answers lawful) at_i
-    (known_once_shown client (state_before client start lines answers i) reply_i.line reply_i.answer key earlier is reply_i.shows) in
-    let lawful_j = lawful_at table client start [] lines answers j reply_j.line reply_j.answer lawful at_j in
-    let counts = counts_what_is_known table client (state_before client start lines answers j) lawful_j.earlier reply_j.line reply_j.answer key later causal lawful_j.lawful reply_j.shows in
-    covers_from_counts later earlier is (λ session. omega (arith, known session, counts session))
+-- In a causal session, later replies on a key cover the earlier ones.
+pub later_covers_earlier : (session : AnsweredSession) → LaterRepliesCover session
+later_covers_earlier session causal i j key earlier later before shown_i shown_j =
+    let client : Client = session.client in
+    let state_i : State = state_before client start session.lines session.answers i in
+    let state_j : State = state_before client start session.lines session.answers j in
+    let fits = fits_at session.script client.level session.lines session.answers i shown_i.line shown_i.answer session.form shown_i.at in
+    let is : IsClock earlier = shown_is_clock session.script client.level shown_i.line shown_i.answer key earlier fits shown_i.shows in
+    let same = as_many_answers session.table client start [] session.lines session.answers session.lawful in
+    let known = known_before client start session.lines session.answers i j shown_i.line shown_i.answer key earlier before same shown_i.at
+    (known_once_shown client state_i shown_i.line shown_i.answer key earlier is shown_i.shows) in
+    let lawful_j = lawful_at session.table client start [] session.lines session.answers j shown_j.line shown_j.answer session.lawful shown_j.at in
+    let counts = counts_what_is_known session.table client state_j lawful_j.earlier shown_j.line shown_j.answer key later causal lawful_j.lawful shown_j.shows in
+    covers_from_counts later earlier is (λ of_session. omega (arith, known of_session, counts of_session))
 
 -- needs that are joined are there too, at each key
 second_needs : (key : ℕ) (known needs : List (ℕ × List (ℕ × ℕ))) → IsNeeds needs → CountsAtMost (clock_at key needs) (clock_at key (joined_needs known needs))
@@ -206,14 +208,14 @@ committed_overtakes client key clock knows lamport place [] put is taken has_it 
 committed_overtakes client key clock knows lamport place (held ∷ others) put is taken has_it =
     let number : ℕ = own_count knows held.0 + 1 in
     let made : ℕ × puts.Put = (held.0, put_made client knows held.0 held.1 number lamport place) in
-    let behind : Knowledge = knows_put client knows held.0 number lamport in
-    elim (contains_cases made (key, put) (puts_committed client behind lamport (place + 1) others) has_it) [
+    let knows_then : Knowledge = knows_put client knows held.0 number lamport in
+    elim (contains_cases made (key, put) (puts_committed client knows_then lamport (place + 1) others) has_it) [
       | inl same ↦
           let its_key : held.0 ≡ key = ap (λ (entry : ℕ × puts.Put). entry.0) same in
           let its_number : number ≡ own_count knows key + 1 = ap (λ k. own_count knows k + 1) its_key in
           let seen : known_raised knows key client.session number ≡ put.seen = ap (λ k. known_raised knows k client.session number) (sym its_key) ∙ ap (λ (entry : ℕ × puts.Put). entry.1.seen) same in
           subst (λ s. IsTrue (is_below clock s)) seen (next_overtakes client key clock knows number is its_number taken)
-      | inr later ↦ committed_overtakes client key clock behind lamport (place + 1) others put is (taken_in_at_put client key clock knows held.0 number lamport taken) later
+      | inr later ↦ committed_overtakes client key clock knows_then lamport (place + 1) others put is (taken_in_at_put client key clock knows held.0 number lamport taken) later
     ]
 
 -- and each put that a lawful answer accepts
@@ -239,7 +241,7 @@ puts_overtake_clocks session i j key clock put earlier shown accepted =
     let same = as_many_answers session.table client start [] session.lines session.answers session.lawful in
     let lawful_i = lawful_at session.table client start [] session.lines session.answers i shown.line shown.answer session.lawful shown.at in
     let lawful_j = lawful_at session.table client start [] session.lines session.answers j accepted.line accepted.answer session.lawful accepted.at in
-    let taken = stays_behind client (λ s. HasTakenIn client key clock s.knows) (λ s l a. taken_in_at_line client key clock s l a) start session.lines session.answers i j shown.line shown.answer earlier same shown.at
+    let taken = stays_after client (λ s. HasTakenIn client key clock s.knows) (λ s l a. taken_in_at_line client key clock s l a) start session.lines session.answers i j shown.line shown.answer earlier same shown.at
     (taken_in_once_shown session.table client state_i lawful_i.earlier shown.line shown.answer key clock is lawful_i.lawful shown.shows) in
     accepted_overtakes session.table client (state_before client start session.lines session.answers j) lawful_j.earlier accepted.line accepted.answer key clock put is taken lawful_j.lawful accepted.accepts
 

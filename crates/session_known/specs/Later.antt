@@ -62,6 +62,13 @@ pub record AcceptsIn (session : AnsweredSession) (place key : ℕ) (put : puts.P
   pub at : IsAnsweredAt session.lines session.answers place line answer
   pub accepts : Contains (puts_by session.client (state_before session.client start session.lines session.answers place) line answer) (key, put)
 
+-- In a causal session, later replies on a key cover the earlier ones.
+abbrev pub LaterRepliesCover : AnsweredSession → Type 0
+LaterRepliesCover session =
+    session.client.level ≡ Causal
+    → (i j key : ℕ) (earlier later : List (ℕ × ℕ)) → i < j → ShowsClockIn session i key earlier → ShowsClockIn session j key later
+    → IsTrue (covers later earlier)
+
 -- In a causal session, later replies on a key cover what the needs that an earlier reply shows have of the key.
 abbrev pub ShownNeedsAreCoveredLater : AnsweredSession → Type 0
 ShownNeedsAreCoveredLater session =

@@ -1,20 +1,15 @@
 -- What holds of all legal reports, whoever wrote them.
-use Rattle.std.specs.Prelude.{◌≡◌, ℕ, ◌<◌, IsTrue, List, [], length, slice_index_or, Contains}
-use Rattle.std.specs.List.{AllZip}
-use Rattle.clock_lattice.specs.Clock.{covers}
+use Rattle.std.specs.Prelude.{◌≡◌, ℕ, List, Contains}
 use Rattle.composed_value.specs.PlainValue.{puts_of_session}
 use Rattle.composed_value.specs.Sound.{AreNumbered}
 use Rattle.composed_value.specs.declared.kind.Kind.{Kind}
 use Rattle.composed_value.specs.declared.put.Put as puts
 use Rattle.session_known.specs.Accepted.{puts_on, accepted_from}
-use Rattle.session_known.specs.Form.{Fits}
-use Rattle.session_known.specs.Lawful.{ShowsAt, AreLawful, IsTrueOf, CountsAccepted}
+use Rattle.session_known.specs.Lawful.{ShowsAt, IsTrueOf, CountsAccepted}
 use Rattle.session_known.specs.Legal.{AreLawfulFrom, IsLegalAt}
-use Rattle.session_known.specs.Session.{Client, start}
 use Rattle.session_known.specs.declared.report.Answer.{Answer}
 use Rattle.session_known.specs.declared.report.FinalCell.{FinalCell}
 use Rattle.session_known.specs.declared.report.Report.{Report}
-use Rattle.session_known.specs.declared.script.Level.TheVariants.{Causal}
 use Rattle.session_known.specs.declared.script.Line.{Line}
 use Rattle.session_known.specs.declared.script.Script.{Script}
 use Rattle.session_known.specs.declared.script.SessionPlan.{SessionPlan}
@@ -42,19 +37,3 @@ abbrev pub RepliesCountAccepted : Type 0
 RepliesCountAccepted =
     (kinds : List Kind) (accepted : List (ℕ × puts.Put)) (line : Line) (answer : Answer) (key : ℕ) (clock : List (ℕ × ℕ))
     → ShowsAt line answer key clock → IsTrueOf kinds accepted line answer → CountsAccepted accepted key clock
-
--- of a session's lines and answers the one at a place shows this clock of the key
-pub record IsReplyAt (lines : List Line) (answers : List Answer) (place key : ℕ) (clock : List (ℕ × ℕ)) : Type 0 where
-  pub line : Line
-  pub answer : Answer
-  pub line_is : line ≡ slice_index_or lines place line
-  pub answer_is : answer ≡ slice_index_or answers place answer
-  pub shows : ShowsAt line answer key clock
-
--- in a causal session a later reply on a key covers the earlier ones
-abbrev pub LaterRepliesCover : Type 0
-LaterRepliesCover =
-    (script : Script) (table : List (List ℕ)) (client : Client) (lines : List Line) (answers : List Answer)
-    → client.level ≡ Causal → AreLawful table client start [] lines answers → AllZip (Fits script Causal) lines answers
-    → (i j key : ℕ) (earlier later : List (ℕ × ℕ)) → i < j → j < length lines
-    → IsReplyAt lines answers i key earlier → IsReplyAt lines answers j key later → IsTrue (covers later earlier)

@@ -1,8 +1,8 @@
 -- Which scripts are valid, and what they say of keys and sessions.
-use Rattle.std.specs.Prelude.{◌≡◌, ◌≢◌, ℕ, ◌-◌, ◌≤◌, Bool, true, false, IsTrue, IsFalse, List, [], ◌∷◌, length, sum_by, slice_index_or, Option, Some, None, All, AllPairs, Contains, ⊤}
+use Rattle.std.specs.Prelude.{◌≡◌, ◌≢◌, ℕ, ◌-◌, ◌≤◌, Bool, true, false, IsTrue, IsFalse, List, [], ◌∷◌, length, map, sum_by, slice_index_or, Option, Some, None, All, AllPairs, Contains, ⊤}
 use Rattle.placement.specs.Name.{IsName}
 use Rattle.placement.specs.Asked.{replicas_of}
-use Rattle.placement.specs.Config.{IsValidConfig, IsPlacement}
+use Rattle.placement.specs.Config.{IsOneOf, IsValidConfig, IsPlacement}
 use Rattle.composed_value.specs.Kind.{kind_of}
 use Rattle.composed_value.specs.Put.{IsPayload}
 use Rattle.composed_value.specs.declared.kind.Kind.{Kind}
@@ -18,9 +18,13 @@ use Rattle.session_known.specs.declared.script.SessionPlan.{SessionPlan}
 abbrev pub kind_at : List Kind → ℕ → Kind
 kind_at of_keys key = slice_index_or of_keys (key - 1) kinds.Max
 
--- one of the numbers from 1 to the last
-abbrev pub IsOneOf : ℕ → ℕ → Type 0
-IsOneOf last n = (1 ≤ n) × (n ≤ last)
+-- the name of a key, by its number
+abbrev pub key_name : Script → ℕ → List ℕ
+key_name script key = slice_index_or (map (λ place. place.name) script.config.keys) (key - 1) []
+
+-- the name of a session, by its number
+abbrev pub session_name : Script → ℕ → List ℕ
+session_name script session = slice_index_or (map (λ plan. plan.name) script.sessions) (session - 1) []
 
 -- what a get may name: nothing, or a replica of the key in a session that is not causal
 abbrev pub MayName : Level → List ℕ → Option ℕ → Type 0

@@ -1,6 +1,6 @@
 //! What legal reports have in common, as laws: each function does nothing and carries its law.
-ghost use Rattle.session_known.specs.Laws.{AcceptedAreNumbered, FinalsOfKeysAgree, RepliesCountAccepted, LaterRepliesCover};
-ghost use Rattle.session_known.specs.Later.{AnsweredSession, ShownNeedsAreCoveredLater, PutsOvertakeShownClocks, PutsOvertakeCoveredVersions};
+ghost use Rattle.session_known.specs.Laws.{AcceptedAreNumbered, FinalsOfKeysAgree, RepliesCountAccepted};
+ghost use Rattle.session_known.specs.Later.{AnsweredSession, LaterRepliesCover, ShownNeedsAreCoveredLater, PutsOvertakeShownClocks, PutsOvertakeCoveredVersions};
 
 /// Where all sessions are answered lawfully, the accepted puts of each session on each key are
 /// numbered 1, 2 and so on, each once.
@@ -21,7 +21,7 @@ pub fn replies_count_accepted_puts()
 /// In a causal session a later reply on a key covers the earlier ones: nothing that was seen of the
 /// key is unseen again.
 pub fn causal_replies_cover_earlier_ones()
-    ensures { LaterRepliesCover }
+    ensures { (session : AnsweredSession) → LaterRepliesCover session }
 {}
 
 /// In a causal session a later reply on a key covers what the causal dependencies that an earlier reply

@@ -1,4 +1,7 @@
 //! What is asked for: keys, sessions, and the command lines of each.
+ghost use Rattle.std.specs.Prelude.{◌≡◌, length};
+ghost use Rattle.placement.specs.Config.{IsOneOf};
+ghost use Rattle.session_known.specs.Script.{kind_at, key_name, session_name};
 
 use composed_value::{Kind, Payload};
 use lattice_laws::Items;
@@ -53,4 +56,79 @@ pub struct Script {
     pub round: u32,
     pub kinds: Items<Kind>,
     pub sessions: Items<SessionPlan>,
+}
+
+impl Script {
+    /// The name of the key with this number, from 1 (0 is taken for 1); empty above the last. Takes no
+    /// memory.
+    pub fn key_name(&self, key: u16) -> &[u8]
+        ensures { result.now ≡ key_name self.now key }
+    {
+        let keys = self.config.keys.as_slice();
+        match keys.get(usize::from(key).saturating_sub(1)) {
+            Some(place) => place.name.as_bytes(),
+            None => &[],
+        }
+    }
+
+    /// The kind of the key with this number, from 1. Takes no memory.
+    pub fn kind_of(&self, key: u16) -> Kind
+        requires { IsOneOf (length self.now.kinds) key }
+        ensures { result ≡ kind_at self.now.kinds key }
+    {
+        self.kinds.as_slice()[usize::from(key) - 1]
+    }
+
+    /// The name of the session with this number, from 1 (0 is taken for 1); empty above the last. Takes
+    /// no memory.
+    pub fn session_name(&self, session: u16) -> &[u8]
+        ensures { result.now ≡ session_name self.now session }
+    {
+        let sessions = self.sessions.as_slice();
+        match sessions.get(usize::from(session).saturating_sub(1)) {
+            Some(plan) => plan.name.as_bytes(),
+            None => &[],
+        }
+    }
+}
+
+#[cfg(test)]
+mod tests {
+    use super::*;
+    use placement::KeyPlace;
+    use std::test::Fail;
+
+    #[test]
+    fn names_and_kinds_are_found_by_number(rt: HostRuntime) -> Result<(), Fail> {
+        let alloc = rt.alloc();
+        let mut keys = Vec::new(alloc);
+        for name in [b"a", b"b"] {
+            keys.push(KeyPlace {
+                name: Name::of(name.as_slice())?,
+                pins: Items::new(Vec::new(alloc)),
+            })?;
+        }
+        let mut sessions = Vec::new(alloc);
+        sessions.push(SessionPlan {
+            name: Name::of(b"s")?,
+            level: Level::Causal,
+            lines: Items::new(Vec::new(alloc)),
+        })?;
+        let script = Script {
+            config: Config {
+                workers: 1,
+                factor: 1,
+                keys: Items::new(keys),
+            },
+            round: 4,
+            kinds: Items::new([Kind::Max, Kind::Set].to_vec(alloc)?),
+            sessions: Items::new(sessions),
+        };
+        assert_eq!(rt; script.key_name(2), b"b".as_slice());
+        assert_eq!(rt; script.key_name(3), b"".as_slice());
+        assert_eq!(rt; script.kind_of(2), Kind::Set);
+        assert_eq!(rt; script.session_name(1), b"s".as_slice());
+        assert_eq!(rt; script.session_name(2), b"".as_slice());
+        Ok(())
+    }
 }

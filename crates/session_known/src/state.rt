@@ -87,16 +87,6 @@ impl SessionState {
         }
     }
 
-    /// How many puts are held. Takes no memory.
-    pub fn held_count(&self) -> usize
-        ensures { result ≡ length (held_puts self.now.state) }
-    {
-        match &self.held {
-            Some(held) => held.as_slice().len(),
-            None => 0,
-        }
-    }
-
     /// Whether a commit may accept so many puts at this Lamport number. Takes no memory.
     pub fn is_lawful_commit(&self, puts: u32, lamport: u64) -> bool
         ensures { IsTrue result ↔ IsLawfulCommit self.now.state puts lamport }
@@ -105,7 +95,7 @@ impl SessionState {
             return false;
         };
         self.held.is_some()
-            && puts as usize == self.held_count()
+            && puts as usize == self.held().len()
             && lamport == if puts == 0 { 0 } else { next }
     }
 
@@ -196,7 +186,6 @@ mod tests {
         session.begin();
         session.hold(5, &Payload::Max(7))?;
         session.hold(5, &Payload::Max(8))?;
-        assert_eq!(rt; session.held_count(), 2);
         assert_eq!(rt; session.held().len(), 2);
         assert!(rt; session.is_lawful_commit(2, 1) && !session.is_lawful_put(5, 1, 1));
         assert_eq!(rt; session.end().as_slice().len(), 2);

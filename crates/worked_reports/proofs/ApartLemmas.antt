@@ -13,13 +13,13 @@ use Rattle.composed_value.specs.declared.payload.Payload.TheVariants as payloads
 use Rattle.composed_value.specs.declared.put.Put.{Put}
 use Rattle.composed_value.specs.declared.value.Value.TheVariants as values
 use Rattle.placement.specs.Name.{IsName}
-use Rattle.placement.specs.Config.{ArePins, IsPlacement}
+use Rattle.placement.specs.Config.{IsOneOf, ArePins, IsPlacement}
 use Rattle.placement.specs.declared.config.KeyPlace.{KeyPlace}
 use Rattle.session_known.specs.Accepted.{puts_on, accepted}
 use Rattle.session_known.specs.Form.{NamesSessions, IsClockIn, IsAgainIn, AreNeedsIn, IsFinalIn}
 use Rattle.session_known.specs.Lawful.{last_lamport, CountsAccepted}
 use Rattle.session_known.specs.Legal.{IsLawfulFinal, IsLegalAt}
-use Rattle.session_known.specs.Script.{IsOneOf, IsValidSession, IsValidScript}
+use Rattle.session_known.specs.Script.{IsValidSession, IsValidScript}
 use Rattle.worked_reports.specs.Worked.{apart_script, apart_table, apart_report}
 use Rattle.worked_reports.proofs.LegalLemmas.{below_differs, one_session_in, two_sessions_in, put_of, counts_within, sound_by_cell, needs_by_cell, needs_a}
 use Rattle.worked_reports.proofs.PlacesLemmas.{AllPairs-from_recursion, pins_are, names_differ, name, session_is_valid}

@@ -14,12 +14,12 @@ use Rattle.composed_value.specs.declared.payload.Payload.TheVariants as payloads
 use Rattle.composed_value.specs.declared.put.Put.{Put}
 use Rattle.composed_value.specs.declared.value.Value.TheVariants as values
 use Rattle.placement.specs.Name.{IsName}
-use Rattle.placement.specs.Config.{IsPlacement}
+use Rattle.placement.specs.Config.{IsOneOf, IsPlacement}
 use Rattle.session_known.specs.Accepted.{puts_on, accepted}
 use Rattle.session_known.specs.Form.{IsClockIn, IsFinalIn}
 use Rattle.session_known.specs.Lawful.{last_lamport}
 use Rattle.session_known.specs.Legal.{IsLawfulFinal, IsLegalAt}
-use Rattle.session_known.specs.Script.{IsOneOf, IsValidSession, IsValidScript}
+use Rattle.session_known.specs.Script.{IsValidSession, IsValidScript}
 use Rattle.worked_reports.specs.Worked.{commit_table, keys_script, keys_report}
 use Rattle.worked_reports.proofs.LegalLemmas.{below_differs, one_session_in, put_of, sound_by_cell}
 use Rattle.worked_reports.proofs.PlacesLemmas.{AllPairs-from_recursion, name, session_is_valid, commit_is_valid}

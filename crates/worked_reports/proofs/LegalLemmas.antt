@@ -36,7 +36,7 @@ use Rattle.session_known.specs.Accepted.{puts_on, accepted}
 use Rattle.session_known.specs.Form.{NamesSessions, IsClockIn, AreNeedsIn, IsFinalIn}
 use Rattle.session_known.specs.Lawful.{last_lamport}
 use Rattle.session_known.specs.Legal.{IsLawfulFinal, IsLegalAt}
-use Rattle.session_known.specs.Script.{IsOneOf}
+use Rattle.placement.specs.Config.{IsOneOf}
 use Rattle.worked_reports.specs.Worked.{first_script, first_table, first_report, home_script, home_table, home_report, red, commit_script, commit_table, commit_report, causal_script, causal_table, causal_report}
 use Rattle.session_known.specs.declared.script.Script.{Script}
 

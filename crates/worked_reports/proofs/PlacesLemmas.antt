@@ -8,7 +8,7 @@ use Rattle.std.proofs.lemmas.List.Sums.{AllPass-from_list_all}
 use Rattle.lattice_laws.specs.Spelling.{is_spelling_byte}
 use Rattle.basic_lattices.specs.Word.{IsWord}
 use Rattle.placement.specs.Name.{IsName}
-use Rattle.placement.specs.Config.{IsWorker, ArePins, IsPlacement, EachHasReplicas}
+use Rattle.placement.specs.Config.{IsOneOf, ArePins, IsPlacement, EachHasReplicas}
 use Rattle.placement.specs.declared.config.KeyPlace.{KeyPlace}
 use Rattle.session_known.specs.Legal.{IsLegalAt, IsLegal}
 use Rattle.session_known.specs.Script.{MayStand, AreEnded, IsValidSession, IsValidScript}
@@ -18,10 +18,10 @@ use Rattle.session_known.specs.declared.script.Script.{Script}
 use Rattle.session_known.specs.declared.script.SessionPlan.{SessionPlan}
 
 -- a list of one number, which is the one worker
-one_is_first : (replicas : List ℕ) → length replicas ≡ 1 → All (IsWorker 1) replicas → replicas ≡ 1 ∷ []
+one_is_first : (replicas : List ℕ) → length replicas ≡ 1 → All (IsOneOf 1) replicas → replicas ≡ 1 ∷ []
 one_is_first [] one are = absurd (omega (arith, one))
 one_is_first (worker ∷ []) one are =
-    let is : IsWorker 1 worker = All-head (IsWorker 1) worker [] are in
+    let is : IsOneOf 1 worker = All-head (IsOneOf 1) worker [] are in
     let same : worker ≡ 1 = omega (arith, is.0, is.1) in
     ap (λ (n : ℕ). n ∷ []) same
 one_is_first (worker ∷ other ∷ replicas) one are = absurd (omega (arith, one))
@@ -60,8 +60,8 @@ AllPairs-from_recursion R [] holds = λ i j d below within. absurd (omega (arith
 AllPairs-from_recursion R (x ∷ xs) holds = AllPairs-cons R x xs (All-from_recursion (R x) xs holds.0) (AllPairs-from_recursion R xs holds.1)
 
 -- different workers are lawful pins
-pub pins_are : (workers : ℕ) (pins : List ℕ) → AllByRecursion (IsWorker workers) pins → AllPairsByRecursion (λ a b. a ≢ b) pins → ArePins workers pins
-pins_are workers pins are different = record { are_workers = All-from_recursion (IsWorker workers) pins are; different = AllPairs-from_recursion (λ a b. a ≢ b) pins different }
+pub pins_are : (workers : ℕ) (pins : List ℕ) → AllByRecursion (IsOneOf workers) pins → AllPairsByRecursion (λ a b. a ≢ b) pins → ArePins workers pins
+pins_are workers pins are different = record { are_workers = All-from_recursion (IsOneOf workers) pins are; different = AllPairs-from_recursion (λ a b. a ≢ b) pins different }
 
 -- names that differ in their first byte differ
 pub names_differ : (name other : List ℕ) → slice_index_or name 0 0 ≢ slice_index_or other 0 0 → name ≢ other

@@ -306,8 +306,8 @@ versions_report = record {
 --     key b max at 1                   session t causal
 --     session s causal                 put a 1 at 1
 --     put a 5                          get b @1 clock s:1 top 2 value 7 needs a{s:1}
---     put b 7                          get a after 16 @2 clock s:1
---     await b t 1                      get a after 16 @2 clock s:1
+--     put b 7                          again a after 16 @2 clock s:1
+--     await b t 1                      again a after 16 @2 clock s:1
 --     session t causal                 final
 --     put a 3                          a @1 clock s:1,t:1 top 1 value 5
 --     get b                            a @2 clock s:1,t:1 top 1 value 5

@@ -97,7 +97,7 @@ fn check_on(alloc: Global, input: Vec<u8>) -> Result<(Status, Vec<u8>), NoMemory
     Ok((status, sink.written().to_vec(alloc)?))
 }
 
-/// A script, and behind it a report in which lines, counted from 1, are others.
+/// A script, and after it a report in which lines, counted from 1, are others.
 fn input_of(alloc: Global, worked: Worked, spoilt: &[(u32, &str)]) -> Result<Vec<u8>, NoMemory> {
     let mut input = Vec::from_slice(alloc, worked.0.as_bytes())?;
     let mut number = 0u32;
@@ -372,7 +372,7 @@ fn the_first_unlawful_place_is_named(rt: HostRuntime) -> Result<(), Fail> {
 
 #[test]
 fn what_is_decided_inside_a_session_comes_first(rt: HostRuntime) -> Result<(), Fail> {
-    // An untrue value, behind it in a later session a put that is not there, and a wrong final cell.
+    // An untrue value, after it in a later session a put that is not there, and a wrong final cell.
     let spoilt = [
         (12, "get l @1 clock s:1 top 1 value blue/1/s/1"),
         (16, "get a @1 clock s:1,t:1 top 1 value 5"),

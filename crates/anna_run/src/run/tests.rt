@@ -90,7 +90,7 @@ fn a_get_shows_what_was_put_before_it(rt: HostRuntime) -> Result<(), Fail> {
 /// The sessions of a script, each line beside the line of the report that goes with it.
 ///
 /// `bob` reads before it writes: its version overtakes the one that it has seen, and its Lamport
-/// numbers go on above it. `eve` writes without reading: its version stands beside, listed behind
+/// numbers go on above it. `eve` writes without reading: its version stands beside, listed after
 /// since its clock begins with a later session, and a word under a lesser Lamport number is not the
 /// last. `amy` has seen both versions, and overtakes them. `kim` asks for nothing.
 const SHOP: [(&str, &str); 33] = [
@@ -288,7 +288,7 @@ fn refuses_a_script_at_a_line_with_a_code(rt: HostRuntime) -> Result<(), Fail> {
             5,
             9,
         ),
-        // No end, and lines behind it.
+        // No end, and lines after it.
         ("", 1, 10),
         (
             "anna 1\nworkers 1\nkey a max\nsession s eventual\nput a 5\nput a 3\nget a\nget a\n",
@@ -379,7 +379,7 @@ fn as_many_keys_and_sessions_as_there_may_be(rt: HostRuntime) -> Result<(), Fail
     let input = script_of(rt.alloc(), 128, 16)?;
     let (status, text) = run_on(rt.alloc(), input.as_bytes())?;
     assert_eq!(rt; status, Status::Done);
-    // The header, `final` and `end`, a line for each key and each session, and nothing behind the last.
+    // The header, `final` and `end`, a line for each key and each session, and nothing after the last.
     assert_eq!(rt; text.as_slice().split(|byte| *byte == b'\n').count(), 148);
     Ok(())
 }

@@ -1,8 +1,4 @@
 //! Lines of cells as they are written.
-ghost use Rattle.std.specs.Prelude.{◌≡◌, [], ◌∷◌, IfOk, codes};
-ghost use Rattle.clock_lattice.specs.Clock.{IsClock};
-ghost use Rattle.composed_value.specs.Value.{IsValue};
-ghost use Rattle.composed_value.specs.declared.value.Value.TheVariants as values;
 
 use super::*;
 use basic_lattices::Word;
@@ -15,34 +11,15 @@ use std::alloc::Global;
 use std::test::Fail;
 use version_antichain::Versions;
 
-/// The clock that counts two puts of the first session.
-fn two_puts(alloc: Global) -> Result<Clock, Fail>
-    ensures { IfOk result (λ clock. clock ≡ (1, 2) ∷ []) }
-{
-    let mut clock = Clock::new(alloc);
-    clock.raise(1, 2)?;
-    Ok(clock)
-}
-
 /// A cell of versions: one of two puts of the first session, and one of a put of the second.
-fn versions_cell(alloc: Global) -> Result<FinalCell, Fail>
-    ensures cell { IfOk result (λ cell. cell ≡ record {
-      key = 1;
-      worker = 1;
-      clock = (1, 2) ∷ (2, 1) ∷ [];
-      top = 2;
-      value = values.Versions (record { clock = (1, 2) ∷ []; word = codes "z" } ∷ record { clock = (2, 1) ∷ []; word = codes "y" } ∷ []);
-    }) }
-    ensures clock { IfOk result (λ cell. IsClock cell.clock) }
-    ensures value { IfOk result (λ cell. IsValue cell.value) }
-{
+fn versions_cell(alloc: Global) -> Result<FinalCell, Fail> {
     let mut one_put = Clock::new(alloc);
     one_put.raise(2, 1)?;
-    let clock = two_puts(alloc)?.joined(&one_put)?;
-    clock.attest();
-    let mut versions = Versions::one(alloc, two_puts(alloc)?, Word::of(b"z")?)?;
+    let mut two_puts = Clock::new(alloc);
+    two_puts.raise(1, 2)?;
+    let clock = two_puts.joined(&one_put)?;
+    let mut versions = Versions::one(alloc, two_puts, Word::of(b"z")?)?;
     versions.join(&Versions::one(alloc, one_put, Word::of(b"y")?)?)?;
-    versions.attest();
     Ok(FinalCell {
         key: 1,
         worker: 1,

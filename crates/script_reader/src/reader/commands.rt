@@ -4,7 +4,7 @@ ghost use Rattle.std.specs.List.{list_any};
 ghost use Rattle.std.specs.Option.{option_map_or};
 ghost use Rattle.placement.specs.Config.{placed};
 ghost use Rattle.script_reader.specs.Faults.{keys_of, commands_of};
-ghost use Rattle.script_reader.specs.Reader.{seen, with_added, IsKept, IsKeyAt, SuitsPlace, Reads, HasRoom, HasAdded, MayBound, IsBoundFault};
+ghost use Rattle.script_reader.specs.Reader.{so_far, with_added, IsKept, IsKeyAt, SuitsPlace, Reads, HasRoom, HasAdded, MayBound, IsBoundFault};
 ghost use Rattle.script_reader.specs.Said.{place_of};
 ghost use Rattle.script_reader.specs.Words.{is_payload_too_great as is_too_much, texts};
 ghost use Rattle.script_reader.specs.declared.keyword.Keyword.TheVariants as keywords;
@@ -42,8 +42,8 @@ impl<'a> Reader<'a> {
     /// The place of a key, counted from 0, and its kind.
     fn find_key(&self, key: &[u8]) -> Option<(usize, Kind)>
         requires kept { IsKept self.now }
-        ensures { MatchOption result (place_of (keys_of (seen self.now)) key.now ≡ None)
-            (λ found. IsKeyAt (seen self.now) key.now found.0 found.1) }
+        ensures { MatchOption result (place_of (keys_of (so_far self.now)) key.now ≡ None)
+            (λ found. IsKeyAt (so_far self.now) key.now found.0 found.1) }
     {
         let place = self.keys.place_of(key)?;
         Some((place, self.kinds[place]))
@@ -52,10 +52,10 @@ impl<'a> Reader<'a> {
     /// Whether a worker is a replica of the key at a place.
     fn is_replica(&self, place: usize, worker: u64) -> bool
         requires kept { IsKept self.now }
-        requires some { 1 ≤ length (seen self.now).script.sessions }
-        requires within { place < length (seen self.now).script.config.keys }
+        requires some { 1 ≤ length (so_far self.now).script.sessions }
+        requires within { place < length (so_far self.now).script.config.keys }
         ensures { result ≡ list_any (λ replica. replica == worker)
-            (slice_index_or (placed (seen self.now).script.config) place []) }
+            (slice_index_or (placed (so_far self.now).script.config) place []) }
     {
         let Some(sessions) = &self.sessions else {
             unreachable!()
@@ -67,7 +67,7 @@ impl<'a> Reader<'a> {
     /// Whether there may be one more command.
     fn has_room(&self) -> bool
         requires kept { IsKept self.now }
-        ensures { result ≡ not (nat_le 4096 (commands_of (seen self.now))) }
+        ensures { result ≡ not (nat_le 4096 (commands_of (so_far self.now))) }
     {
         match &self.sessions {
             Some(sessions) => sessions.commands < MOST_COMMANDS,
@@ -78,7 +78,7 @@ impl<'a> Reader<'a> {
     /// Adds a command to the last session.
     fn add(&mut self, line: Line) -> Result<(), LineFault>
         requires kept { IsKept self.old }
-        requires room { HasRoom (seen self.old) }
+        requires room { HasRoom (so_far self.old) }
         ensures { MatchResult result (λ _. HasAdded self.old self.new line)
             (λ fault. fault ≡ LineFault.NoMemory) }
     {
@@ -92,7 +92,7 @@ impl<'a> Reader<'a> {
     /// Reads a put.
     pub(crate) fn take_put(&mut self, key: &[u8], words: &[&[u8]]) -> Result<(), LineFault>
         requires kept { IsKept self.old }
-        requires stands { SuitsPlace (seen self.old) keywords.Put (key.now ∷ texts words.now) }
+        requires stands { SuitsPlace (so_far self.old) keywords.Put (key.now ∷ texts words.now) }
         ensures { Reads self.old result self.new keywords.Put (key.now ∷ texts words.now) }
     {
         let found = self.find_key(key);
@@ -120,7 +120,7 @@ impl<'a> Reader<'a> {
     /// Reads a get.
     pub(crate) fn take_get(&mut self, key: &[u8]) -> Result<(), LineFault>
         requires kept { IsKept self.old }
-        requires stands { SuitsPlace (seen self.old) keywords.Get (key.now ∷ []) }
+        requires stands { SuitsPlace (so_far self.old) keywords.Get (key.now ∷ []) }
         ensures { Reads self.old result self.new keywords.Get (key.now ∷ []) }
     {
         if !is_spelling(key, 32) {
@@ -141,7 +141,7 @@ impl<'a> Reader<'a> {
     /// Reads a get from a named worker.
     pub(crate) fn take_get_from(&mut self, key: &[u8], worker: &[u8]) -> Result<(), LineFault>
         requires kept { IsKept self.old }
-        requires stands { SuitsPlace (seen self.old) keywords.Get (key.now ∷ worker.now ∷ []) }
+        requires stands { SuitsPlace (so_far self.old) keywords.Get (key.now ∷ worker.now ∷ []) }
         ensures { Reads self.old result self.new keywords.Get (key.now ∷ worker.now ∷ []) }
     {
         let Some(worker) = number(worker) else {
@@ -173,7 +173,7 @@ impl<'a> Reader<'a> {
         count: &[u8],
     ) -> Result<(), LineFault>
         requires kept { IsKept self.old }
-        requires stands { SuitsPlace (seen self.old) keywords.Await
+        requires stands { SuitsPlace (so_far self.old) keywords.Await
             (key.now ∷ session.now ∷ count.now ∷ []) }
         ensures { Reads self.old result self.new keywords.Await
             (key.now ∷ session.now ∷ count.now ∷ []) }
@@ -203,8 +203,8 @@ impl<'a> Reader<'a> {
     /// Tests that a transaction may be begun here, or ended where one is begun.
     fn check_boundary(&self, begun: bool) -> Result<(), LineFault>
         requires kept { IsKept self.now }
-        ensures { MatchResult result (λ _. MayBound (seen self.now) begun)
-            (IsBoundFault (seen self.now) begun) }
+        ensures { MatchResult result (λ _. MayBound (so_far self.now) begun)
+            (IsBoundFault (so_far self.now) begun) }
     {
         if !self.has_room() {
             return Err(LineFault::Code(Code::Limit));
@@ -218,7 +218,7 @@ impl<'a> Reader<'a> {
     /// Reads the beginning of a transaction.
     pub(crate) fn take_begin(&mut self) -> Result<(), LineFault>
         requires kept { IsKept self.old }
-        requires stands { SuitsPlace (seen self.old) keywords.Begin [] }
+        requires stands { SuitsPlace (so_far self.old) keywords.Begin [] }
         ensures { Reads self.old result self.new keywords.Begin [] }
     {
         self.check_boundary(false)?;
@@ -228,7 +228,7 @@ impl<'a> Reader<'a> {
     /// Reads a commit.
     pub(crate) fn take_commit(&mut self) -> Result<(), LineFault>
         requires kept { IsKept self.old }
-        requires stands { SuitsPlace (seen self.old) keywords.Commit [] }
+        requires stands { SuitsPlace (so_far self.old) keywords.Commit [] }
         ensures { Reads self.old result self.new keywords.Commit [] }
     {
         self.check_boundary(true)?;
@@ -238,7 +238,7 @@ impl<'a> Reader<'a> {
     /// Reads an abort.
     pub(crate) fn take_abort(&mut self) -> Result<(), LineFault>
         requires kept { IsKept self.old }
-        requires stands { SuitsPlace (seen self.old) keywords.Abort [] }
+        requires stands { SuitsPlace (so_far self.old) keywords.Abort [] }
         ensures { Reads self.old result self.new keywords.Abort [] }
     {
         self.check_boundary(true)?;
@@ -248,7 +248,7 @@ impl<'a> Reader<'a> {
     /// Reads the end.
     pub(crate) fn take_end(&self) -> Result<(), LineFault>
         requires kept { IsKept self.now }
-        requires stands { SuitsPlace (seen self.now) keywords.End [] }
+        requires stands { SuitsPlace (so_far self.now) keywords.End [] }
         ensures { Reads self.now result self.now keywords.End [] }
     {
         if self.is_begun() {

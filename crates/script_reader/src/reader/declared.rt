@@ -4,7 +4,7 @@ ghost use Rattle.std.specs.List.{list_any};
 ghost use Rattle.std.specs.Str.{bytes_eq};
 ghost use Rattle.script_reader.specs.Entries.{AreKeyWords, AreSessionWords};
 ghost use Rattle.script_reader.specs.Faults.{sessions_of};
-ghost use Rattle.script_reader.specs.Reader.{seen, begun_of, IsKept, SuitsPlace, Reads, IsNameFault, HasOpened};
+ghost use Rattle.script_reader.specs.Reader.{so_far, begun_of, IsKept, SuitsPlace, Reads, IsNameFault, HasOpened};
 ghost use Rattle.script_reader.specs.Words.{is_name, texts};
 ghost use Rattle.script_reader.specs.declared.keyword.Keyword.TheVariants as keywords;
 
@@ -35,7 +35,7 @@ impl<'a> Reader<'a> {
     /// Reads the number of workers.
     pub(crate) fn take_workers(&mut self, word: &[u8]) -> Result<(), LineFault>
         requires kept { IsKept self.old }
-        requires stands { SuitsPlace (seen self.old) keywords.Workers (word.now ∷ []) }
+        requires stands { SuitsPlace (so_far self.old) keywords.Workers (word.now ∷ []) }
         ensures { Reads self.old result self.new keywords.Workers (word.now ∷ []) }
     {
         let Some(workers) = number(word) else {
@@ -52,7 +52,7 @@ impl<'a> Reader<'a> {
     /// Reads the replication factor.
     pub(crate) fn take_factor(&mut self, word: &[u8]) -> Result<(), LineFault>
         requires kept { IsKept self.old }
-        requires stands { SuitsPlace (seen self.old) keywords.Factor (word.now ∷ []) }
+        requires stands { SuitsPlace (so_far self.old) keywords.Factor (word.now ∷ []) }
         ensures { Reads self.old result self.new keywords.Factor (word.now ∷ []) }
     {
         let Some(factor) = number(word) else {
@@ -72,7 +72,7 @@ impl<'a> Reader<'a> {
     /// Reads the number of requests between rounds of gossip.
     pub(crate) fn take_round(&mut self, word: &[u8]) -> Result<(), LineFault>
         requires kept { IsKept self.old }
-        requires stands { SuitsPlace (seen self.old) keywords.Round (word.now ∷ []) }
+        requires stands { SuitsPlace (so_far self.old) keywords.Round (word.now ∷ []) }
         ensures { Reads self.old result self.new keywords.Round (word.now ∷ []) }
     {
         let Some(round) = number(word) else {
@@ -99,7 +99,7 @@ impl<'a> Reader<'a> {
     ) -> Result<(), LineFault>
         requires kept { IsKept self.old }
         ensures { (words : List (List ℕ)) → AreKeyWords words name.now kind (texts pin_words.now)
-            → SuitsPlace (seen self.old) keywords.Key words
+            → SuitsPlace (so_far self.old) keywords.Key words
             → Reads self.old result self.new keywords.Key words }
     {
         let Some(numbers) = numbers(alloc, pin_words)? else {
@@ -127,7 +127,7 @@ impl<'a> Reader<'a> {
 
     /// Whether a session has the name.
     fn has_session(&self, name: &[u8]) -> bool
-        ensures { result ≡ list_any (bytes_eq name.now) (sessions_of (seen self.now)) }
+        ensures { result ≡ list_any (bytes_eq name.now) (sessions_of (so_far self.now)) }
     {
         let Some(sessions) = &self.sessions else {
             return false;
@@ -142,7 +142,7 @@ impl<'a> Reader<'a> {
     /// The number of sessions.
     fn sessions_len(&self) -> usize
         requires kept { IsKept self.now }
-        ensures { result ≡ length (seen self.now).script.sessions }
+        ensures { result ≡ length (so_far self.now).script.sessions }
     {
         match &self.sessions {
             Some(sessions) => sessions.done.len() + 1,
@@ -170,7 +170,7 @@ impl<'a> Reader<'a> {
         requires kept { IsKept self.old }
         requires workers { self.old.has_workers ≡ true }
         ensures { (words : List (List ℕ)) → AreSessionWords words name.now level
-            → SuitsPlace (seen self.old) keywords.Session words
+            → SuitsPlace (so_far self.old) keywords.Session words
             → Reads self.old result self.new keywords.Session words }
     {
         let session_name = read_name(name)?;
@@ -195,9 +195,9 @@ impl<'a> Reader<'a> {
     fn open(&mut self, alloc: Global, plan: SessionPlan) -> Result<(), LineFault>
         requires kept { IsKept self.old }
         requires workers { self.old.has_workers ≡ true }
-        requires room { length (seen self.old).script.sessions < 16 }
+        requires room { length (so_far self.old).script.sessions < 16 }
         requires empty { plan.lines ≡ [] }
-        requires ended { (seen self.old).begun ≡ false }
+        requires ended { (so_far self.old).begun ≡ false }
         ensures { MatchResult result (λ _. HasOpened self.old self.new plan)
             (λ fault. fault ≡ LineFault.NoMemory) }
     {

@@ -21,10 +21,10 @@ returns-in-Err-Form-clause-owed c =
     let read = c.in-Ok.script in
     let table = placed read.config in
     let front : c.split_at.result.0.now ≡ take (split_place bytes) bytes = search rules in
-    let behind : c.split_at.result.1.now ≡ drop (split_place bytes) bytes = search rules in
+    let after : c.split_at.result.1.now ≡ drop (split_place bytes) bytes = search rules in
     let is_script : IsScript all_built (take (split_place bytes) bytes) read = subst (λ text. IsScript all_built text read) front c.in-Ok.ensures.script in
     let reading : IsReading read table (drop (split_place bytes) bytes) (Err (Form c.in-Err-Form.line)) =
-    subst (λ (at : List ℕ × ReportFault). IsReading read table at.0 (Err at.1)) (λ i. (behind i, c.in-Err-Form.field-0-is i)) (c.in-Err-Form.ensures.reading table c.in-Ok.ensures.valid) in
+    subst (λ (at : List ℕ × ReportFault). IsReading read table at.0 (Err at.1)) (λ i. (after i, c.in-Err-Form.field-0-is i)) (c.in-Err-Form.ensures.reading table c.in-Ok.ensures.valid) in
     inr (inr (record {
       short = search rules;
       script = read;
@@ -41,10 +41,10 @@ returns-in-Err-Form-clause-complete c script report checked =
     let read = c.in-Ok.script in
     let table = placed read.config in
     let front : c.split_at.result.0.now ≡ take (split_place bytes) bytes = search rules in
-    let behind : c.split_at.result.1.now ≡ drop (split_place bytes) bytes = search rules in
+    let after : c.split_at.result.1.now ≡ drop (split_place bytes) bytes = search rules in
     let is_script : IsScript all_built (take (split_place bytes) bytes) read = subst (λ text. IsScript all_built text read) front c.in-Ok.ensures.script in
     let reading : IsReading read table (drop (split_place bytes) bytes) (Err (Form c.in-Err-Form.line)) =
-    subst (λ (at : List ℕ × ReportFault). IsReading read table at.0 (Err at.1)) (λ i. (behind i, c.in-Err-Form.field-0-is i)) (c.in-Err-Form.ensures.reading table c.in-Ok.ensures.valid) in
+    subst (λ (at : List ℕ × ReportFault). IsReading read table at.0 (Err at.1)) (λ i. (after i, c.in-Err-Form.field-0-is i)) (c.in-Err-Form.ensures.reading table c.in-Ok.ensures.valid) in
     let same : read ≡ script = c.in-Ok.ensures.accepts script (subst (λ text. IsScript all_built text script) (sym front) checked.is_script) in
     reading.0 report (subst (λ (script : Script). HasForm script (placed script.config) report) (sym same) checked.in_form) (subst (λ script. drop (split_place bytes) bytes ≡ text_of script report) (sym same) checked.is_report)
 
@@ -54,10 +54,10 @@ judged-requires-clause-form c =
     let read = c.in-Ok.script in
     let table = placed read.config in
     let front : c.split_at.result.0.now ≡ take (split_place bytes) bytes = search rules in
-    let behind : c.split_at.result.1.now ≡ drop (split_place bytes) bytes = search rules in
+    let after : c.split_at.result.1.now ≡ drop (split_place bytes) bytes = search rules in
     let is_script : IsScript all_built (take (split_place bytes) bytes) read = subst (λ text. IsScript all_built text read) front c.in-Ok.ensures.script in
     let answered = c.in-Ok-read_report.report in
-    let reading : IsReading read table (drop (split_place bytes) bytes) (Ok answered) = subst (λ text. IsReading read table text (Ok answered)) behind (c.in-Ok-read_report.ensures.reading table c.in-Ok.ensures.valid) in
+    let reading : IsReading read table (drop (split_place bytes) bytes) (Ok answered) = subst (λ text. IsReading read table text (Ok answered)) after (c.in-Ok-read_report.ensures.reading table c.in-Ok.ensures.valid) in
     reading.0
 
 pub returns-clause-owed : goal.returns-clause-owed
@@ -66,10 +66,10 @@ returns-clause-owed c =
     let read = c.in-Ok.script in
     let table = placed read.config in
     let front : c.split_at.result.0.now ≡ take (split_place bytes) bytes = search rules in
-    let behind : c.split_at.result.1.now ≡ drop (split_place bytes) bytes = search rules in
+    let after : c.split_at.result.1.now ≡ drop (split_place bytes) bytes = search rules in
     let is_script : IsScript all_built (take (split_place bytes) bytes) read = subst (λ text. IsScript all_built text read) front c.in-Ok.ensures.script in
     let answered = c.in-Ok-read_report.report in
-    let reading : IsReading read table (drop (split_place bytes) bytes) (Ok answered) = subst (λ text. IsReading read table text (Ok answered)) behind (c.in-Ok-read_report.ensures.reading table c.in-Ok.ensures.valid) in
+    let reading : IsReading read table (drop (split_place bytes) bytes) (Ok answered) = subst (λ text. IsReading read table text (Ok answered)) after (c.in-Ok-read_report.ensures.reading table c.in-Ok.ensures.valid) in
     let short : length bytes ≤ most_checked = search rules in
     let checked : AreChecked bytes read answered = record { short = short; is_script = is_script; in_form = reading.0; is_report = reading.1 } in
     IfOk-weaker c.judged.result _ _ (λ outcome tells. verdict_owed bytes read answered outcome checked tells) c.judged.ensures
@@ -80,11 +80,11 @@ returns-clause-complete c script report checked =
     let read = c.in-Ok.script in
     let table = placed read.config in
     let front : c.split_at.result.0.now ≡ take (split_place bytes) bytes = search rules in
-    let behind : c.split_at.result.1.now ≡ drop (split_place bytes) bytes = search rules in
+    let after : c.split_at.result.1.now ≡ drop (split_place bytes) bytes = search rules in
     let is_script : IsScript all_built (take (split_place bytes) bytes) read = subst (λ text. IsScript all_built text read) front c.in-Ok.ensures.script in
     let answered = c.in-Ok-read_report.report in
-    let reading : IsReading read table (drop (split_place bytes) bytes) (Ok answered) = subst (λ text. IsReading read table text (Ok answered)) behind (c.in-Ok-read_report.ensures.reading table c.in-Ok.ensures.valid) in
+    let reading : IsReading read table (drop (split_place bytes) bytes) (Ok answered) = subst (λ text. IsReading read table text (Ok answered)) after (c.in-Ok-read_report.ensures.reading table c.in-Ok.ensures.valid) in
     let same : read ≡ script = c.in-Ok.ensures.accepts script (subst (λ text. IsScript all_built text script) (sym front) checked.is_script) in
     let same_report : answered ≡ report = c.in-Ok-read_report.ensures.accepts table report c.in-Ok.ensures.valid (subst (λ (script : Script). HasForm script (placed script.config) report) (sym same) checked.in_form)
-    (behind ∙ subst (λ script. drop (split_place bytes) bytes ≡ text_of script report) (sym same) checked.is_report) in
+    (after ∙ subst (λ script. drop (split_place bytes) bytes ≡ text_of script report) (sym same) checked.is_report) in
     IfOk-weaker c.judged.result _ _ (λ outcome tells. subst (λ (at : Script × Report). TellsOf at.0 at.1 outcome) (λ i. (same i, same_report i)) (verdict_told read answered outcome tells)) c.judged.ensures

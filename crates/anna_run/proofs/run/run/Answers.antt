@@ -1,4 +1,4 @@
-use Rattle.std.proofs.Common.{rules, ◌≡◌, Option, inl, inr, refl, sym, subst}
+use Rattle.std.proofs.Common.{◌≡◌, Option, inl, inr, refl, sym, subst}
 use Rattle.placement.specs.Config.{placed}
 use Rattle.placement.specs.ConfigLaws.{placement_is}
 use Rattle.script_reader.proofs.ValidLaws.{script_is_valid}
@@ -52,4 +52,4 @@ returns-in-Ok-clause-ends g c =
     inr (Done, text_of script report, owed_report _ _ script report owed, inl (refl, c.in-Ok.ensures.wrote))
 
 pub returns-clause-ends : goal.returns-clause-ends
-returns-clause-ends g c = inl (refl, search rules)
+returns-clause-ends g c = inl (refl, record { written = refl; faults = refl })

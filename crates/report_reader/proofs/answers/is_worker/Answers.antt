@@ -1,4 +1,4 @@
-use Rattle.session_known.specs.Script.{IsOneOf}
+use Rattle.placement.specs.Config.{IsOneOf}
 use Rattle.report_lines.specs.Text.{worker_word}
 use Rattle.report_reader.proofs.ReadAnswerLemmas.{worker_told}
 use Rattle.report_reader.proofs.ReadCellLines.{number_read}

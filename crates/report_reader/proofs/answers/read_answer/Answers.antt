@@ -4,7 +4,7 @@ use Rattle.report_lines.proofs.LinesLemmas.{answer_line}
 use Rattle.report_lines.proofs.NamesLemmas.{tells_names}
 use Rattle.report_lines.specs.Text.{answer_words}
 use Rattle.report_reader.proofs.ReadCellLines.{line_read_if}
-use Rattle.report_reader.proofs.ReadCellWords.{texts}
+use Rattle.script_reader.specs.Words.{texts}
 use Rattle.report_reader.proofs.answers.read_answer.Goals as goal
 
 pub returns : goal.returns

@@ -2,9 +2,10 @@ use Rattle.std.proofs.Common.{◌∷◌, codes, refl, ap, ◌∙◌}
 use Rattle.std.specs.Fmt.{decimal}
 use Rattle.std.proofs.lemmas.Result.{IfOk-weaker}
 use Rattle.session_known.specs.declared.script.Line.TheVariants as lines
-use Rattle.report_lines.specs.Text.{key_name, session_name}
+use Rattle.session_known.specs.Script.{key_name, session_name}
 use Rattle.report_reader.proofs.ReadAnswerLemmas.{answer_same}
-use Rattle.report_reader.proofs.ReadCellWords.{texts, texts_known}
+use Rattle.script_reader.specs.Words.{texts}
+use Rattle.report_reader.proofs.ReadCellWords.{texts_known}
 use Rattle.report_reader.proofs.answers.read_await.Goals as goal
 
 pub returns : goal.returns

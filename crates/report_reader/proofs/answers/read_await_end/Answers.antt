@@ -2,7 +2,8 @@ use Rattle.std.proofs.Common.{◌∷◌, codes, refl, sym, ap, ◌∙◌}
 use Rattle.std.proofs.lemmas.Result.{IfOk-weaker}
 use Rattle.session_known.specs.declared.script.Line.TheVariants as lines
 use Rattle.report_reader.proofs.ReadAnswerLemmas.{answer_same, await_words, shown_read, ended_read}
-use Rattle.report_reader.proofs.ReadCellWords.{texts, same_text}
+use Rattle.script_reader.specs.Words.{texts}
+use Rattle.report_reader.proofs.ReadCellWords.{same_text}
 use Rattle.report_reader.proofs.answers.read_await_end.Goals as goal
 
 pub returns-in_default : goal.returns-in_default

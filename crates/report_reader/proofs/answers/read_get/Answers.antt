@@ -1,7 +1,7 @@
 use Rattle.std.proofs.Common.{refl}
 use Rattle.std.proofs.lemmas.Result.{IfOk-weaker}
 use Rattle.session_known.specs.declared.script.Line.TheVariants as lines
-use Rattle.report_lines.specs.Text.{key_name}
+use Rattle.session_known.specs.Script.{key_name}
 use Rattle.report_reader.proofs.ReadAnswerLemmas.{answer_same}
 use Rattle.report_reader.proofs.ReadCellWords.{texts_second}
 use Rattle.report_reader.proofs.answers.read_get.Goals as goal

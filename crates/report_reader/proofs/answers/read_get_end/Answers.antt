@@ -2,9 +2,9 @@ use Rattle.std.proofs.Common.{◌∷◌, codes, refl, ap, arith, rules}
 use Rattle.std.proofs.lemmas.Result.{IfOk-weaker}
 use Rattle.std.proofs.lemmas.Slice.Eq.{text_from_reads}
 use Rattle.session_known.specs.declared.script.Line.TheVariants as lines
-use Rattle.report_lines.specs.Text.{key_name}
+use Rattle.session_known.specs.Script.{key_name}
 use Rattle.report_reader.proofs.ReadAnswerLemmas.{answer_same, got_read, again_read}
-use Rattle.report_reader.proofs.ReadCellWords.{texts}
+use Rattle.script_reader.specs.Words.{texts}
 use Rattle.report_reader.proofs.answers.read_get_end.Goals as goal
 
 pub returns-in-get : goal.returns-in-get

@@ -1,7 +1,7 @@
 use Rattle.std.proofs.Common.{◌∷◌, codes, refl, ap, ◌∙◌}
 use Rattle.session_known.specs.declared.script.Line.TheVariants as lines
 use Rattle.report_reader.proofs.ReadAnswerLemmas.{answer_same}
-use Rattle.report_reader.proofs.ReadCellWords.{texts}
+use Rattle.script_reader.specs.Words.{texts}
 use Rattle.report_reader.proofs.answers.read_put.Goals as goal
 
 pub returns : goal.returns

@@ -1,6 +1,6 @@
 use Rattle.std.proofs.Common.{◌∷◌, codes, refl, sym, ap, ◌∙◌}
 use Rattle.session_known.specs.declared.script.Line.TheVariants as lines
-use Rattle.report_lines.specs.Text.{key_name}
+use Rattle.session_known.specs.Script.{key_name}
 use Rattle.report_reader.proofs.ReadAnswerLemmas.{answer_same}
 use Rattle.report_reader.proofs.ReadCellWords.{one_text, texts_one, texts_three}
 use Rattle.report_reader.proofs.answers.read_put_end.Goals as goal

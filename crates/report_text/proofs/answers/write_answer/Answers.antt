@@ -1,7 +1,7 @@
 use Rattle.std.proofs.Common.{[], ◌∷◌}
 use Rattle.std.specs.Fmt.{decimal}
 use Rattle.outside.proofs.GatheringLemmas.{Adds-as}
-use Rattle.report_lines.specs.Text.{key_name, session_name}
+use Rattle.session_known.specs.Script.{key_name, session_name}
 use Rattle.report_text.proofs.ReportLemmas.{answer_line}
 use Rattle.report_text.proofs.WritesLemmas.{Adds-line, Adds-words}
 use Rattle.report_text.proofs.answers.write_answer.Goals as goal

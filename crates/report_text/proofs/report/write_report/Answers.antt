@@ -1,21 +1,15 @@
-use Rattle.std.proofs.Common.{length, ap, sym, subst, rules}
-use Rattle.std.specs.List.{All, AllZip, flat_map}
-use Rattle.session_known.specs.Script.{IsOneOf}
+use Rattle.std.proofs.Common.{ap, sym, subst, rules}
+use Rattle.std.specs.List.{AllZip, flat_map}
 use Rattle.outside.proofs.GatheringLemmas.{Adds-as, Adds-then, Adds-wrote, Adds-cause}
 use Rattle.report_lines.specs.Text.{sessions_lines, line_text, final_words}
 use Rattle.report_text.specs.Writes.{MayAnswer}
-use Rattle.report_text.proofs.ReportLemmas.{report_text, report_may, finals_keys}
+use Rattle.report_text.proofs.ReportLemmas.{report_text, report_may}
 use Rattle.report_text.proofs.report.write_report.Goals as goal
 
 pub write_sessions-requires : goal.write_sessions-requires
 write_sessions-requires g c =
     let script = c.args.script.now in
     subst (AllZip (λ plan answers. AllZip (MayAnswer script) plan.lines answers) script.sessions) (sym c.as_slice.ensures) (report_may script c.requires.valid.0 c.args.report.now c.requires.valid.1 c.requires.valid.2)
-
-pub write_finals-requires-clause-keys : goal.write_finals-requires-clause-keys
-write_finals-requires-clause-keys g c =
-    let script = c.args.script.now in
-    subst (All (λ cell. IsOneOf (length script.config.keys) cell.key)) (sym c.as_slice-2.ensures) (finals_keys script c.requires.valid.0 c.args.report.now c.requires.valid.2)
 
 pub returns-clause-wrote : goal.returns-clause-wrote
 returns-clause-wrote g c =

@@ -3,7 +3,7 @@ use Rattle.std.proofs.lemmas.List.{length-map}
 use Rattle.script_reader.specs.Faults.{context_of}
 use Rattle.script_reader.specs.Grammar.{IsScriptOf, setting_of}
 use Rattle.script_reader.specs.LineReads.{IsWhyNoLines}
-use Rattle.script_reader.proofs.GrammarLemmas.{line_behind, read_none, read_more, read_fault, read_missing, read_script}
+use Rattle.script_reader.proofs.GrammarLemmas.{line_of_references, read_none, read_more, read_fault, read_missing, read_script}
 use Rattle.script_reader.proofs.grammar.read_lines.Goals as goal
 
 pub loop-i-init : goal.loop-i-init
@@ -14,13 +14,13 @@ loop-i-init c =
 pub returns-in-Err-clause-refused : goal.returns-in-Err-clause-refused
 returns-in-Err-clause-refused c =
     let lines : List (List ℕ) = map (λ line. line.now) c.args.lines.now in
-    let fault = read_fault (setting_of c.args.built lines) lines c.loop-i.i c.loop-i.reader c.loop-i.ended _ c.in-Err.fault c.loop-i.invariant (omega (arith, length-map c.args.lines.now (λ (line : Bor (List ℕ)). line.now))) (line_behind c.args.lines.now c.loop-i.i _ c.loop-i-test.true) c.in-Err.ensures in
-    subst (IsWhyNoLines (setting_of c.args.built lines) lines) (sym c.told.ensures) fault
+    let fault = read_fault (setting_of c.args.built lines) lines c.loop-i.i c.loop-i.reader c.loop-i.ended _ c.in-Err.fault c.loop-i.invariant (omega (arith, length-map c.args.lines.now (λ (line : Bor (List ℕ)). line.now))) (line_of_references c.args.lines.now c.loop-i.i _ c.loop-i-test.true) c.in-Err.ensures in
+    subst (IsWhyNoLines (setting_of c.args.built lines) lines) (sym c.fault_at.ensures) fault
 
 pub loop-i-preserved : goal.loop-i-preserved
 loop-i-preserved c =
     let lines : List (List ℕ) = map (λ line. line.now) c.args.lines.now in
-    read_more (setting_of c.args.built lines) lines c.loop-i.i c.loop-i.reader c.read_line.new.reader c.loop-i.ended c.in-Ok.now _ c.loop-i.invariant (omega (arith, length-map c.args.lines.now (λ (line : Bor (List ℕ)). line.now))) (line_behind c.args.lines.now c.loop-i.i _ c.loop-i-test.true) c.in-Ok.ensures
+    read_more (setting_of c.args.built lines) lines c.loop-i.i c.loop-i.reader c.read_line.new.reader c.loop-i.ended c.in-Ok.now _ c.loop-i.invariant (omega (arith, length-map c.args.lines.now (λ (line : Bor (List ℕ)). line.now))) (line_of_references c.args.lines.now c.loop-i.i _ c.loop-i-test.true) c.in-Ok.ensures
 
 pub returns-then-not-ended-clause-refused : goal.returns-then-not-ended-clause-refused
 returns-then-not-ended-clause-refused c =

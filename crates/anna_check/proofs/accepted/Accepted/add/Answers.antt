@@ -1,7 +1,7 @@
 use Rattle.std.proofs.Common.{rules, ◌≡◌, ◌-◌, List, [], ◌∷◌, ◌++◌, length, slice_index_or, slice_set, sym, ap, subst, ◌∙◌, arith}
 use Rattle.std.proofs.lemmas.List.{get_or_default}
 use Rattle.composed_value.specs.declared.kind.Kind.TheVariants.{Max}
-use Rattle.session_known.specs.Script.{IsOneOf}
+use Rattle.placement.specs.Config.{IsOneOf}
 use Rattle.anna_check.specs.ByKey.{OfKey, of_key, kinds_of, AreByKey}
 use Rattle.anna_check.proofs.ByKeyLemmas.{with_put, kinds_kept, put_more}
 use Rattle.anna_check.proofs.accepted.Accepted.add.Goals as goal

@@ -1,7 +1,7 @@
 use Rattle.std.proofs.Common.{rules, ◌≡◌, ◌-◌, [], ◌∷◌, ◌++◌, length, slice_index_or, slice_set, sym, ap, subst, ◌∙◌, arith}
 use Rattle.std.proofs.lemmas.List.{get_or_default}
 use Rattle.clock_lattice.specs.Needs.{IsNeeds, joined_needs, one_need}
-use Rattle.session_known.specs.Script.{IsOneOf}
+use Rattle.placement.specs.Config.{IsOneOf}
 use Rattle.anna_check.specs.ClocksSeen.{AreJoined}
 use Rattle.anna_check.proofs.ClocksSeenLemmas.{joined_more}
 use Rattle.anna_check.proofs.clocks_seen.ClocksSeen.note.Goals as goal

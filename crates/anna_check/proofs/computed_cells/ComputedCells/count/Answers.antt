@@ -5,7 +5,7 @@ use Rattle.std.proofs.lemmas.List.{length-map, map-set, get_or-map, set-get_or}
 use Rattle.std.proofs.lemmas.Result.{on_ok_weaker, on_err_weaker}
 use Rattle.composed_value.specs.Cell.{PlainCell, empty_cell}
 use Rattle.composed_value.specs.declared.kind.Kind.TheVariants.{Max}
-use Rattle.session_known.specs.Script.{IsOneOf}
+use Rattle.placement.specs.Config.{IsOneOf}
 use Rattle.anna_check.specs.Counted.{cell_at, with_cell}
 use Rattle.anna_check.proofs.computed_cells.ComputedCells.count.Goals as goal
 

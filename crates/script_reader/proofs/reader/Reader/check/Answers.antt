@@ -4,7 +4,7 @@ use Rattle.script_reader.proofs.reader.Reader.check.Goals as goal
 use Rattle.script_reader.proofs.reader.Reader.check.Goals.{else-not-self-via-then-not-self+else-not-is_header, else-not-self-via-else-not-self, then-not-suits-via-then-not-suits, then-not-suits-via-else-not-suits+then-not-is_served}
 use Rattle.script_reader.specs.Faults.{suits, lacks_word}
 use Rattle.script_reader.proofs.FaultsLaws.{code_header, code_word}
-use Rattle.script_reader.specs.Reader.{seen}
+use Rattle.script_reader.specs.Reader.{so_far}
 
 pub returns-then-not-is_header : goal.returns-then-not-is_header
 returns-then-not-is_header c = code_header _ _ _ (λ i. not (c.if-not-self.true i) && not (sym c.if-not-is_header.ensures i))
@@ -23,9 +23,9 @@ returns-in_default c = elim c.else-not-self.branch [
 
 pub returns-then-not-suits : goal.returns-then-not-suits
 returns-then-not-suits c =
-    let word : lacks_word (seen c.args.self.now) c.args.keyword (map (λ word. word.now) c.args.words.now) ≡ true = elim c.then-not-suits.branch [
-      | then-not-suits-via-then-not-suits w ↦ unsuited (seen c.args.self.now) c.args.keyword _ (ap (λ level. suits level c.args.keyword (map (λ word. word.now) c.args.words.now)) (sym c.level.ensures) ∙ sym w.if-not-suits.ensures)
-      | then-not-suits-via-else-not-suits+then-not-is_served w ↦ unserved (seen c.args.self.now) c.args.keyword _ (sym w.if-not-is_served.ensures)
+    let word : lacks_word (so_far c.args.self.now) c.args.keyword (map (λ word. word.now) c.args.words.now) ≡ true = elim c.then-not-suits.branch [
+      | then-not-suits-via-then-not-suits w ↦ unsuited (so_far c.args.self.now) c.args.keyword _ (ap (λ level. suits level c.args.keyword (map (λ word. word.now) c.args.words.now)) (sym c.level.ensures) ∙ sym w.if-not-suits.ensures)
+      | then-not-suits-via-else-not-suits+then-not-is_served w ↦ unserved (so_far c.args.self.now) c.args.keyword _ (sym w.if-not-is_served.ensures)
     ] in
     elim c.else-not-self.branch [
       | else-not-self-via-then-not-self+else-not-is_header w ↦ code_word _ _ _ (header_stands _ _ (sym w.if-not-is_header.ensures)) word

@@ -2,7 +2,7 @@ use Rattle.std.proofs.Common.{[], ◌∷◌, map, refl, ap, ◌∙◌}
 use Rattle.std.proofs.lemmas.Result.{err_from_is_err_and}
 use Rattle.script_reader.proofs.CommandLemmas.{shown, stands_at, reads_at, header_read}
 use Rattle.script_reader.proofs.reader.Reader.take.Goals as goal
-use Rattle.script_reader.specs.Reader.{seen}
+use Rattle.script_reader.specs.Reader.{so_far}
 use Rattle.script_reader.specs.declared.entry.Bare.TheVariants as bares
 use Rattle.script_reader.specs.declared.entry.Entry.TheVariants as entries
 use Rattle.script_reader.specs.declared.keyword.Keyword.TheVariants.{Workers, Factor, Round, Key, Session, Put, Get, Await, Begin, Commit, Abort, End}
@@ -10,7 +10,7 @@ use Rattle.script_reader.specs.declared.keyword.Keyword.TheVariants.{Workers, Fa
 pub take_workers-requires : goal.take_workers-requires
 take_workers-requires c =
     let shows = shown (entries.Workers c.in-Workers.number) c.args.keyword (map (λ word. word.now) c.args.words.now) c.in-Workers.is c.in_ok-check.ensures.0 in
-    record { kept = c.requires.kept; stands = stands_at (seen c.args.self.now) _ Workers _ (c.in-Workers.number.now ∷ []) shows.0 shows.1 c.in_ok-check.ensures.1 }
+    record { kept = c.requires.kept; stands = stands_at (so_far c.args.self.now) _ Workers _ (c.in-Workers.number.now ∷ []) shows.0 shows.1 c.in_ok-check.ensures.1 }
 
 pub returns-in-Workers : goal.returns-in-Workers
 returns-in-Workers c =
@@ -20,7 +20,7 @@ returns-in-Workers c =
 pub take_factor-requires : goal.take_factor-requires
 take_factor-requires c =
     let shows = shown (entries.Factor c.in-Factor.number) c.args.keyword (map (λ word. word.now) c.args.words.now) c.in-Factor.is c.in_ok-check.ensures.0 in
-    record { kept = c.requires.kept; stands = stands_at (seen c.args.self.now) _ Factor _ (c.in-Factor.number.now ∷ []) shows.0 shows.1 c.in_ok-check.ensures.1 }
+    record { kept = c.requires.kept; stands = stands_at (so_far c.args.self.now) _ Factor _ (c.in-Factor.number.now ∷ []) shows.0 shows.1 c.in_ok-check.ensures.1 }
 
 pub returns-in-Factor : goal.returns-in-Factor
 returns-in-Factor c =
@@ -30,7 +30,7 @@ returns-in-Factor c =
 pub take_round-requires : goal.take_round-requires
 take_round-requires c =
     let shows = shown (entries.Round c.in-Round.number) c.args.keyword (map (λ word. word.now) c.args.words.now) c.in-Round.is c.in_ok-check.ensures.0 in
-    record { kept = c.requires.kept; stands = stands_at (seen c.args.self.now) _ Round _ (c.in-Round.number.now ∷ []) shows.0 shows.1 c.in_ok-check.ensures.1 }
+    record { kept = c.requires.kept; stands = stands_at (so_far c.args.self.now) _ Round _ (c.in-Round.number.now ∷ []) shows.0 shows.1 c.in_ok-check.ensures.1 }
 
 pub returns-in-Round : goal.returns-in-Round
 returns-in-Round c =
@@ -40,7 +40,7 @@ returns-in-Round c =
 pub take_get-requires : goal.take_get-requires
 take_get-requires c =
     let shows = shown (entries.Get c.in-Get.key) c.args.keyword (map (λ word. word.now) c.args.words.now) c.in-Get.is c.in_ok-check.ensures.0 in
-    record { kept = c.requires.kept; stands = stands_at (seen c.args.self.now) _ Get _ (c.in-Get.key.now ∷ []) shows.0 shows.1 c.in_ok-check.ensures.1 }
+    record { kept = c.requires.kept; stands = stands_at (so_far c.args.self.now) _ Get _ (c.in-Get.key.now ∷ []) shows.0 shows.1 c.in_ok-check.ensures.1 }
 
 pub returns-in-Get : goal.returns-in-Get
 returns-in-Get c =
@@ -50,7 +50,7 @@ returns-in-Get c =
 pub take_get_from-requires : goal.take_get_from-requires
 take_get_from-requires c =
     let shows = shown (entries.GetFrom c.in-GetFrom.key c.in-GetFrom.worker) c.args.keyword (map (λ word. word.now) c.args.words.now) c.in-GetFrom.is c.in_ok-check.ensures.0 in
-    record { kept = c.requires.kept; stands = stands_at (seen c.args.self.now) _ Get _ (c.in-GetFrom.key.now ∷ c.in-GetFrom.worker.now ∷ []) shows.0 shows.1 c.in_ok-check.ensures.1 }
+    record { kept = c.requires.kept; stands = stands_at (so_far c.args.self.now) _ Get _ (c.in-GetFrom.key.now ∷ c.in-GetFrom.worker.now ∷ []) shows.0 shows.1 c.in_ok-check.ensures.1 }
 
 pub returns-in-GetFrom : goal.returns-in-GetFrom
 returns-in-GetFrom c =
@@ -60,7 +60,7 @@ returns-in-GetFrom c =
 pub take_await-requires : goal.take_await-requires
 take_await-requires c =
     let shows = shown (entries.Await c.in-Await.key c.in-Await.session c.in-Await.count) c.args.keyword (map (λ word. word.now) c.args.words.now) c.in-Await.is c.in_ok-check.ensures.0 in
-    record { kept = c.requires.kept; stands = stands_at (seen c.args.self.now) _ Await _ (c.in-Await.key.now ∷ c.in-Await.session.now ∷ c.in-Await.count.now ∷ []) shows.0 shows.1 c.in_ok-check.ensures.1 }
+    record { kept = c.requires.kept; stands = stands_at (so_far c.args.self.now) _ Await _ (c.in-Await.key.now ∷ c.in-Await.session.now ∷ c.in-Await.count.now ∷ []) shows.0 shows.1 c.in_ok-check.ensures.1 }
 
 pub returns-in-Await : goal.returns-in-Await
 returns-in-Await c =
@@ -70,7 +70,7 @@ returns-in-Await c =
 pub take_begin-requires : goal.take_begin-requires
 take_begin-requires c =
     let shows = shown (entries.Bare bares.Begin) c.args.keyword (map (λ word. word.now) c.args.words.now) (c.in-Bare-Begin.is ∙ ap entries.Bare c.in-Bare-Begin.field-0-is) c.in_ok-check.ensures.0 in
-    record { kept = c.requires.kept; stands = stands_at (seen c.args.self.now) _ Begin _ [] shows.0 shows.1 c.in_ok-check.ensures.1 }
+    record { kept = c.requires.kept; stands = stands_at (so_far c.args.self.now) _ Begin _ [] shows.0 shows.1 c.in_ok-check.ensures.1 }
 
 pub returns-in-Bare-Begin : goal.returns-in-Bare-Begin
 returns-in-Bare-Begin c =
@@ -80,7 +80,7 @@ returns-in-Bare-Begin c =
 pub take_commit-requires : goal.take_commit-requires
 take_commit-requires c =
     let shows = shown (entries.Bare bares.Commit) c.args.keyword (map (λ word. word.now) c.args.words.now) (c.in-Bare-Commit.is ∙ ap entries.Bare c.in-Bare-Commit.field-0-is) c.in_ok-check.ensures.0 in
-    record { kept = c.requires.kept; stands = stands_at (seen c.args.self.now) _ Commit _ [] shows.0 shows.1 c.in_ok-check.ensures.1 }
+    record { kept = c.requires.kept; stands = stands_at (so_far c.args.self.now) _ Commit _ [] shows.0 shows.1 c.in_ok-check.ensures.1 }
 
 pub returns-in-Bare-Commit : goal.returns-in-Bare-Commit
 returns-in-Bare-Commit c =
@@ -90,7 +90,7 @@ returns-in-Bare-Commit c =
 pub take_abort-requires : goal.take_abort-requires
 take_abort-requires c =
     let shows = shown (entries.Bare bares.Abort) c.args.keyword (map (λ word. word.now) c.args.words.now) (c.in-Bare-Abort.is ∙ ap entries.Bare c.in-Bare-Abort.field-0-is) c.in_ok-check.ensures.0 in
-    record { kept = c.requires.kept; stands = stands_at (seen c.args.self.now) _ Abort _ [] shows.0 shows.1 c.in_ok-check.ensures.1 }
+    record { kept = c.requires.kept; stands = stands_at (so_far c.args.self.now) _ Abort _ [] shows.0 shows.1 c.in_ok-check.ensures.1 }
 
 pub returns-in-Bare-Abort : goal.returns-in-Bare-Abort
 returns-in-Bare-Abort c =
@@ -100,7 +100,7 @@ returns-in-Bare-Abort c =
 pub take_end-requires : goal.take_end-requires
 take_end-requires c =
     let shows = shown (entries.Bare bares.End) c.args.keyword (map (λ word. word.now) c.args.words.now) (c.in-Bare-End.is ∙ ap entries.Bare c.in-Bare-End.field-0-is) c.in_ok-check.ensures.0 in
-    record { kept = c.requires.kept; stands = stands_at (seen c.args.self.now) _ End _ [] shows.0 shows.1 c.in_ok-check.ensures.1 }
+    record { kept = c.requires.kept; stands = stands_at (so_far c.args.self.now) _ End _ [] shows.0 shows.1 c.in_ok-check.ensures.1 }
 
 pub returns-in-Bare-End : goal.returns-in-Bare-End
 returns-in-Bare-End c =
@@ -110,7 +110,7 @@ returns-in-Bare-End c =
 pub take_put-requires : goal.take_put-requires
 take_put-requires c =
     let shows = shown (entries.Put c.in-Put.key c.in-Put.payload) c.args.keyword (map (λ word. word.now) c.args.words.now) c.in-Put.is c.in_ok-check.ensures.0 in
-    record { kept = c.requires.kept; stands = stands_at (seen c.args.self.now) _ Put _ (c.in-Put.key.now ∷ map (λ word. word.now) c.in-Put.payload.now) shows.0 shows.2 c.in_ok-check.ensures.1 }
+    record { kept = c.requires.kept; stands = stands_at (so_far c.args.self.now) _ Put _ (c.in-Put.key.now ∷ map (λ word. word.now) c.in-Put.payload.now) shows.0 shows.2 c.in_ok-check.ensures.1 }
 
 pub returns-in-Put : goal.returns-in-Put
 returns-in-Put c =
@@ -120,12 +120,12 @@ returns-in-Put c =
 pub returns-in-Key : goal.returns-in-Key
 returns-in-Key c =
     let shows = shown (entries.Key c.in-Key.name c.in-Key.kind c.in-Key.pins) c.args.keyword (map (λ word. word.now) c.args.words.now) c.in-Key.is c.in_ok-check.ensures.0 in
-    reads_at c.args.self.now c.take_key.new.self c.take_key.result _ Key _ (map (λ word. word.now) c.args.words.now) shows.0 refl (c.take_key.ensures (map (λ word. word.now) c.args.words.now) shows.1 (stands_at (seen c.args.self.now) _ Key _ (map (λ word. word.now) c.args.words.now) shows.0 refl c.in_ok-check.ensures.1))
+    reads_at c.args.self.now c.take_key.new.self c.take_key.result _ Key _ (map (λ word. word.now) c.args.words.now) shows.0 refl (c.take_key.ensures (map (λ word. word.now) c.args.words.now) shows.1 (stands_at (so_far c.args.self.now) _ Key _ (map (λ word. word.now) c.args.words.now) shows.0 refl c.in_ok-check.ensures.1))
 
 pub returns-in-Session : goal.returns-in-Session
 returns-in-Session c =
     let shows = shown (entries.Session c.in-Session.name c.in-Session.level) c.args.keyword (map (λ word. word.now) c.args.words.now) c.in-Session.is c.in_ok-check.ensures.0 in
-    reads_at c.args.self.now c.take_session.new.self c.take_session.result _ Session _ (map (λ word. word.now) c.args.words.now) shows.0 refl (c.take_session.ensures (map (λ word. word.now) c.args.words.now) shows.1 (stands_at (seen c.args.self.now) _ Session _ (map (λ word. word.now) c.args.words.now) shows.0 refl c.in_ok-check.ensures.1))
+    reads_at c.args.self.now c.take_session.new.self c.take_session.result _ Session _ (map (λ word. word.now) c.args.words.now) shows.0 refl (c.take_session.ensures (map (λ word. word.now) c.args.words.now) shows.1 (stands_at (so_far c.args.self.now) _ Session _ (map (λ word. word.now) c.args.words.now) shows.0 refl c.in_ok-check.ensures.1))
 
 pub returns-in-Header : goal.returns-in-Header
 returns-in-Header c =

@@ -4,7 +4,7 @@ use Rattle.script_reader.proofs.CommandLemmas.{command_read, in_session, holds_n
 use Rattle.script_reader.proofs.reader.Reader.take_await.Goals.{then-not-is_spelling-via-then-not-is_spelling, then-not-is_spelling-via-else-not-is_spelling+then-not-is_spelling-2}
 use Rattle.script_reader.specs.Faults.{keys_of}
 use Rattle.script_reader.proofs.FaultsLaws.{code_number, code_name, code_unknown, code_limit, code_none}
-use Rattle.script_reader.specs.Reader.{seen}
+use Rattle.script_reader.specs.Reader.{so_far}
 use Rattle.script_reader.specs.Said.{place_of, number_in, session_number}
 use Rattle.script_reader.specs.Words.{is_name, number_of}
 use Rattle.script_reader.specs.declared.keyword.Keyword.TheVariants.{Await}
@@ -30,9 +30,9 @@ returns-then-not-has_room c = code_limit _ _ _ c.requires.stands.header c.requir
 
 pub returns : goal.returns
 returns c =
-    let key : number_in (keys_of (seen c.args.self.now)) c.args.key.now ≡ c.in-Some-find_key.place + 1 = found_number (seen c.args.self.now) c.args.key.now _ _ c.in-Some-find_key.ensures in
+    let key : number_in (keys_of (so_far c.args.self.now)) c.args.key.now ≡ c.in-Some-find_key.place + 1 = found_number (so_far c.args.self.now) c.args.key.now _ _ c.in-Some-find_key.ensures in
     let session : session_number c.args.self.now.named c.args.session.now ≡ c.min.result + 1 = ap (λ place. min (unwrap_or place 0 + 1) 65535) (sym c.in-Some-place_of.ensures) ∙ omega arith in
     let count : number_of c.args.count.now ≡ c.in-Some.count = ap (λ number. unwrap_or number 0) (sym c.in-Some.ensures) in
-    let faultless = code_none (seen c.args.self.now) Await (c.args.key.now ∷ c.args.session.now ∷ c.args.count.now ∷ []) c.requires.stands.header c.requires.stands.word (ap (λ number. not (is_some number)) (sym c.in-Some.ensures)) (both_spelled _ _ c.if-not-is_spelling.ensures c.if-not-is_spelling-2.ensures) refl (λ i. not (is_some (c.in-Some-find_key.ensures.place_is i) && is_some (sym c.in-Some-place_of.ensures i))) refl (fails_not _ c.if-not-has_room.ensures) refl in
+    let faultless = code_none (so_far c.args.self.now) Await (c.args.key.now ∷ c.args.session.now ∷ c.args.count.now ∷ []) c.requires.stands.header c.requires.stands.word (ap (λ number. not (is_some number)) (sym c.in-Some.ensures)) (both_spelled _ _ c.if-not-is_spelling.ensures c.if-not-is_spelling-2.ensures) refl (λ i. not (is_some (c.in-Some-find_key.ensures.place_is i) && is_some (sym c.in-Some-place_of.ensures i))) refl (fails_not _ c.if-not-has_room.ensures) refl in
     command_read c.args.self.now c.add.new.self c.add.result Await (c.args.key.now ∷ c.args.session.now ∷ c.args.count.now ∷ []) (lines.Await (c.in-Some-find_key.place + 1) (c.min.result + 1) c.in-Some.count) c.requires.kept (in_session _ _ c.requires.stands.word)
     (record { factor = refl; round = refl; script = refl; said = λ i. lines.Await (key i) (session i) (count i); begun = refl; faultless = faultless }) c.add.ensures

@@ -3,7 +3,7 @@ use Rattle.std.proofs.lemmas.Bool.{not-true, not-false}
 use Rattle.std.proofs.lemmas.List.Elements.{All-same}
 use Rattle.std.proofs.lemmas.Result.{err_from_is_err_and}
 use Rattle.script_reader.specs.Faults.{has_repeat, code_of}
-use Rattle.script_reader.specs.Reader.{seen}
+use Rattle.script_reader.specs.Reader.{so_far}
 use Rattle.script_reader.specs.declared.keyword.Keyword.TheVariants as keywords
 use Rattle.script_reader.proofs.PinLemmas.{either_first}
 use Rattle.script_reader.proofs.DeclaredLemmas.{name_fault, numbers_read, numbers_unread, either_second, neither, declared_is, key_number, key_name, key_twice, key_unknown, key_limit, key_read, few_workers, workers_told}
@@ -17,20 +17,20 @@ words_of words = map (λ word. word.now) words
 pub returns-in_default : goal.returns-in_default
 unfolding words_of
 returns-in_default c = λ words are stands.
-    key_number (seen c.args.self.now) words c.args.name.now c.args.kind (words_of c.args.pin_words.now) are stands (numbers_unread (words_of c.args.pin_words.now) c.in_ok-numbers.field-0 c.in_default.is c.in_ok-numbers.ensures)
+    key_number (so_far c.args.self.now) words c.args.name.now c.args.kind (words_of c.args.pin_words.now) are stands (numbers_unread (words_of c.args.pin_words.now) c.in_ok-numbers.field-0 c.in_default.is c.in_ok-numbers.ensures)
 
 pub returns-in_err-key_name : goal.returns-in_err-key_name
 unfolding words_of
 returns-in_err-key_name c =
     let p = err_from_is_err_and c.from_residual-in_err-key_name.result c.from_residual-in_err-key_name.ensures.1 in
     rw (p.1, p.2) (λ words are stands.
-    name_fault c.args.name.now (code_of (seen c.args.self.now) keywords.Key words) c.in_err-key_name.field-0.0 c.in_err-key_name.ensures
-    (key_name (seen c.args.self.now) words c.args.name.now c.args.kind (words_of c.args.pin_words.now) c.in-Some.numbers.items are stands (numbers_read (words_of c.args.pin_words.now) c.in_ok-numbers.field-0 c.in-Some.numbers c.in-Some.is c.in_ok-numbers.ensures)))
+    name_fault c.args.name.now (code_of (so_far c.args.self.now) keywords.Key words) c.in_err-key_name.field-0.0 c.in_err-key_name.ensures
+    (key_name (so_far c.args.self.now) words c.args.name.now c.args.kind (words_of c.args.pin_words.now) c.in-Some.numbers.items are stands (numbers_read (words_of c.args.pin_words.now) c.in_ok-numbers.field-0 c.in-Some.numbers c.in-Some.is c.in_ok-numbers.ensures)))
 
 pub returns-then-is_some : goal.returns-then-is_some
 unfolding words_of
 returns-then-is_some c = λ words are stands.
-    key_twice (seen c.args.self.now) words c.args.name.now c.args.kind (words_of c.args.pin_words.now) c.in-Some.numbers.items are stands (numbers_read (words_of c.args.pin_words.now) c.in_ok-numbers.field-0 c.in-Some.numbers c.in-Some.is c.in_ok-numbers.ensures)
+    key_twice (so_far c.args.self.now) words c.args.name.now c.args.kind (words_of c.args.pin_words.now) c.in-Some.numbers.items are stands (numbers_read (words_of c.args.pin_words.now) c.in_ok-numbers.field-0 c.in-Some.numbers c.in-Some.is c.in_ok-numbers.ensures)
     c.in_ok-key_name.ensures.1
     (elim c.then-is_some.branch [
       | then-is_some-via-then-is_some w ↦ either_first _ _ (declared_is c.args.self.now c.args.name.now c.requires.kept ∙ ap is_some (sym c.place_of.ensures) ∙ sym c.is_some.ensures ∙ w.if-is_some.true)
@@ -40,7 +40,7 @@ returns-then-is_some c = λ words are stands.
 pub returns-then-not-are_workers : goal.returns-then-not-are_workers
 unfolding words_of
 returns-then-not-are_workers c = λ words are stands.
-    key_unknown (seen c.args.self.now) words c.args.name.now c.args.kind (words_of c.args.pin_words.now) c.in-Some.numbers.items are stands (numbers_read (words_of c.args.pin_words.now) c.in_ok-numbers.field-0 c.in-Some.numbers c.in-Some.is c.in_ok-numbers.ensures)
+    key_unknown (so_far c.args.self.now) words c.args.name.now c.args.kind (words_of c.args.pin_words.now) c.in-Some.numbers.items are stands (numbers_read (words_of c.args.pin_words.now) c.in_ok-numbers.field-0 c.in-Some.numbers c.in-Some.is c.in_ok-numbers.ensures)
     c.in_ok-key_name.ensures.1
     (neither _ _
     (declared_is c.args.self.now c.args.name.now c.requires.kept ∙ ap is_some (sym c.place_of.ensures) ∙ sym c.is_some.ensures ∙ c.if-is_some.false)
@@ -50,7 +50,7 @@ returns-then-not-are_workers c = λ words are stands.
 pub returns-then-as_slice-ge128 : goal.returns-then-as_slice-ge128
 unfolding words_of
 returns-then-as_slice-ge128 c = λ words are stands.
-    key_limit (seen c.args.self.now) words c.args.name.now c.args.kind (words_of c.args.pin_words.now) c.in-Some.numbers.items are stands (numbers_read (words_of c.args.pin_words.now) c.in_ok-numbers.field-0 c.in-Some.numbers c.in-Some.is c.in_ok-numbers.ensures)
+    key_limit (so_far c.args.self.now) words c.args.name.now c.args.kind (words_of c.args.pin_words.now) c.in-Some.numbers.items are stands (numbers_read (words_of c.args.pin_words.now) c.in_ok-numbers.field-0 c.in-Some.numbers c.in-Some.is c.in_ok-numbers.ensures)
     c.in_ok-key_name.ensures.1
     (neither _ _
     (declared_is c.args.self.now c.args.name.now c.requires.kept ∙ ap is_some (sym c.place_of.ensures) ∙ sym c.is_some.ensures ∙ c.if-is_some.false)
