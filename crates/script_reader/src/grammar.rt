@@ -33,7 +33,8 @@ pub const MOST_BYTES: usize = 1_048_576;
 fn statement<'w, 'a>(words: &'w [&'a [u8]]) -> Option<(Keyword, &'w [&'a [u8]])>
     ensures { MatchOption result
         (statement_in (texts words.now) ≡ None)
-        (λ found. statement_in (texts words.now) ≡ Some (record { keyword = found.0; words = texts found.1.now })) }
+        (λ found. statement_in (texts words.now)
+        ≡ Some (record { keyword = found.0; words = texts found.1.now })) }
 {
     let [first, rest @ ..] = words else {
         return None;

@@ -20,7 +20,8 @@ pub(crate) fn is_within(least: u64, greatest: u64, n: u64) -> bool
 pub(crate) fn numbers(alloc: Global, words: &[&[u8]]) -> Result<Option<Vec<u64>>, NoMemory>
     ensures { IfOk result (λ numbers. MatchOption numbers
         (list_any (λ word. not (is_number word)) (texts words.now) ≡ true)
-        (λ numbers. (list_any (λ word. not (is_number word)) (texts words.now) ≡ false) × (numbers.items ≡ map number_of (texts words.now)))) }
+        (λ numbers. (list_any (λ word. not (is_number word)) (texts words.now) ≡ false)
+        × (numbers.items ≡ map number_of (texts words.now)))) }
 {
     let mut numbers = Vec::new(alloc);
     for word in words {

@@ -130,7 +130,8 @@ impl<'a> Reader<'a> {
     /// Tells a line apart, where it may stand here with its words.
     fn check<'w>(&self, keyword: Keyword, words: &'w [&'a [u8]]) -> Result<Entry<'w, 'a>, LineFault>
         ensures { MatchResult result
-            (λ entry. Shows entry keyword (texts words.now) × SuitsPlace (so_far self.now) keyword (texts words.now))
+            (λ entry. Shows entry keyword (texts words.now)
+            × SuitsPlace (so_far self.now) keyword (texts words.now))
             (IsFaultOf (code_of (so_far self.now) keyword (texts words.now))) }
     {
         if !self.has_header && !is_header(keyword, words) {
