@@ -74,9 +74,7 @@ fn read_put(script: &Script, level: Level, key: u16, words: &[&[u8]]) -> Option<
     ensures { (payload : Payload) → Reads (Fits script.now level (lines.Put key payload))
         (answer_words script.now (lines.Put key payload)) (texts words.now) result }
 {
-    let Some((name, said)) = named(words, b"put") else {
-        return None;
-    };
+    let (name, said) = named(words, b"put")?;
     if !is_key(script, key, name) {
         return None;
     }
@@ -118,12 +116,8 @@ fn read_accepted(number: &[u8], lamport: &[u8]) -> Option<Answer>
         (answer_words script (lines.Put key payload))
         (codes "put" ∷ key_name script key ∷ number.now ∷ codes "at" ∷ lamport.now ∷ []) result }
 {
-    let Some(number) = read_number(number) else {
-        return None;
-    };
-    let Some(lamport) = read_number(lamport) else {
-        return None;
-    };
+    let number = read_number(number)?;
+    let lamport = read_number(lamport)?;
     Some(Answer::Put { number, lamport })
 }
 
@@ -269,9 +263,7 @@ fn read_commit(words: &[&[u8]]) -> Option<Answer>
         → Reads (Fits script level lines.Commit) (answer_words script lines.Commit)
         (texts words.now) result }
 {
-    let Some((word, words)) = named(words, b"commit") else {
-        return None;
-    };
+    let (word, words) = named(words, b"commit")?;
     match words {
         [] => read_unnumbered(word),
         [at, lamport] if *at == b"at".as_slice() => read_committed(word, lamport),
@@ -301,12 +293,8 @@ fn read_committed(puts: &[u8], lamport: &[u8]) -> Option<Answer>
         → Reads (Fits script level lines.Commit) (answer_words script lines.Commit)
         (codes "commit" ∷ puts.now ∷ codes "at" ∷ lamport.now ∷ []) result }
 {
-    let Some(puts) = read_small_number(puts) else {
-        return None;
-    };
-    let Some(lamport) = read_number(lamport) else {
-        return None;
-    };
+    let puts = read_small_number(puts)?;
+    let lamport = read_number(lamport)?;
     if puts == 0 {
         return None;
     }
@@ -322,9 +310,7 @@ fn read_abort(words: &[&[u8]]) -> Option<Answer>
     let Some((puts, [])) = named(words, b"abort") else {
         return None;
     };
-    let Some(puts) = read_small_number(puts) else {
-        return None;
-    };
+    let puts = read_small_number(puts)?;
     Some(Answer::Aborted { puts })
 }
 
@@ -428,9 +414,7 @@ fn again_parts<'a>(words: &[&'a [u8]]) -> Option<(&'a [u8], &'a [u8], &'a [u8])>
         → texts words.now ≡ again_of asks worker clock → ⊥)
         (λ parts. texts words.now ≡ again_of parts.0.now parts.1.now parts.2.now) }
 {
-    let Some((asks, words)) = named(words, b"after") else {
-        return None;
-    };
+    let (asks, words) = named(words, b"after")?;
     match words {
         [worker, first, clock] if *first == b"clock".as_slice() => Some((asks, worker, clock)),
         _ => None,

@@ -55,15 +55,9 @@ fn cell_parts<'a>(words: &[&'a [u8]]) -> Option<(&'a [u8], &'a [u8], &'a [u8])>
         → texts words.now ≡ parts_of_cell clock top value → ⊥)
         (λ parts. texts words.now ≡ parts_of_cell parts.0.now parts.1.now parts.2.now) }
 {
-    let Some((clock, words)) = named(words, b"clock") else {
-        return None;
-    };
-    let Some((top, words)) = named(words, b"top") else {
-        return None;
-    };
-    let Some((value, words)) = named(words, b"value") else {
-        return None;
-    };
+    let (clock, words) = named(words, b"clock")?;
+    let (top, words) = named(words, b"top")?;
+    let (value, words) = named(words, b"value")?;
     if !words.is_empty() {
         return None;
     }

@@ -57,15 +57,9 @@ fn read_count(script: &Script, text: &[u8]) -> Option<(u16, u64)>
     requires { IsValid script.now }
     ensures { Reads (IsCounted script.now) (count_text script.now) text.now result }
 {
-    let Some((name, digits)) = cut_at(text, b':') else {
-        return None;
-    };
-    let Some(session) = read_session(script, name) else {
-        return None;
-    };
-    let Some(count) = read_number(digits) else {
-        return None;
-    };
+    let (name, digits) = cut_at(text, b':')?;
+    let session = read_session(script, name)?;
+    let count = read_number(digits)?;
     Some((session, count))
 }
 

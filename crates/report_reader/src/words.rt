@@ -19,9 +19,7 @@ pub(crate) fn cut_at(text: &[u8], byte: u8) -> Option<(&[u8], &[u8])>
         (λ parts. (text.now ≡ parts.0.now ++ byte ∷ parts.1.now)
         × (list_any (λ b. b == byte) parts.0.now ≡ false)) }
 {
-    let Some(at) = text.iter().position(|b| *b == byte) else {
-        return None;
-    };
+    let at = text.iter().position(|b| *b == byte)?;
     Some((&text[..at], &text[at + 1..]))
 }
 
@@ -55,9 +53,7 @@ pub(crate) fn read_number(text: &[u8]) -> Option<u64>
 pub(crate) fn read_small_number(text: &[u8]) -> Option<u32>
     ensures { Reads (λ n. n < 2 ^ 32) decimal text.now result }
 {
-    let Some(number) = read_number(text) else {
-        return None;
-    };
+    let number = read_number(text)?;
     let Ok(small) = u32::try_from(number) else {
         return None;
     };
@@ -81,12 +77,9 @@ pub(crate) fn read_session(script: &Script, text: &[u8]) -> Option<u16>
         (session_name script.now) text.now result }
 {
     let sessions = script.sessions.as_slice();
-    let Some(place) = sessions
+    let place = sessions
         .iter()
-        .position(|plan| plan.name.as_bytes() == text)
-    else {
-        return None;
-    };
+        .position(|plan| plan.name.as_bytes() == text)?;
     Some((place + 1) as u16)
 }
 
@@ -97,9 +90,7 @@ pub(crate) fn read_key(script: &Script, text: &[u8]) -> Option<u16>
         (key_name script.now) text.now result }
 {
     let keys = script.config.keys.as_slice();
-    let Some(place) = keys.iter().position(|key| key.name.as_bytes() == text) else {
-        return None;
-    };
+    let place = keys.iter().position(|key| key.name.as_bytes() == text)?;
     Some((place + 1) as u16)
 }
 
@@ -111,9 +102,7 @@ pub(crate) fn read_worker(script: &Script, text: &[u8]) -> Option<u16>
     let [b'@', digits @ ..] = text else {
         return None;
     };
-    let Some(number) = read_number(digits) else {
-        return None;
-    };
+    let number = read_number(digits)?;
     let Ok(number) = u16::try_from(number) else {
         return None;
     };

@@ -1,19 +1,23 @@
-use Rattle.std.proofs.Common.{◌≡◌, rules, tests}
+use Rattle.std.proofs.Common.{◌≡◌, length, sym, ap, subst, ◌∙◌, rules, tests}
+use Rattle.std.specs.ControlFlow.{continue_value}
 use Rattle.std.proofs.lemmas.Iterator.{IsFirst-from_position, YieldsList-from_slice}
 use Rattle.std.proofs.lemmas.Option.{MatchOption-at_some, MatchOption-at_none}
+use Rattle.placement.specs.Config.{IsOneOf}
+use Rattle.session_known.specs.Script.{session_name}
+use Rattle.report_reader.specs.Reads.{Reads}
 use Rattle.report_reader.proofs.ReadWords.{no_name, name_found}
 use Rattle.report_reader.proofs.words.read_session.Goals as goal
 
-pub returns-in_default : goal.returns-in_default
-returns-in_default c =
+pub returns-in_err-place : goal.returns-in_err-place
+returns-in_err-place c =
     let text = c.args.text.now in
     let sessions = c.args.script.now.sessions in
-    let none = MatchOption-at_none _ _ c.in_default.is (IsFirst-from_position _ _ _ (λ plan. plan.name ≡ text) (λ plan. plan.name ≡ text → ⊥) c.position.ensures.ran (YieldsList-from_slice sessions cc) (λ x q k. search (rules, tests)) (λ x q k. search (rules, tests))) in
-    no_name (λ plan. plan.name) sessions text none
+    let none = MatchOption-at_none _ _ (c.branch-place.ensures ∙ ap continue_value c.in_err-place.is) (IsFirst-from_position _ _ _ (λ plan. plan.name ≡ text) (λ plan. plan.name ≡ text → ⊥) c.position.ensures.ran (YieldsList-from_slice sessions cc) (λ x q k. search (rules, tests)) (λ x q k. search (rules, tests))) in
+    subst (Reads (IsOneOf (length sessions)) (session_name c.args.script.now) text) (sym c.from_residual.ensures) (no_name (λ plan. plan.name) sessions text none)
 
 pub returns : goal.returns
 returns c =
     let text = c.args.text.now in
     let sessions = c.args.script.now.sessions in
-    let first = MatchOption-at_some _ _ _ c.in-Some.is (IsFirst-from_position _ _ _ (λ plan. plan.name ≡ text) (λ plan. plan.name ≡ text → ⊥) c.position.ensures.ran (YieldsList-from_slice sessions cc) (λ x q k. search (rules, tests)) (λ x q k. search (rules, tests))) in
-    name_found (λ plan. plan.name) sessions text c.in-Some.place first.0 first.1
+    let first = MatchOption-at_some _ _ _ (c.branch-place.ensures ∙ ap continue_value c.in_ok-place.is) (IsFirst-from_position _ _ _ (λ plan. plan.name ≡ text) (λ plan. plan.name ≡ text → ⊥) c.position.ensures.ran (YieldsList-from_slice sessions cc) (λ x q k. search (rules, tests)) (λ x q k. search (rules, tests))) in
+    name_found (λ plan. plan.name) sessions text c.in_ok-place.place first.0 first.1
