@@ -1,15 +1,15 @@
 -- Clocks are a lattice, told by their counts.
+use Rattle.std.specs.Cmp.Derive.{both_true}
 use Rattle.std.specs.Prelude.{◌≡◌, ℕ, zero, suc, ◌<◌, ◌≤◌, ◌^◌, leb, max, IsTrue, List, [], ◌∷◌, ⊤}
 use Rattle.std.proofs.Common.{refl, arith}
 use Rattle.std.specs.Cmp.{nat_cmp_total}
 use Rattle.std.specs.FinMap.{nat_cmp-IsAntisymmetric}
-use Rattle.std.proofs.lemmas.Bool.{leb-true, le-leb}
+use Rattle.std.proofs.lemmas.Bool.{and_parts, leb-true, le-leb}
 use Rattle.std.proofs.lemmas.List.Elements.{All-nil, All-cons}
 use Rattle.lattice_laws.specs.Lattice.{LatticeLaws, Associative}
 use Rattle.lattice_laws.specs.Entries.{IsEntry}
 use Rattle.lattice_laws.specs.EntriesLaws.{map_laws, map_associative}
 use Rattle.lattice_laws.specs.GreatestLaws.{max_laws, max_associative}
-use Rattle.lattice_laws.specs.Ascending.{and_left, and_right, and_both}
 use Rattle.clock_lattice.specs.Clock.{IsCount, IsClock, count_of, joined_clocks, one_count, covers}
 use Rattle.clock_lattice.specs.SparseLaws.{IsBottom, value_at-joined, same_values, at_each_key, from_each_key}
 
@@ -70,6 +70,6 @@ one_count_entry session (suc n) some = refl
 pub covers_through : (a b c : List (ℕ × ℕ)) → IsTrue (covers a b) → IsTrue (covers b c) → IsTrue (covers a c)
 covers_through a b [] ab bc = refl
 covers_through a b (entry ∷ c) ab bc =
-    let first : entry.1 ≤ count_of entry.0 b = leb-true _ _ (and_left _ _ bc) in
+    let first : entry.1 ≤ count_of entry.0 b = leb-true _ _ (and_parts _ _ bc).0 in
     let second : count_of entry.0 b ≤ count_of entry.0 a = counts_from_covers a b ab entry.0 in
-    and_both _ _ (le-leb _ _ (omega arith)) (covers_through a b c ab (and_right _ _ bc))
+    both_true (le-leb _ _ (omega arith)) (covers_through a b c ab (and_parts _ _ bc).1)

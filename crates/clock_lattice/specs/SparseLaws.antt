@@ -1,4 +1,6 @@
 -- Sparse maps: a key that is not there stands for a bottom, which is never kept. What stands at each key says all of such a map.
+use Rattle.std.specs.Cmp.Derive.{both_true}
+use Rattle.std.proofs.lemmas.Bool.{and_parts}
 use Rattle.std.specs.Prelude.{◌≡◌, ◌≢◌, ◌↔◌, Bool, true, false, cond, IsTrue, List, [], ◌∷◌, Option, Some, None, unwrap_or}
 use Rattle.std.specs.List.{list_all}
 use Rattle.std.proofs.Common.{refl, sym, ap, ◌∙◌}
@@ -11,7 +13,7 @@ use Rattle.lattice_laws.specs.Lattice.{LatticeLaws}
 use Rattle.lattice_laws.specs.Maybe.{IsValue, joined_by}
 use Rattle.lattice_laws.specs.Entries.{IsMap, joined_maps}
 use Rattle.lattice_laws.specs.EntriesLaws.{find-joined_maps, found_is_value, same_from_keys}
-use Rattle.lattice_laws.specs.Ascending.{and_left, and_right, and_both, first_below, ascending_tail, find_below, below_tied}
+use Rattle.lattice_laws.specs.Ascending.{first_below, ascending_tail, find_below, below_tied}
 
 -- a bottom that is none of the values that are kept, and that joins with each of these and itself
 pub record IsBottom {P : Type 0} (is_value is_any : P → Type 0) (joined : P → P → P) (bottom : P) : Type 0 where
@@ -38,14 +40,14 @@ module _ {K P : Type 0} {cmp : K → K → Ordering} (total : IsTotalOrder cmp) 
     -- a test of each entry is one of each key
     pub at_each_key : (entries others : List (K × P)) → IsTrue (each_at_most cmp bottom at_most entries others) → (key : K) → at_most (value_at cmp bottom key entries) (value_at cmp bottom key others) ≡ true
     at_each_key [] others h key = below_all _
-    at_each_key (e ∷ es) others h key = at_each_key_as (at_each_key es others (and_right _ _ h) key) (eq_by_cmp cmp key e.0) refl
+    at_each_key (e ∷ es) others h key = at_each_key_as (at_each_key es others (and_parts _ _ h).1 key) (eq_by_cmp cmp key e.0) refl
       where
         at_each_key_as : at_most (value_at cmp bottom key es) (value_at cmp bottom key others) ≡ true → (ties : Bool) → eq_by_cmp cmp key e.0 ≡ ties → at_most (unwrap_or (cond (eq_by_cmp cmp key e.0) (Some e.1) (find cmp key es)) bottom) (value_at cmp bottom key others) ≡ true
         at_each_key_as later true is =
             let same : key ≡ e.0 = exact key e.0 ((Equal-is _).0 is) in
             ap (λ t. at_most (unwrap_or (cond t (Some e.1) (find cmp key es)) bottom) (value_at cmp bottom key others)) is
             ∙ ap (λ k. at_most e.1 (value_at cmp bottom k others)) same
-            ∙ and_left _ _ h
+            ∙ (and_parts _ _ h).0
         at_each_key_as later false is =
             ap (λ t. at_most (unwrap_or (cond t (Some e.1) (find cmp key es)) bottom) (value_at cmp bottom key others)) is
             ∙ later
@@ -54,9 +56,7 @@ module _ {K P : Type 0} {cmp : K → K → Ordering} (total : IsTotalOrder cmp) 
     pub from_each_key : (entries others : List (K × P)) → IsTrue (is_sorted cmp entries) → ((key : K) → at_most (value_at cmp bottom key entries) (value_at cmp bottom key others) ≡ true) → IsTrue (each_at_most cmp bottom at_most entries others)
     from_each_key [] others rises each = refl
     from_each_key (e ∷ es) others rises each =
-        and_both _ _
-        (ap (λ x. at_most x (value_at cmp bottom e.0 others)) (sym (first_value e es)) ∙ each e.0)
-        (from_each_key es others (ascending_tail cmp e es rises) (λ key. later key (eq_by_cmp cmp key e.0) refl))
+        both_true (ap (λ x. at_most x (value_at cmp bottom e.0 others)) (sym (first_value e es)) ∙ each e.0) (from_each_key es others (ascending_tail cmp e es rises) (λ key. later key (eq_by_cmp cmp key e.0) refl))
       where
         later : (key : K) (ties : Bool) → eq_by_cmp cmp key e.0 ≡ ties → at_most (value_at cmp bottom key es) (value_at cmp bottom key others) ≡ true
         later key true is =

@@ -1,4 +1,6 @@
 -- Entries whose keys strictly rise: what is below them all, and what one of them raised by a value is.
+use Rattle.std.specs.Cmp.Derive.{both_true}
+use Rattle.std.proofs.lemmas.Bool.{and_parts}
 use Rattle.std.specs.Prelude.{◌≡◌, ℕ, zero, suc, ◌+◌, ◌<◌, Bool, true, false, cond, ◌&&◌, T, IsTrue, List, [], ◌∷◌, ◌++◌, length, slice_get, slice_index_or, Some, None}
 use Rattle.std.proofs.Common.{refl, sym, ap, subst, ◌∙◌, arith}
 use Rattle.std.proofs.lemmas.Option.{get_or_from_slice_get}
@@ -10,20 +12,6 @@ use Rattle.std.specs.Cmp.{IsTotalOrder}
 use Rattle.std.specs.FinMap.{find, put, is_sorted}
 use Rattle.std.specs.FinMap.Entries.{below_all, by_order, is_sorted-put}
 use Rattle.lattice_laws.specs.Entries.{with_old, raised, joined_maps}
-
--- what both tests say, the first says
-pub and_left : (a b : Bool) → IsTrue (a && b) → IsTrue a
-and_left true b h = refl
-and_left false b h = absurd (false≢true h)
-
--- and the second
-pub and_right : (a b : Bool) → IsTrue (a && b) → IsTrue b
-and_right true b h = h
-and_right false b h = absurd (false≢true h)
-
--- what each of two tests says, both say
-pub and_both : (a b : Bool) → IsTrue a → IsTrue b → IsTrue (a && b)
-and_both a b g h = ap (λ x. x && b) g ∙ h
 
 -- where the second test implies the first, both say what the second does
 and_implied : (a b : Bool) → (IsTrue b → IsTrue a) → (a && b) ≡ b
@@ -62,23 +50,23 @@ Less_from_Greater cmp total x y h = total.antisymm y x ∙ ap ordering_reverse h
 module _ {K P : Type 0} (cmp : K → K → Ordering) where
   -- a key below all is below the first
   pub below_first : (key : K) (e : K × P) (es : List (K × P)) → IsTrue (below_all cmp key (e ∷ es)) → cmp key e.0 ≡ Less
-  below_first key e es h = Less_from_is_lt _ (and_left _ _ h)
+  below_first key e es h = Less_from_is_lt _ (and_parts _ _ h).0
 
   -- and below the others
   pub below_others : (key : K) (e : K × P) (es : List (K × P)) → IsTrue (below_all cmp key (e ∷ es)) → IsTrue (below_all cmp key es)
-  below_others key e es h = and_right _ _ h
+  below_others key e es h = (and_parts _ _ h).1
 
   -- a key below the first and the others is below all
   pub below_cons : (key : K) (e : K × P) (es : List (K × P)) → cmp key e.0 ≡ Less → IsTrue (below_all cmp key es) → IsTrue (below_all cmp key (e ∷ es))
-  below_cons key e es g h = and_both _ _ (ap is_lt g) h
+  below_cons key e es g h = both_true (ap is_lt g) h
 
   -- the first key is below the others
   pub first_below : (e : K × P) (es : List (K × P)) → IsTrue (is_sorted cmp (e ∷ es)) → IsTrue (below_all cmp e.0 es)
-  first_below e es h = and_left _ _ h
+  first_below e es h = (and_parts _ _ h).0
 
   -- what follows the first rises too
   pub ascending_tail : (e : K × P) (es : List (K × P)) → IsTrue (is_sorted cmp (e ∷ es)) → IsTrue (is_sorted cmp es)
-  ascending_tail e es h = and_right _ _ h
+  ascending_tail e es h = (and_parts _ _ h).1
 
   -- a key below all is below each
   pub below_at : (key : K) (es : List (K × P)) (i : ℕ) (d : K × P) → i < length es → IsTrue (below_all cmp key es) → cmp key (slice_index_or es i d).0 ≡ Less

@@ -1,4 +1,5 @@
 -- Rows of items with a byte between each two, read one item after another: what was read and what is left make up what is written.
+use Rattle.std.specs.Cmp.Derive.{both_true}
 use Rattle.std.specs.Prelude.{◌==◌, cond, not, IfOk, IsTrue}
 use Rattle.std.proofs.Common.{◌≡◌, ◌↔◌, ℕ, ◌+◌, ◌<◌, ◌≤◌, Bool, true, false, List, [], ◌∷◌, ◌++◌, map, drop, length, get_or, Option, None, Some, Result, Ok, Err, sym, ap, refl, subst, ◌∙◌, arith}
 use Rattle.std.specs.declared.cmp.Ordering.{Ordering}
@@ -10,7 +11,6 @@ use Rattle.std.proofs.lemmas.Bool.Decides.{nat_tests}
 use Rattle.std.proofs.lemmas.List.{append-nil, append_assoc, drop_all, drop_more, get_or-map, length-append, length-map, map-append}
 use Rattle.std.proofs.lemmas.List.Elements.{All-from_recursion}
 use Rattle.std.proofs.lemmas.List.Splits.{join_with_byte-slice_split, length-slice_split}
-use Rattle.lattice_laws.specs.Ascending.{and_left, and_right, and_both}
 use Rattle.lattice_laws.specs.Entries.{IsEntry, IsMap, IsPushed}
 use Rattle.report_reader.specs.ReadRows.{IsRow}
 use Rattle.report_reader.specs.Reads.{Reads}
@@ -264,12 +264,12 @@ module _ {K P : Type 0} (cmp : K → K → Ordering) where
   -- a key that is below all is below those that come first
   below_front : (key : K) (es fs : List (K × P)) → IsTrue (below_all cmp key (es ++ fs)) → IsTrue (below_all cmp key es)
   below_front key [] fs below = refl
-  below_front key (e ∷ es) fs below = and_both _ _ (and_left _ _ below) (below_front key es fs (and_right _ _ below))
+  below_front key (e ∷ es) fs below = both_true (and_parts _ _ below).0 (below_front key es fs (and_parts _ _ below).1)
 
   -- entries that come first among those that rise rise
   pub sorted_front : (es fs : List (K × P)) → IsTrue (is_sorted cmp (es ++ fs)) → IsTrue (is_sorted cmp es)
   sorted_front [] fs rises = refl
-  sorted_front (e ∷ es) fs rises = and_both _ _ (below_front e.0 es fs (and_left _ _ rises)) (sorted_front es fs (and_right _ _ rises))
+  sorted_front (e ∷ es) fs rises = both_true (below_front e.0 es fs (and_parts _ _ rises).0) (sorted_front es fs (and_parts _ _ rises).1)
 
   -- a map's first entries are a map
   pub map_front : (is_key : K → Type 0) (is_value : P → Type 0) (es fs : List (K × P)) → IsMap cmp is_key is_value (es ++ fs) → IsMap cmp is_key is_value es

@@ -1,12 +1,12 @@
 -- What a reply means for the later lines of its session: what was shown stays known, so that later replies cover it and later puts have seen it.
+use Rattle.std.specs.Cmp.Derive.{both_true}
 use Rattle.std.specs.Prelude.{◌≡◌, ℕ, zero, suc, ◌+◌, ◌<◌, ◌≤◌, false, IsTrue, List, [], ◌∷◌, ◌++◌, length, not, Option, Some, None, unwrap_or, Contains}
 use Rattle.std.specs.List.{AllZip}
 use Rattle.std.specs.FinMap.{find, is_sorted, nat_cmp-IsAntisymmetric}
 use Rattle.std.specs.Cmp.{nat_cmp_total}
 use Rattle.std.specs.Ordering.{nat_cmp}
 use Rattle.std.proofs.Common.{refl, sym, ap, subst, subst₂, ◌∙◌, inl, inr, arith}
-use Rattle.std.proofs.lemmas.Bool.{false≢true, false_from_ne_true, not_from_false, not-true}
-use Rattle.lattice_laws.specs.Ascending.{and_left, and_right, and_both}
+use Rattle.std.proofs.lemmas.Bool.{and_parts, false≢true, false_from_ne_true, not_from_false, not-true}
 use Rattle.lattice_laws.specs.EntriesLaws.{find-joined_maps}
 use Rattle.lattice_laws.specs.Maybe.{joined_by}
 use Rattle.lattice_laws.proofs.MembersLemmas.{contains_none, contains_cases}
@@ -199,7 +199,7 @@ next_overtakes client key clock knows number is next taken =
     let covered : IsTrue (covers seen clock) = covers_from_counts seen clock is (λ session. omega (arith, taken.known session, first_at_most known (one_count client.session number) session)) in
     let own = second_at_most known (one_count client.session number) (one_rises client.session number) client.session in
     let misses = false_from_ne_true (covers clock seen) (λ back. omega (arith, counts_from_covers clock seen back client.session, own, count_of_itself client.session number, taken.own, next)) in
-    and_both (covers seen clock) (not (covers clock seen)) covered (not_from_false (covers clock seen) misses)
+    both_true {s = covers seen clock} {t = not (covers clock seen)} covered (not_from_false (covers clock seen) misses)
 
 -- and so has each put of a commit
 committed_overtakes : (client : Client) (key : ℕ) (clock : List (ℕ × ℕ)) (knows : Knowledge) (lamport place : ℕ) (held : List (ℕ × Payload)) (put : puts.Put) → IsClock clock → HasTakenIn client key clock knows
@@ -249,7 +249,7 @@ puts_overtake_clocks session i j key clock put earlier shown accepted =
 pub puts_overtake_versions : (session : AnsweredSession) → PutsOvertakeCoveredVersions session
 puts_overtake_versions session i j key clock put version earlier shown accepted covered =
     let below = puts_overtake_clocks session i j key clock put earlier shown accepted in
-    let seen_covers : IsTrue (covers put.seen clock) = and_left (covers put.seen clock) (not (covers clock put.seen)) below in
-    let misses : covers clock put.seen ≡ false = not-true (covers clock put.seen) (and_right (covers put.seen clock) (not (covers clock put.seen)) below) in
+    let seen_covers : IsTrue (covers put.seen clock) = (and_parts (covers put.seen clock) (not (covers clock put.seen)) below).0 in
+    let misses : covers clock put.seen ≡ false = not-true (covers clock put.seen) (and_parts (covers put.seen clock) (not (covers clock put.seen)) below).1 in
     let not_back = false_from_ne_true (covers version.clock put.seen) (λ back. false≢true (sym misses ∙ covers_through clock version.clock put.seen covered back)) in
-    and_both (covers put.seen version.clock) (not (covers version.clock put.seen)) (covers_through put.seen clock version.clock seen_covers covered) (not_from_false (covers version.clock put.seen) not_back)
+    both_true {s = covers put.seen version.clock} {t = not (covers version.clock put.seen)} (covers_through put.seen clock version.clock seen_covers covered) (not_from_false (covers version.clock put.seen) not_back)
