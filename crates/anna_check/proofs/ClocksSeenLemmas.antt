@@ -12,7 +12,7 @@ use Rattle.clock_lattice.specs.Clock.{IsClock, joined_clocks, covers}
 use Rattle.clock_lattice.specs.ClockLaws.{covers_through}
 use Rattle.clock_lattice.proofs.CoverageLemmas.{clock_coverage}
 use Rattle.clock_lattice.specs.Needs.{IsNeeds, clock_at, joined_needs, one_need}
-use Rattle.clock_lattice.specs.NeedsLaws.{clock-joined, clock_at_is_clock, one_need_is_needs}
+use Rattle.clock_lattice.proofs.NeedsLemmas.{clock-joined, clock_at_is_clock, one_need_is_needs}
 use Rattle.session_known.specs.Lawful.{had_from, earlier_from}
 use Rattle.placement.specs.Config.{IsOneOf}
 use Rattle.session_known.specs.declared.report.Answer.{Answer}

@@ -6,7 +6,7 @@ use Rattle.std.proofs.lemmas.Bool.{eqb-true, le-leb, leb-true, true≢false}
 use Rattle.std.proofs.lemmas.List.Sums.{AllPass-from_list_all, list_all-from_AllPass}
 use Rattle.std.proofs.lemmas.List.Elements.{Contains-get_or, All-contains, All-filter}
 use Rattle.clock_lattice.specs.Clock.{IsClock, count_of}
-use Rattle.clock_lattice.specs.ClockLaws.{same_counts}
+use Rattle.clock_lattice.proofs.ClockLemmas.{same_counts}
 use Rattle.clock_lattice.specs.Needs.{IsNeeds}
 use Rattle.lattice_laws.specs.Greatest.{IsGreatestOrZero}
 use Rattle.lattice_laws.proofs.GreatestOfListsLemmas.{greatest_or_zero_is_single}

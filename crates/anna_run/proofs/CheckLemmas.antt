@@ -2,7 +2,7 @@
 use Rattle.std.specs.Prelude.{◌≡◌, ℕ, List}
 use Rattle.std.proofs.Common.{Vec, Global, sym, subst}
 use Rattle.placement.specs.Config.{placed}
-use Rattle.placement.specs.ConfigLaws.{placement_is, is_placement}
+use Rattle.placement.proofs.ConfigLemmas.{placement_is, is_placement}
 use Rattle.session_known.specs.Legal.{IsLegal, IsLegalAt}
 use Rattle.session_known.specs.declared.report.Report.{Report}
 use Rattle.session_known.specs.declared.script.Script.{Script}

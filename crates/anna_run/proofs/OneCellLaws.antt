@@ -7,7 +7,7 @@ use Rattle.lattice_laws.specs.Greatest.{IsGreatestOrZero}
 use Rattle.lattice_laws.proofs.GreatestOfListsLemmas.{greatest_or_zero_is_single}
 use Rattle.lattice_laws.proofs.MembersLemmas.{contains_filter, contains_map}
 use Rattle.clock_lattice.specs.Clock.{count_of, covers}
-use Rattle.clock_lattice.specs.ClockLaws.{covers_from_counts}
+use Rattle.clock_lattice.proofs.ClockLemmas.{covers_from_counts}
 use Rattle.composed_value.specs.Cell.{PlainCell, IsCell}
 use Rattle.composed_value.proofs.CellOfLemmas.{cell_of_is_cell}
 use Rattle.composed_value.specs.PlainValue.{IsValueOf, IsCellOf}

@@ -7,7 +7,7 @@ use Rattle.std.proofs.lemmas.List.Elements.{All-nil, All-cons, All-head, All-tai
 use Rattle.std.proofs.lemmas.List.FromFn.{length-range_with_len, get_or-range_with_len}
 use Rattle.std.proofs.lemmas.List.Sorted.{IsPermutation-filter_both, All-permutation, length_permutation}
 use Rattle.placement.specs.Config.{IsOneOf, ArePins, IsValidConfig, pinned_or, replicas_on, placed, home_of}
-use Rattle.placement.specs.ConfigLaws.{is_ring}
+use Rattle.placement.proofs.ConfigLemmas.{is_ring}
 use Rattle.placement.specs.Hash.{hash_of}
 use Rattle.placement.specs.Ring.{round, workers_met, walked, point_of, points_of, ring_of}
 use Rattle.placement.specs.declared.config.Config.{Config}

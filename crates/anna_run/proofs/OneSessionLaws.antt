@@ -8,8 +8,9 @@ use Rattle.std.proofs.lemmas.List.{length-map, length_push}
 use Rattle.std.proofs.lemmas.List.Elements.{All-nil, All-cons, All-push, All-append, All-weaker, filter_map-append}
 use Rattle.std.proofs.lemmas.List.Sums.{length-filter, count_by-le-length}
 use Rattle.clock_lattice.specs.Clock.{count_of, covers, one_count}
-use Rattle.clock_lattice.specs.ClockLaws.{covers_from_counts, covers_through}
-use Rattle.clock_lattice.specs.NeedsLaws.{empty_are_needs}
+use Rattle.clock_lattice.specs.ClockLaws.{covers_through}
+use Rattle.clock_lattice.proofs.ClockLemmas.{covers_from_counts}
+use Rattle.clock_lattice.proofs.NeedsLemmas.{empty_are_needs}
 use Rattle.composed_value.specs.Kind.{kind_of}
 use Rattle.composed_value.specs.Put.{IsPayload}
 use Rattle.session_known.specs.Accepted.{puts_on}

@@ -6,7 +6,7 @@ use Rattle.std.proofs.lemmas.List.Elements.{All-map}
 use Rattle.composed_value.specs.Sound.{IsSound}
 use Rattle.composed_value.specs.declared.put.Put.{Put}
 use Rattle.placement.specs.Config.{placed}
-use Rattle.placement.specs.ConfigLaws.{is_placement}
+use Rattle.placement.proofs.ConfigLemmas.{is_placement}
 use Rattle.session_known.specs.Accepted.{puts_on, accepted_from}
 use Rattle.session_known.specs.Form.{IsFinalIn}
 use Rattle.session_known.specs.Legal.{IsLawfulFinal, IsLegal}

@@ -1,1 +1,3 @@
+mod GreaterLemmas
 mod PaperPairs
+pub mod StampedLemmas

@@ -1,8 +1,8 @@
 -- The greater of two in a total order in which only equal values tie.
-use Rattle.std.specs.Prelude.{◌≡◌, true, false, cond, IsTrue, ◌↔◌, ⊤, refl}
+use Rattle.std.specs.Prelude.{◌≡◌, cond, ⊤, refl}
 use Rattle.std.proofs.Common.{sym, ap, subst, ◌∙◌}
 use Rattle.std.specs.Cmp.{IsTotalOrder}
-use Rattle.std.specs.Ordering.{ord_max, is_lt, is_le, ordering_reverse}
+use Rattle.std.specs.Ordering.{ord_max, is_lt, ordering_reverse}
 use Rattle.std.specs.declared.cmp.Ordering.{Ordering}
 use Rattle.std.specs.declared.cmp.Ordering.TheVariants.{Less, Equal, Greater}
 use Rattle.std.proofs.lemmas.Cmp.{tied_itself}
@@ -10,12 +10,12 @@ use Rattle.lattice_laws.specs.Lattice.{LatticeLaws, Associative}
 
 module _ {K : Type 0} (cmp : K → K → Ordering) (total : IsTotalOrder cmp) (exact : (a b : K) → cmp a b ≡ Equal → a ≡ b) where
   -- how two compare, with what the greater is then
-  data Compared (a b : K) : Type 0 where
+  pub data Compared (a b : K) : Type 0 where
     below : cmp a b ≡ Less → ord_max cmp a b ≡ b → Compared a b
     same : a ≡ b → Compared a b
     above : cmp b a ≡ Less → ord_max cmp a b ≡ a → Compared a b
 
-  turned : (a b : K) (r : Ordering) → cmp a b ≡ r → cmp b a ≡ ordering_reverse r
+  pub turned : (a b : K) (r : Ordering) → cmp a b ≡ r → cmp b a ≡ ordering_reverse r
   turned a b r e = total.antisymm b a ∙ ap ordering_reverse e
 
   compared_as : (a b : K) (r : Ordering) → cmp a b ≡ r → Compared a b
@@ -23,11 +23,11 @@ module _ {K : Type 0} (cmp : K → K → Ordering) (total : IsTotalOrder cmp) (e
   compared_as a b Equal e = same (exact a b e)
   compared_as a b Greater e = above (turned a b Greater e) (ap (λ t. cond (is_lt t) a b) (turned a b Greater e))
 
-  compared : (a b : K) → Compared a b
+  pub compared : (a b : K) → Compared a b
   compared a b = compared_as a b (cmp a b) refl
 
   -- the greater of a value and itself
-  greater_itself : (a : K) → ord_max cmp a a ≡ a
+  pub greater_itself : (a : K) → ord_max cmp a a ≡ a
   greater_itself a = ap (λ t. cond (is_lt t) a a) (tied_itself total a)
 
   -- what is below is left behind, whichever comes first
@@ -78,29 +78,3 @@ module _ {K : Type 0} (cmp : K → K → Ordering) (total : IsTotalOrder cmp) (e
 
   pub greater_associative : (is_value : K → Type 0) → Associative is_value (λ _ _. ⊤) (ord_max cmp)
   greater_associative is_value a b c va vb vc h i = regrouped_as a b c (compared a b) (compared b c)
-
-  -- the first is the greater unless it is below the second
-  pub greater_unless_below : (a b : K) → is_lt (cmp a b) ≡ false → ord_max cmp a b ≡ a
-  greater_unless_below a b not_below = unless_as (compared a b)
-    where
-      unless_as : Compared a b → ord_max cmp a b ≡ a
-      unless_as (below lt is) = absurd (let never : true ≡ false = sym (ap is_lt lt) ∙ not_below in cc)
-      unless_as (same e) = ap (ord_max cmp a) (sym e) ∙ greater_itself a
-      unless_as (above lt is) = is
-
-  pub greater_if_below : (a b : K) → is_lt (cmp a b) ≡ true → ord_max cmp a b ≡ b
-  greater_if_below a b is_below = if_as (compared a b)
-    where
-      if_as : Compared a b → ord_max cmp a b ≡ b
-      if_as (below lt is) = is
-      if_as (same e) = ap (λ x. ord_max cmp x b) e ∙ greater_itself b
-      if_as (above lt is) = absurd (let never : true ≡ false = sym is_below ∙ ap is_lt (turned b a Less lt) in cc)
-
-  -- the second is the greater exactly where the first is at most it
-  pub greater_is_second : (a b : K) → IsTrue (is_le (cmp a b)) ↔ (ord_max cmp a b ≡ b)
-  greater_is_second a b = second_as (compared a b)
-    where
-      second_as : Compared a b → IsTrue (is_le (cmp a b)) ↔ (ord_max cmp a b ≡ b)
-      second_as (below lt is) = ((λ h. is), (λ h. ap is_le lt))
-      second_as (same e) = ((λ h. ap (λ x. ord_max cmp x b) e ∙ greater_itself b), (λ h. ap is_le (ap (cmp a) (sym e) ∙ tied_itself total a)))
-      second_as (above lt is) = ((λ h. absurd (let never : true ≡ false = sym h ∙ ap is_le (turned b a Less lt) in cc)), (λ h. ap is_le (ap (cmp a) (sym h ∙ is) ∙ tied_itself total a)))

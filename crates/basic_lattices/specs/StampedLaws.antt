@@ -1,13 +1,13 @@
 -- The order of stamped words is total, and only equal ones tie; so the greater of two is a lattice.
-use Rattle.std.specs.Prelude.{◌≡◌, ◌↔◌, IsTrue, true, false, ⊤}
+use Rattle.std.specs.Prelude.{◌≡◌, ⊤}
 use Rattle.std.specs.Cmp.{IsTotalOrder, nat_cmp_total}
 use Rattle.std.proofs.lemmas.Cmp.{on_total, then_total}
-use Rattle.std.specs.Ordering.{ord_max, nat_cmp, is_lt, is_le}
+use Rattle.std.specs.Ordering.{ord_max, nat_cmp}
 use Rattle.std.specs.FinMap.{nat_cmp-IsAntisymmetric}
 use Rattle.std.specs.declared.cmp.Ordering.TheVariants.{Equal}
 use Rattle.lattice_laws.specs.Lattice.{LatticeLaws, Associative}
 use Rattle.lattice_laws.specs.Ties.{both_tie}
-use Rattle.basic_lattices.specs.GreaterLaws.{greater_laws, greater_associative, greater_unless_below, greater_if_below, greater_is_second}
+use Rattle.basic_lattices.specs.GreaterLaws.{greater_laws, greater_associative}
 use Rattle.basic_lattices.specs.Stamped.{stamp_cmp, IsStamped}
 use Rattle.lattice_laws.specs.SpellingLaws.{spelled_total, spelled_exact}
 use Rattle.basic_lattices.specs.declared.stamped.Stamped.{Stamped}
@@ -32,13 +32,3 @@ stamp_laws = greater_laws stamp_cmp stamp_total stamp_exact IsStamped
 
 pub stamp_associative : Associative IsStamped (λ _ _. ⊤) (ord_max stamp_cmp)
 stamp_associative = greater_associative stamp_cmp stamp_total stamp_exact IsStamped
-
--- which of two stamped words their join is
-pub stamp_unless_below : (a b : Stamped) → is_lt (stamp_cmp a b) ≡ false → ord_max stamp_cmp a b ≡ a
-stamp_unless_below = greater_unless_below stamp_cmp stamp_total stamp_exact
-
-pub stamp_if_below : (a b : Stamped) → is_lt (stamp_cmp a b) ≡ true → ord_max stamp_cmp a b ≡ b
-stamp_if_below = greater_if_below stamp_cmp stamp_total stamp_exact
-
-pub stamp_is_second : (a b : Stamped) → IsTrue (is_le (stamp_cmp a b)) ↔ (ord_max stamp_cmp a b ≡ b)
-stamp_is_second = greater_is_second stamp_cmp stamp_total stamp_exact

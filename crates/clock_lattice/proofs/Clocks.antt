@@ -5,13 +5,15 @@ use mathlib.Core.Bool.{false≢true}
 use Rattle.std.specs.Ordering.{nat_cmp}
 use Rattle.std.specs.declared.cmp.Ordering.{Ordering}
 use Rattle.lattice_laws.specs.Entries.{plain_entries, raised}
-use Rattle.lattice_laws.specs.EntriesLaws.{plain_itself}
+use Rattle.lattice_laws.proofs.EntriesLemmas.{plain_itself}
 use Rattle.clock_lattice.specs.Clock.{IsClock, joined_clocks, one_count, covers}
-use Rattle.clock_lattice.specs.ClockLaws.{clock_laws, one_count_is_clock, one_count_entry}
+use Rattle.clock_lattice.specs.ClockLaws.{clock_laws}
+use Rattle.clock_lattice.proofs.ClockLemmas.{one_count_is_clock, one_count_entry}
 use Rattle.clock_lattice.specs.ClockOrder.{clock_cmp}
 use Rattle.clock_lattice.specs.Coverage.{CoverageLaws}
 use Rattle.clock_lattice.specs.Needs.{IsSomeClock, IsNeeds, joined_needs}
-use Rattle.clock_lattice.specs.NeedsLaws.{needs_laws, one_need_is_needs, one_need_entry}
+use Rattle.clock_lattice.specs.NeedsLaws.{needs_laws}
+use Rattle.clock_lattice.proofs.NeedsLemmas.{one_need_is_needs, one_need_entry}
 
 -- what a call leaves, whether it ends well or not
 pub either_way : {T E P : Type 0} (Q : P → Type 0) (result : Result T E) (new done before : P) → OnOk result (new ≡ done) → OnErr result (new ≡ before) → Q done → Q before → Q new

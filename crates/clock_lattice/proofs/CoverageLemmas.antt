@@ -11,8 +11,9 @@ use Rattle.clock_lattice.specs.Clock.{IsCount, IsClock, joined_clocks, covers}
 use Rattle.clock_lattice.specs.ClockLaws.{clock_laws, clock_associative, zero_is_bottom}
 use Rattle.clock_lattice.specs.Coverage.{CoverageLaws}
 use Rattle.clock_lattice.specs.Needs.{IsNeeds, joined_needs, covers_needs}
-use Rattle.clock_lattice.specs.NeedsLaws.{some_clock_laws, needs_laws, needs_associative, empty_is_bottom}
-use Rattle.clock_lattice.specs.SparseLaws.{each_changes_nothing}
+use Rattle.clock_lattice.specs.NeedsLaws.{some_clock_laws, needs_laws, needs_associative}
+use Rattle.clock_lattice.proofs.NeedsLemmas.{empty_is_bottom}
+use Rattle.clock_lattice.proofs.SparseLemmas.{each_changes_nothing}
 
 module _ {P : Type 0} {is_value : P → Type 0} {fits : P → P → Type 0} {joined : P → P → P} (laws : LatticeLaws is_value fits joined) (associative : Associative is_value fits joined) (all_fit : (a b : P) → fits a b) where
   pub coverage_laws : (covers : P → P → Bool) → ((a b : P) → is_value a → is_value b → IsTrue (covers b a) ↔ (joined a b ≡ b)) → CoverageLaws is_value joined covers

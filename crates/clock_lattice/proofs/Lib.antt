@@ -1,2 +1,5 @@
+pub mod ClockLemmas
 mod Clocks
 pub mod CoverageLemmas
+pub mod NeedsLemmas
+pub mod SparseLemmas

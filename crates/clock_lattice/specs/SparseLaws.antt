@@ -1,19 +1,17 @@
 -- Sparse maps: a key that is not there stands for a bottom, which is never kept. What stands at each key says all of such a map.
-use Rattle.std.specs.Cmp.Derive.{both_true}
 use Rattle.std.proofs.lemmas.Bool.{and_parts}
-use Rattle.std.specs.Prelude.{◌≡◌, ◌≢◌, ◌↔◌, Bool, true, false, cond, IsTrue, List, [], ◌∷◌, Option, Some, None, unwrap_or}
+use Rattle.std.specs.Prelude.{◌≡◌, ◌≢◌, Bool, true, false, cond, IsTrue, List, [], ◌∷◌, Option, Some, None, unwrap_or}
 use Rattle.std.specs.List.{list_all}
 use Rattle.std.proofs.Common.{refl, sym, ap, ◌∙◌}
 use Rattle.std.proofs.lemmas.Cmp.{tied_itself}
 use Rattle.std.specs.declared.cmp.Ordering.{Ordering}
 use Rattle.std.specs.Ordering.{is_eq, eq_by_cmp}
 use Rattle.std.specs.Cmp.{IsTotalOrder, Equal-is}
-use Rattle.std.specs.FinMap.{find, is_sorted, IsAntisymmetric}
+use Rattle.std.specs.FinMap.{find, IsAntisymmetric}
 use Rattle.lattice_laws.specs.Lattice.{LatticeLaws}
 use Rattle.lattice_laws.specs.Maybe.{IsValue, joined_by}
 use Rattle.lattice_laws.specs.Entries.{IsMap, joined_maps}
-use Rattle.lattice_laws.specs.EntriesLaws.{find-joined_maps, found_is_value, same_from_keys}
-use Rattle.lattice_laws.specs.Ascending.{first_below, ascending_tail, find_below, below_tied}
+use Rattle.lattice_laws.specs.EntriesLaws.{find-joined_maps, found_is_value}
 
 -- a bottom that is none of the values that are kept, and that joins with each of these and itself
 pub record IsBottom {P : Type 0} (is_value is_any : P → Type 0) (joined : P → P → P) (bottom : P) : Type 0 where
@@ -52,21 +50,9 @@ module _ {K P : Type 0} {cmp : K → K → Ordering} (total : IsTotalOrder cmp) 
             ap (λ t. at_most (unwrap_or (cond t (Some e.1) (find cmp key es)) bottom) (value_at cmp bottom key others)) is
             ∙ later
 
-    -- and the other way round, where each key stands there once
-    pub from_each_key : (entries others : List (K × P)) → IsTrue (is_sorted cmp entries) → ((key : K) → at_most (value_at cmp bottom key entries) (value_at cmp bottom key others) ≡ true) → IsTrue (each_at_most cmp bottom at_most entries others)
-    from_each_key [] others rises each = refl
-    from_each_key (e ∷ es) others rises each =
-        both_true (ap (λ x. at_most x (value_at cmp bottom e.0 others)) (sym (first_value e es)) ∙ each e.0) (from_each_key es others (ascending_tail cmp e es rises) (λ key. later key (eq_by_cmp cmp key e.0) refl))
-      where
-        later : (key : K) (ties : Bool) → eq_by_cmp cmp key e.0 ≡ ties → at_most (value_at cmp bottom key es) (value_at cmp bottom key others) ≡ true
-        later key true is =
-            let none : find cmp key es ≡ None = find_below cmp key es (below_tied cmp total key e.0 es ((Equal-is _).0 is) (first_below cmp e es rises)) in
-            ap (λ found. at_most (unwrap_or found bottom) (value_at cmp bottom key others)) none ∙ below_all _
-        later key false is = ap (λ t. at_most (unwrap_or (cond t (Some e.1) (find cmp key es)) bottom) (value_at cmp bottom key others)) (sym is) ∙ each key
-
 module _ {P : Type 0} {is_value is_any : P → Type 0} {joined : P → P → P} {bottom : P} (is_bottom : IsBottom is_value is_any joined bottom) where
   -- what stands at a key is a value or the bottom
-  found_any : (found : Option P) → IsValue is_value found → is_any (unwrap_or found bottom)
+  pub found_any : (found : Option P) → IsValue is_value found → is_any (unwrap_or found bottom)
   found_any None v = is_bottom.any_bottom
   found_any (Some x) v = is_bottom.any_value x v
 
@@ -76,39 +62,12 @@ module _ {P : Type 0} {is_value is_any : P → Type 0} {joined : P → P → P} 
   joined_found (Some a) None va vb = sym (is_bottom.joined_right a (is_bottom.any_value a va))
   joined_found (Some a) (Some b) va vb = refl
 
-  -- what stands at a key tells what is kept there
-  same_found : (a b : Option P) → IsValue is_value a → IsValue is_value b → unwrap_or a bottom ≡ unwrap_or b bottom → a ≡ b
-  same_found None None va vb e = refl
-  same_found None (Some b) va vb e = absurd (is_bottom.not_kept b vb (sym e))
-  same_found (Some a) None va vb e = absurd (is_bottom.not_kept a va e)
-  same_found (Some a) (Some b) va vb e = ap Some e
-
 module _ {K P : Type 0} {cmp : K → K → Ordering} {is_value is_any : P → Type 0} {fits : P → P → Type 0} {joined : P → P → P} {bottom : P} (total : IsTotalOrder cmp) (exact : IsAntisymmetric cmp) (is_key : K → Type 0) (laws : LatticeLaws is_value fits joined) (all_fit : (a b : P) → fits a b) (is_bottom : IsBottom is_value is_any joined bottom) where
-  found : (key : K) (a : List (K × P)) → IsMap cmp is_key is_value a → IsValue is_value (find cmp key a)
+  pub found : (key : K) (a : List (K × P)) → IsMap cmp is_key is_value a → IsValue is_value (find cmp key a)
   found key a ma = found_is_value cmp is_key is_value key a ma.are_entries
-
-  -- what stands at a key is a value that is kept, or the bottom
-  pub value_at_is_any : (key : K) (a : List (K × P)) → IsMap cmp is_key is_value a → is_any (value_at cmp bottom key a)
-  value_at_is_any key a ma = found_any is_bottom (find cmp key a) (found key a ma)
 
   -- at each key of a join stands the join of what stood there
   pub value_at-joined : (key : K) (a b : List (K × P)) → IsMap cmp is_key is_value a → IsMap cmp is_key is_value b → value_at cmp bottom key (joined_maps cmp joined a b) ≡ joined (value_at cmp bottom key a) (value_at cmp bottom key b)
   value_at-joined key a b ma mb =
       ap (λ x. unwrap_or x bottom) (find-joined_maps joined total key a b mb.ascending)
       ∙ joined_found is_bottom (find cmp key a) (find cmp key b) (found key a ma) (found key b mb)
-
-  -- two sparse maps with the same values are one
-  pub same_values : (a b : List (K × P)) → IsMap cmp is_key is_value a → IsMap cmp is_key is_value b → ((key : K) → value_at cmp bottom key a ≡ value_at cmp bottom key b) → a ≡ b
-  same_values a b ma mb agree = same_from_keys total exact is_key laws all_fit a b ma mb (λ key. same_found is_bottom _ _ (found key a ma) (found key b mb) (agree key))
-
-  -- Where a test of values is their order, the test of each entry is the order of the maps.
-  pub each_changes_nothing :
-      (at_most : P → P → Bool) → ((x : P) → at_most bottom x ≡ true) → ((x y : P) → is_any x → is_any y → (at_most x y ≡ true) ↔ (joined x y ≡ y)) → (closed : (a b : List (K × P)) → IsMap cmp is_key is_value a → IsMap cmp is_key is_value b → IsMap cmp is_key is_value (joined_maps cmp joined a b))
-      → (a b : List (K × P)) → IsMap cmp is_key is_value a → IsMap cmp is_key is_value b → IsTrue (each_at_most cmp bottom at_most a b) ↔ (joined_maps cmp joined a b ≡ b)
-  each_changes_nothing at_most below_all is_order closed a b ma mb =
-      let any : (key : K) (c : List (K × P)) → IsMap cmp is_key is_value c → is_any (value_at cmp bottom key c) = value_at_is_any in (
-        (λ h. same_values (joined_maps cmp joined a b) b (closed a b ma mb) mb (λ key.
-            value_at-joined key a b ma mb ∙ (is_order (value_at cmp bottom key a) (value_at cmp bottom key b) (any key a ma) (any key b mb)).0 (at_each_key total exact bottom at_most below_all a b h key))),
-        (λ e. from_each_key total exact bottom at_most below_all a b ma.ascending (λ key.
-            (is_order (value_at cmp bottom key a) (value_at cmp bottom key b) (any key a ma) (any key b mb)).1 (sym (value_at-joined key a b ma mb) ∙ ap (value_at cmp bottom key) e))),
-      )

@@ -11,8 +11,9 @@
 //! their entries (key, clock) in the order of the keys; a count of zero and an empty clock are never
 //! kept, so that equal meanings are equal values. The crate stands on `lattice_laws` alone. It offers
 //! the words of `specs/Clock.antt` and `specs/Needs.antt` to the layers above, with the laws that
-//! `specs/ClockLaws.antt` and `specs/NeedsLaws.antt` prove of them; what covering keeps to is said in
-//! `specs/Coverage.antt` and carried by [`clocks_cover`] and [`needs_cover`].
+//! `specs/ClockLaws.antt` and `specs/NeedsLaws.antt` prove of them, and lemmas on both in `proofs/`;
+//! what covering keeps to is said in `specs/Coverage.antt` and carried by [`clocks_cover`] and
+//! [`needs_cover`].
 #![tactic(auto)]
 
 mod clock;

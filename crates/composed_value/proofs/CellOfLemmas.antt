@@ -9,9 +9,10 @@ use Rattle.lattice_laws.proofs.GreatestOfListsLemmas.{greatest_or_zero_of_none, 
 use Rattle.lattice_laws.specs.Joins.{joined_all, SameMembers}
 use Rattle.lattice_laws.proofs.MembersLemmas.{same_map, same_filter}
 use Rattle.clock_lattice.specs.Clock.{count_of, one_count}
-use Rattle.clock_lattice.specs.ClockLaws.{count-joined, same_counts, empty_is_clock, one_count_is_clock, one_count_entry}
+use Rattle.clock_lattice.specs.ClockLaws.{count-joined}
+use Rattle.clock_lattice.proofs.ClockLemmas.{same_counts, empty_is_clock, one_count_is_clock, one_count_entry}
 use Rattle.clock_lattice.specs.Needs.{clock_at}
-use Rattle.clock_lattice.specs.NeedsLaws.{clock-joined, same_clocks, clock_at_is_clock, empty_are_needs}
+use Rattle.clock_lattice.proofs.NeedsLemmas.{clock-joined, same_clocks, clock_at_is_clock, empty_are_needs}
 use Rattle.composed_value.specs.Cell.{PlainCell, IsCell, joined_cells, empty_cell, one_put_cell, cell_of}
 use Rattle.composed_value.specs.CellLaws.{cell_laws, same_parts}
 use Rattle.composed_value.specs.PlainValue.{IsPutOf, IsCellOf, puts_of_session}

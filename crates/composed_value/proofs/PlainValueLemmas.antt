@@ -20,7 +20,8 @@ use Rattle.lattice_laws.specs.Maybe.{plain_of}
 use Rattle.lattice_laws.specs.declared.maybe.Maybe.{Maybe}
 use Rattle.basic_lattices.specs.GreaterLaws.{greater_laws, greater_associative}
 use Rattle.basic_lattices.specs.Stamped.{stamp_cmp}
-use Rattle.basic_lattices.specs.StampedLaws.{stamp_total, stamp_exact, stamp_is_second}
+use Rattle.basic_lattices.specs.StampedLaws.{stamp_total, stamp_exact}
+use Rattle.basic_lattices.proofs.StampedLemmas.{stamp_is_second}
 use Rattle.basic_lattices.specs.TextSet.{united}
 use Rattle.basic_lattices.specs.Word.{IsWord, word_cmp}
 use Rattle.lattice_laws.specs.SpellingLaws.{spelled_total, spelled_exact}

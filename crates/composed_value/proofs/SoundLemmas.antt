@@ -11,9 +11,10 @@ use Rattle.lattice_laws.proofs.GreatestOfListsLemmas.{in_either, in_one, greates
 use Rattle.lattice_laws.specs.Joins.{SameMembers}
 use Rattle.lattice_laws.proofs.MembersLemmas.{contains_filter, contains_filtered, same_map}
 use Rattle.clock_lattice.specs.Clock.{IsClock, count_of, joined_clocks, one_count}
-use Rattle.clock_lattice.specs.ClockLaws.{count-joined, one_count_entry}
+use Rattle.clock_lattice.specs.ClockLaws.{count-joined}
+use Rattle.clock_lattice.proofs.ClockLemmas.{one_count_entry}
 use Rattle.clock_lattice.specs.Needs.{clock_at}
-use Rattle.clock_lattice.specs.NeedsLaws.{clock-joined, clock_at_is_clock}
+use Rattle.clock_lattice.proofs.NeedsLemmas.{clock-joined, clock_at_is_clock}
 use Rattle.composed_value.specs.Cell.{PlainCell, IsCell, joined_cells, one_put_cell}
 use Rattle.composed_value.proofs.CellOfLemmas.{cell_of_one, one_put_is_cell}
 use Rattle.composed_value.specs.PlainValue.{IsPutOf, IsValueOf, puts_of_session}

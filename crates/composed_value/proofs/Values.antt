@@ -2,7 +2,7 @@
 use Rattle.std.specs.Prelude.{◌≡◌, ◌↔◌, ℕ, max, Bool, IsTrue, List, [], ◌∷◌, Result, Ok, Err, OnOk, OnErr}
 use Rattle.std.proofs.Common.{sym, ap, subst, ◌∙◌}
 use Rattle.lattice_laws.specs.Entries.{plain_entries, raised}
-use Rattle.lattice_laws.specs.EntriesLaws.{plain_itself}
+use Rattle.lattice_laws.proofs.EntriesLemmas.{plain_itself}
 use Rattle.lattice_laws.specs.Maybe.{plain_of, joined_by}
 use Rattle.lattice_laws.specs.declared.maybe.Maybe.{Maybe}
 use Rattle.basic_lattices.specs.Word.{word_cmp}

@@ -1,3 +1,5 @@
+pub mod AscendingLemmas
+pub mod EntriesLemmas
 pub mod GreatestOfListsLemmas
 pub mod Joining
 pub mod JoinsLemmas
@@ -6,3 +8,4 @@ pub mod MembersLemmas
 mod Merging
 mod Pushing
 mod Search
+pub mod SetsLemmas

@@ -13,7 +13,8 @@ use Rattle.std.specs.FinMap.Entries.{below_all}
 use Rattle.std.proofs.lemmas.List.{append_assoc, map-append, append-nil, drop_more, drop-drop, drop-map, drop_all, take_rest, length-drop, length-map}
 use Rattle.lattice_laws.specs.Entries.{plain_entries, raised, joined_maps}
 use Rattle.lattice_laws.specs.Merging.{first_side, IsJoinStep, IsAtMost, NeverAtMost, IsPassed}
-use Rattle.lattice_laws.specs.Ascending.{Greater_from_Less, Less_from_Greater, below_first, below_others, first_below, ascending_tail, below_cons, below_through, below_tied, raised_past, raised_first, raised_before}
+use Rattle.lattice_laws.specs.Ascending.{below_first, below_others, first_below, ascending_tail, below_cons, below_tied}
+use Rattle.lattice_laws.proofs.AscendingLemmas.{Greater_from_Less, Less_from_Greater, below_through, raised_past, raised_first, raised_before}
 
 -- the orders are three
 Less≢Greater : Less ≢ Greater

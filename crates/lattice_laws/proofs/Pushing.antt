@@ -9,7 +9,7 @@ use Rattle.std.specs.Ordering.{is_lt}
 use Rattle.std.specs.Cmp.{IsTotalOrder}
 use Rattle.std.specs.FinMap.{is_sorted}
 use Rattle.lattice_laws.specs.Entries.{plain_entries}
-use Rattle.lattice_laws.specs.Ascending.{is_sorted-pushed}
+use Rattle.lattice_laws.proofs.AscendingLemmas.{is_sorted-pushed}
 
 -- the key of the last entry decides
 pub last_decides : {K L P : Type 0} (cmp : K → K → Ordering) (plain : L → P) → IsTotalOrder cmp → (es : List (K × L)) (last : K × L) (key : K) (value : P) → slice_get es (length es - 1) ≡ Some last → IsTrue (is_sorted cmp (plain_entries plain es)) → is_sorted cmp (plain_entries plain es ++ (key, value) ∷ []) ≡ is_lt (cmp last.0 key)

@@ -10,7 +10,8 @@ use Rattle.std.specs.FinMap.Entries.{below_all}
 use Rattle.std.proofs.lemmas.Bool.{cases_lt}
 use Rattle.lattice_laws.specs.Entries.{plain_entries, raised}
 use Rattle.lattice_laws.specs.Places.{IsPlaceOf, IsGapFor}
-use Rattle.lattice_laws.specs.Ascending.{Greater_from_Less, Less_from_Greater, first_below, ascending_tail, below_at, below_all_from_each, find_below, raised_past, raised_first, raised_before}
+use Rattle.lattice_laws.specs.Ascending.{first_below, ascending_tail, find_below}
+use Rattle.lattice_laws.proofs.AscendingLemmas.{Greater_from_Less, Less_from_Greater, below_at, below_all_from_each, raised_past, raised_first, raised_before}
 
 -- an order is at most `Greater`
 index_at_most_2 : (r : Ordering) → ordering_index r ≤ 2

@@ -1,7 +1,7 @@
 -- The join of maps keeps the laws, since at each key stands the join of what stood there.
-use Rattle.std.specs.Prelude.{◌≡◌, ⊤, Bool, true, false, cond, IsTrue, List, [], ◌∷◌, ◌++◌, Option, Some, None, Result, Ok, Err, IfOk, OnErr, All}
-use Rattle.std.proofs.Common.{refl, sym, ap, subst, ◌∙◌}
-use Rattle.std.proofs.lemmas.List.Elements.{All-nil, All-cons, All-head, All-tail, All-append}
+use Rattle.std.specs.Prelude.{◌≡◌, ⊤, Bool, true, false, cond, IsTrue, List, [], ◌∷◌, Option, Some, None, All}
+use Rattle.std.proofs.Common.{refl, sym, ap, ◌∙◌}
+use Rattle.std.proofs.lemmas.List.Elements.{All-cons, All-head, All-tail}
 use Rattle.std.specs.declared.cmp.Ordering.{Ordering}
 use Rattle.std.specs.declared.cmp.Ordering.TheVariants.{Less, Equal, Greater}
 use Rattle.std.specs.Ordering.{eq_by_cmp}
@@ -11,30 +11,8 @@ use Rattle.std.specs.FinMap.Entries.{find-put, find_tied, same_entries, by_order
 use Rattle.lattice_laws.specs.Lattice.{LatticeLaws, Associative}
 use Rattle.lattice_laws.specs.Maybe.{IsValue, joined_by}
 use Rattle.lattice_laws.specs.MaybeLaws.{maybe_laws, maybe_associative}
-use Rattle.lattice_laws.specs.Entries.{plain_entries, IsEntry, IsMap, IsPushed, IsJoin, JoinsPerKey, with_old, raised, joined_maps}
+use Rattle.lattice_laws.specs.Entries.{IsEntry, IsMap, IsJoin, JoinsPerKey, with_old, raised, joined_maps}
 use Rattle.lattice_laws.specs.Ascending.{pass_from_true, first_below, ascending_tail, find_below, below_tied, joined_ascending}
-
--- entries whose values are seen as they are
-pub plain_itself : {K P : Type 0} (entries : List (K × P)) → plain_entries (λ value. value) entries ≡ entries
-plain_itself [] = refl
-plain_itself (entry ∷ entries) = ap (λ rest. entry ∷ rest) (plain_itself entries)
-
--- what holds of each of a list with one more item after it holds of that item
-pub All-last : {X : Type 0} (P : X → Type 0) (xs : List X) (x : X) → All P (xs ++ x ∷ []) → P x
-All-last P [] x all = All-head P x [] all
-All-last P (y ∷ xs) x all = All-last P xs x (All-tail P y (xs ++ x ∷ []) all)
-
--- A call that added an item, or could not for one form of lists, did so for a narrower form.
-pub pushed_narrower : {E X : Type 0} (Wide Narrow : List X → Type 0) → ((xs : List X) → Narrow xs → Wide xs) → (result : Result Bool E) (old : List X) (item : X) (new : List X) → IfOk result (IsPushed Wide old item new) → IfOk result (IsPushed Narrow old item new)
-pushed_narrower Wide Narrow widened (Ok true) old item new pushed = pushed
-pushed_narrower Wide Narrow widened (Ok false) old item new (same, refused) = (same, λ form. refused (widened _ form))
-pushed_narrower Wide Narrow widened (Err error) old item new pushed = tt
-
--- what a call leaves that adds an item after a list, or cannot, or finds no memory
-pub left_by_push : {E X : Type 0} (HasForm Q : List X → Type 0) (result : Result Bool E) (old : List X) (item : X) (new : List X) → IfOk result (IsPushed HasForm old item new) → OnErr result (new ≡ old) → Q (old ++ item ∷ []) → Q old → Q new
-left_by_push HasForm Q (Ok true) old item new ok err q_more q_old = subst Q (sym ok) q_more
-left_by_push HasForm Q (Ok false) old item new ok err q_more q_old = subst Q (sym ok.0) q_old
-left_by_push HasForm Q (Err error) old item new ok err q_more q_old = subst Q (sym err) q_old
 
 -- the value joined with what stood there, as the join with a bottom has it
 with_old-joined_by : {P : Type 0} (joined : P → P → P) (old : Option P) (value : P) → Some (with_old joined old value) ≡ joined_by joined old (Some value)
@@ -86,15 +64,6 @@ module _ {K P : Type 0} (cmp : K → K → Ordering) (is_key : K → Type 0) (is
       let here : is_value e.1 = (All-head (IsEntry is_key is_value) e es all).1 in
       let later = found_is_value key es (All-tail (IsEntry is_key is_value) e es all) in
       elim (eq_by_cmp cmp key e.0) as (λ t. IsValue is_value (cond t (Some e.1) (find cmp key es))) [ true ↦ here | false ↦ later ]
-
-  -- what a call leaves of a map that adds an entry where its key comes after the others
-  pub map_after_push : {E : Type 0} (result : Result Bool E) (old : List (K × P)) (entry : K × P) (new : List (K × P)) → IfOk result (IsPushed (λ entries. IsTrue (is_sorted cmp entries)) old entry new) → OnErr result (new ≡ old) → IsTrue (is_sorted cmp new) → IsEntry is_key is_value entry → IsMap cmp is_key is_value old → IsMap cmp is_key is_value new
-  map_after_push result old entry new pushed err rises is_entry is =
-      let good : K × P → Type 0 = IsEntry is_key is_value in
-      record {
-        ascending = rises;
-        are_entries = left_by_push (λ entries. IsTrue (is_sorted cmp entries)) (All good) result old entry new pushed err (All-append good old (entry ∷ []) is.are_entries (All-cons good entry [] is_entry (All-nil good))) is.are_entries;
-      }
 
   -- entries with an entry put among them
   put_entries : (key : K) (value : P) (es : List (K × P)) → is_key key → is_value value → All (IsEntry is_key is_value) es → All (IsEntry is_key is_value) (put cmp key value es)

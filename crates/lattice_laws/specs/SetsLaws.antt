@@ -1,17 +1,15 @@
 -- The union of sets keeps the laws, since a set is a map to the one-point lattice.
-use Rattle.std.specs.Prelude.{◌≡◌, ◌↔◌, ℕ, ◌||◌, Bool, true, false, IsTrue, is_some, List, [], ◌∷◌, ◌++◌, map, slice_get, Option, Some, None, Result, Ok, Err, IfOk, OnErr, ⊤}
-use Rattle.std.specs.Option.{option_map}
+use Rattle.std.specs.Prelude.{◌≡◌, ◌||◌, IsTrue, is_some, List, [], ◌∷◌, Option, Some, None, ⊤}
 use Rattle.std.proofs.Common.{refl, sym, ap, subst, ◌∙◌}
 use mathlib.Core.Bool.{false≢true}
 use Rattle.std.proofs.lemmas.List.Elements.{All-map, All-weaker}
-use Rattle.std.proofs.lemmas.Option.{slice_get-map}
 use Rattle.std.specs.Cmp.{IsTotalOrder}
 use Rattle.std.specs.declared.cmp.Ordering.{Ordering}
 use Rattle.std.specs.FinMap.{find, is_sorted, IsAntisymmetric}
 use Rattle.lattice_laws.specs.Lattice.{LatticeLaws, Associative}
 use Rattle.lattice_laws.specs.Maybe.{joined_by}
-use Rattle.lattice_laws.specs.Entries.{plain_entries, IsEntry, IsMap, IsPushed, joined_maps}
-use Rattle.lattice_laws.specs.EntriesLaws.{map_laws, map_associative, find-joined_maps, same_from_keys, map_after_push}
+use Rattle.lattice_laws.specs.Entries.{IsEntry, IsMap, joined_maps}
+use Rattle.lattice_laws.specs.EntriesLaws.{map_laws, map_associative, find-joined_maps, same_from_keys}
 use Rattle.lattice_laws.specs.MemberLaws.{point_laws, point_associative}
 use Rattle.lattice_laws.specs.Sets.{as_map, keys_of, IsSet, has, united}
 
@@ -24,32 +22,6 @@ as_map-keys_of (entry ∷ entries) = ap (λ rest. entry ∷ rest) (as_map-keys_o
 pub keys_of-as_map : {K : Type 0} (members : List K) → keys_of (as_map members) ≡ members
 keys_of-as_map [] = refl
 keys_of-as_map (member ∷ members) = ap (λ rest. member ∷ rest) (keys_of-as_map members)
-
--- a map is that of the set which is seen of it
-pub map_of_view : {K : Type 0} (entries : List (K × Unit {0})) (members : List K) → keys_of entries ≡ members → entries ≡ as_map members
-map_of_view entries members seen = sym (as_map-keys_of entries) ∙ ap as_map seen
-
--- the member at a place is the key there
-pub member_at : {K M : Type 0} (entries : List (K × M)) (i : ℕ) (entry : K × M) → slice_get entries i ≡ Some entry → slice_get (keys_of (plain_entries (λ _. tt) entries)) i ≡ Some entry.0
-member_at {K} {M} entries i entry here =
-    let point : K × M → K × Unit {0} = λ e. (e.0, tt) in
-    let key : K × Unit {0} → K = λ e. e.0 in
-    slice_get-map key (map point entries) i ∙ ap (option_map key) (slice_get-map point entries i ∙ ap (option_map point) here)
-
--- the map of a set with one more member after the others
-as_map-pushed : {K : Type 0} (members : List K) (member : K) → as_map (members ++ member ∷ []) ≡ as_map members ++ (member, tt) ∷ []
-as_map-pushed [] member = refl
-as_map-pushed (first ∷ members) member = ap (λ rest. (first, tt) ∷ rest) (as_map-pushed members member)
-
--- and the set of a map with one more entry
-keys_of-pushed : {K : Type 0} (entries : List (K × Unit {0})) (entry : K × Unit {0}) → keys_of (entries ++ entry ∷ []) ≡ keys_of entries ++ entry.0 ∷ []
-keys_of-pushed [] entry = refl
-keys_of-pushed (first ∷ entries) entry = ap (λ rest. first.0 ∷ rest) (keys_of-pushed entries entry)
-
--- what is there is there as a point too
-pub is_some-option_map : {A B : Type 0} (f : A → B) (value : Option A) → is_some (option_map f value) ≡ is_some value
-is_some-option_map f None = refl
-is_some-option_map f (Some value) = refl
 
 -- a merge of two cells has something where one of them has
 some_of_both : (a b : Option (Unit {0})) → is_some (joined_by (λ _ _. tt) a b) ≡ (is_some a || is_some b)
@@ -69,31 +41,7 @@ module _ {K : Type 0} (cmp : K → K → Ordering) where
   pub united_map : (a b : List K) → as_map (united cmp a b) ≡ joined_maps cmp (λ _ _. tt) (as_map a) (as_map b)
   united_map a b = as_map-keys_of (joined_maps cmp (λ _ _. tt) (as_map a) (as_map b))
 
-  -- the join of two maps is the map of the union of the sets which are seen of them
-  pub joined_views : (m n : List (K × Unit {0})) (a b : List K) → keys_of m ≡ a → keys_of n ≡ b → joined_maps cmp (λ _ _. tt) m n ≡ as_map (united cmp a b)
-  joined_views m n a b seen_m seen_n =
-      ap (λ x. joined_maps cmp (λ _ _. tt) x n) (map_of_view m a seen_m)
-      ∙ ap (joined_maps cmp (λ _ _. tt) (as_map a)) (map_of_view n b seen_n)
-      ∙ sym (united_map a b)
-
-  -- the one map joined into the other changes it just where the sets do
-  pub united_is_second : (m n : List (K × Unit {0})) (a b : List K) → keys_of m ≡ a → keys_of n ≡ b → (joined_maps cmp (λ _ _. tt) m n ≡ n) ↔ (united cmp a b ≡ b)
-  united_is_second m n a b seen_m seen_n =
-      let joined = joined_views m n a b seen_m seen_n in (
-        (λ h. sym (keys_of-as_map (united cmp a b)) ∙ ap keys_of (sym joined ∙ h) ∙ seen_n),
-        (λ h. joined ∙ ap as_map h ∙ sym (map_of_view n b seen_n)),
-      )
-
   module _ (is_member : K → Type 0) where
-    -- A key that was added after a map where it comes after the others was added to its set where that makes a set.
-    pub pushed_to_set : {E : Type 0} (result : Result Bool E) (old : List (K × Unit {0})) (member : K) (new : List (K × Unit {0})) → IfOk result (IsPushed (λ entries. IsTrue (is_sorted cmp entries)) old (member, tt) new) → IfOk result (IsPushed (IsSet cmp is_member) (keys_of old) member (keys_of new))
-    pushed_to_set (Ok true) old member new pushed = ap keys_of pushed ∙ keys_of-pushed old (member, tt)
-    pushed_to_set (Ok false) old member new (same, refused) = (
-      ap keys_of same,
-      λ is. refused (ap (is_sorted cmp) (ap (λ entries. entries ++ (member, tt) ∷ []) (sym (as_map-keys_of old)) ∙ sym (as_map-pushed (keys_of old) member)) ∙ is.ascending),
-    )
-    pushed_to_set (Err error) old member new pushed = tt
-
     -- a set is a map
     pub set_is_map : (members : List K) → IsSet cmp is_member members → IsMap cmp is_member (λ (_ : Unit {0}). ⊤) (as_map members)
     set_is_map members is = record {
@@ -107,12 +55,6 @@ module _ {K : Type 0} (cmp : K → K → Ordering) where
       ascending = subst (λ es. IsTrue (is_sorted cmp es)) (sym (as_map-keys_of entries)) is.ascending;
       are_members = All-map is_member (λ entry. entry.0) entries (All-weaker (IsEntry is_member (λ (_ : Unit {0}). ⊤)) (λ entry. is_member entry.0) (λ entry h. h.0) entries is.are_entries);
     }
-
-    -- what a call leaves of a set that adds a key to its map where it comes after the others
-    pub set_after_push : {E : Type 0} (result : Result Bool E) (old : List (K × Unit {0})) (member : K) (new : List (K × Unit {0})) → IfOk result (IsPushed (λ entries. IsTrue (is_sorted cmp entries)) old (member, tt) new) → OnErr result (new ≡ old) → IsTrue (is_sorted cmp new) → is_member member → IsSet cmp is_member (keys_of old) → IsSet cmp is_member (keys_of new)
-    set_after_push result old member new pushed err rises fits is =
-        map_is_set new (map_after_push cmp is_member (λ (_ : Unit {0}). ⊤) result old (member, tt) new pushed err rises (fits, tt)
-        (subst (IsMap cmp is_member (λ (_ : Unit {0}). ⊤)) (as_map-keys_of old) (set_is_map (keys_of old) is)))
 
 module _ {K : Type 0} {cmp : K → K → Ordering} (total : IsTotalOrder cmp) (exact : IsAntisymmetric cmp) (is_member : K → Type 0) where
   -- the laws of maps to one point

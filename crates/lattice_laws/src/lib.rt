@@ -16,7 +16,7 @@
 //! is (`Lattice.antt`), joins of lists (`Joins.antt`), maps (`Entries.antt`), sets (`Sets.antt`), the
 //! greatest of a list (`Greatest.antt`) and what bytes spell (`Spelling.antt`). The laws of each stand
 //! beside it (`EntriesLaws.antt` and so on), and lemmas that layers above cite too in `proofs/`: on
-//! joins of lists, on the greatest of lists, and on membership of lists.
+//! entries, sets, joins of lists, the greatest of lists, and membership.
 #![tactic(auto)]
 
 pub mod entries;

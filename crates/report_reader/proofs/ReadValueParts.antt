@@ -4,7 +4,7 @@ use Rattle.std.specs.List.{list_all}
 use Rattle.std.proofs.lemmas.Bool.{false≢true}
 use Rattle.std.proofs.lemmas.List.{append_cancel_right}
 use Rattle.lattice_laws.specs.Entries.{IsPushed, plain_entries}
-use Rattle.lattice_laws.specs.EntriesLaws.{plain_itself}
+use Rattle.lattice_laws.proofs.EntriesLemmas.{plain_itself}
 use Rattle.lattice_laws.specs.Spelling.{is_spelling_byte}
 use Rattle.basic_lattices.specs.declared.stamped.Stamped.{Stamped}
 use Rattle.session_known.specs.Form.{IsClockIn}

@@ -13,7 +13,7 @@ use Rattle.std.proofs.lemmas.List.Sums.{sum_by_push}
 use Rattle.composed_value.specs.declared.kind.Kind.{Kind}
 use Rattle.composed_value.specs.declared.payload.Payload.{Payload}
 use Rattle.placement.specs.Config.{IsOneOf, ArePins, IsValidConfig, IsRing, pinned_or, replicas_on, placed}
-use Rattle.placement.specs.ConfigLaws.{is_placement}
+use Rattle.placement.proofs.ConfigLemmas.{is_placement}
 use Rattle.placement.specs.Hash.{hash_of}
 use Rattle.placement.specs.Ring.{point_of, points_of, round, workers_met, walked}
 use Rattle.placement.specs.declared.config.Config.{Config}

@@ -11,7 +11,7 @@ use Rattle.std.proofs.lemmas.Option.{MatchOption-at_some, MatchOption-at_none}
 use Rattle.composed_value.specs.declared.kind.Kind.{Kind}
 use Rattle.composed_value.specs.declared.kind.Kind.TheVariants as kinds_of
 use Rattle.placement.specs.Config.{ArePins, IsOneOf, IsPlacement, placed, replicas_on}
-use Rattle.placement.specs.ConfigLaws.{placement_is}
+use Rattle.placement.proofs.ConfigLemmas.{placement_is}
 use Rattle.placement.specs.Ring.{ring_of}
 use Rattle.placement.specs.declared.config.Config.{Config}
 use Rattle.placement.specs.declared.config.KeyPlace.{KeyPlace}

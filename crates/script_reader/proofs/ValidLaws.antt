@@ -8,7 +8,7 @@ use Rattle.std.proofs.lemmas.List.{length_push, length-map, get_or-map}
 use Rattle.std.proofs.lemmas.List.Elements.{All-nil, All-cons, All-weaker}
 use Rattle.composed_value.specs.declared.kind.Kind.{Kind}
 use Rattle.placement.specs.Config.{placed}
-use Rattle.placement.specs.ConfigLaws.{is_placement}
+use Rattle.placement.proofs.ConfigLemmas.{is_placement}
 use Rattle.placement.specs.Name.{IsName}
 use Rattle.placement.specs.declared.config.KeyPlace.{KeyPlace}
 use Rattle.script_reader.proofs.FrontLaws.{holds_after}

@@ -5,7 +5,8 @@ use Rattle.std.proofs.Common.{refl, sym, ap, ◌∙◌, arith}
 use Rattle.std.specs.Cmp.{both_ways}
 use Rattle.std.proofs.lemmas.Bool.{and_parts, le-leb}
 use Rattle.clock_lattice.specs.Clock.{IsClock, count_of, joined_clocks, one_count, covers}
-use Rattle.clock_lattice.specs.ClockLaws.{covers_through, one_count_is_clock}
+use Rattle.clock_lattice.specs.ClockLaws.{covers_through}
+use Rattle.clock_lattice.proofs.ClockLemmas.{one_count_is_clock}
 use Rattle.clock_lattice.proofs.CoverageLemmas.{clock_coverage}
 
 -- a clock covers a join exactly where it covers both

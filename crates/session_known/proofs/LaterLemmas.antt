@@ -11,9 +11,10 @@ use Rattle.lattice_laws.specs.EntriesLaws.{find-joined_maps}
 use Rattle.lattice_laws.specs.Maybe.{joined_by}
 use Rattle.lattice_laws.proofs.MembersLemmas.{contains_none, contains_cases}
 use Rattle.clock_lattice.specs.Clock.{IsClock, count_of, joined_clocks, one_count, covers, is_below}
-use Rattle.clock_lattice.specs.ClockLaws.{counts_from_covers, covers_from_counts, covers_through}
+use Rattle.clock_lattice.specs.ClockLaws.{counts_from_covers, covers_through}
+use Rattle.clock_lattice.proofs.ClockLemmas.{covers_from_counts}
 use Rattle.clock_lattice.specs.Needs.{IsNeeds, clock_at, joined_needs, one_need}
-use Rattle.clock_lattice.specs.NeedsLaws.{clock_at_is_clock}
+use Rattle.clock_lattice.proofs.NeedsLemmas.{clock_at_is_clock}
 use Rattle.clock_lattice.specs.SparseLaws.{first_value}
 use Rattle.composed_value.specs.declared.payload.Payload.{Payload}
 use Rattle.composed_value.specs.declared.put.Put as puts

@@ -6,7 +6,8 @@ use Rattle.std.proofs.lemmas.List.Elements.{All-contains, Contains-get_or}
 use Rattle.lattice_laws.proofs.GreatestOfListsLemmas.{greatest_or_zero_is_single}
 use Rattle.lattice_laws.proofs.MembersLemmas.{contains_filtered}
 use Rattle.clock_lattice.specs.Clock.{IsClock, count_of, joined_clocks, one_count, covers}
-use Rattle.clock_lattice.specs.ClockLaws.{same_counts, counts_from_covers}
+use Rattle.clock_lattice.specs.ClockLaws.{counts_from_covers}
+use Rattle.clock_lattice.proofs.ClockLemmas.{same_counts}
 use Rattle.clock_lattice.specs.Needs.{clock_at}
 use Rattle.composed_value.specs.PlainValue.{puts_of_session}
 use Rattle.composed_value.proofs.PlainValueLemmas.{value_is_single}

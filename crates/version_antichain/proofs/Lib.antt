@@ -1,3 +1,4 @@
+mod AntichainLemmas
 mod Overtaken
 mod Pushing
 mod Removal

@@ -10,7 +10,8 @@ use Rattle.lattice_laws.specs.Entries.{plain_entries, joined_maps}
 use Rattle.lattice_laws.specs.Sets.{as_map, keys_of, has, united}
 use Rattle.lattice_laws.specs.SetsLaws.{keys_of-as_map}
 use Rattle.version_antichain.specs.Antichain.{IsStrictOrder, maximal, joined_antichains}
-use Rattle.version_antichain.specs.AntichainLaws.{is_within, has-cons}
+use Rattle.version_antichain.specs.AntichainLaws.{has-cons}
+use Rattle.version_antichain.proofs.AntichainLemmas.{is_within}
 
 -- the keys of entries
 abbrev pub keys : {K M : Type 0} → List (K × M) → List K

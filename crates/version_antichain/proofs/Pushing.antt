@@ -9,10 +9,10 @@ use Rattle.std.proofs.lemmas.Result.{on_err_weaker}
 use Rattle.std.specs.declared.cmp.Ordering.{Ordering}
 use Rattle.std.specs.FinMap.{is_sorted}
 use Rattle.lattice_laws.specs.Entries.{plain_entries, IsPushed}
-use Rattle.lattice_laws.specs.EntriesLaws.{All-last, pushed_narrower, left_by_push}
+use Rattle.lattice_laws.proofs.EntriesLemmas.{All-last, pushed_narrower, left_by_push}
 use Rattle.lattice_laws.proofs.ListLemmas.{All-front, none_passes}
 use Rattle.lattice_laws.specs.Sets.{keys_of, IsSet}
-use Rattle.lattice_laws.specs.SetsLaws.{pushed_to_set, set_after_push}
+use Rattle.lattice_laws.proofs.SetsLemmas.{pushed_to_set, set_after_push}
 use Rattle.version_antichain.specs.Antichain.{IsStrictOrder, IsAntichain}
 use Rattle.version_antichain.proofs.Overtaken.{keys, list_any-keys, same_keys}
 

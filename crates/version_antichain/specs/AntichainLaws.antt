@@ -1,8 +1,8 @@
 -- The join of antichains keeps the laws: the maximal members of the maximal members of two sets and of a third are those of all three.
-use Rattle.std.specs.Prelude.{◌≡◌, Bool, true, false, cond, not, ◌&&◌, ◌||◌, ◌⊎◌, ◌↔◌, IsTrue, is_some, List, [], ◌∷◌, Option, Some, None, All, ⊤}
-use Rattle.std.specs.List.{list_any, list_all, filter}
+use Rattle.std.specs.Prelude.{◌≡◌, Bool, true, false, cond, not, ◌&&◌, ◌||◌, ◌⊎◌, is_some, List, [], ◌∷◌, Option, Some, None, All, ⊤}
+use Rattle.std.specs.List.{list_any, filter}
 use Rattle.std.proofs.Common.{refl, sym, ap, ◌∙◌, inl, inr}
-use Rattle.std.proofs.lemmas.Bool.{false≢true, not-true, and_parts, and_from, or_cases, or_left, or_right, or_parts, or_from, cases_Bool, false_from_ne_true, not_from_false}
+use Rattle.std.proofs.lemmas.Bool.{false≢true, not-true, and_parts, and_from, or_cases, or_left, or_right, or_parts, or_from, false_from_ne_true, not_from_false}
 use Rattle.std.proofs.lemmas.Cmp.{tied_itself}
 use Rattle.std.proofs.lemmas.List.Elements.{All-head, All-tail, All-weaker, All-filter, filter_agree, filter_passes}
 use Rattle.std.specs.declared.cmp.Ordering.{Ordering}
@@ -50,15 +50,15 @@ module _ {E : Type 0} (cmp : E → E → Ordering) where
       elim (eq_by_cmp cmp q member) as (λ b. is_some (cond b (Some tt) (find cmp q (as_map members))) ≡ (b || has cmp q members)) [ true ↦ refl | false ↦ refl ]
 
   -- one that is there is the first or among the others
-  has_cases : (q member : E) (members : List E) → has cmp q (member ∷ members) ≡ true → (eq_by_cmp cmp q member ≡ true) ⊎ (has cmp q members ≡ true)
+  pub has_cases : (q member : E) (members : List E) → has cmp q (member ∷ members) ≡ true → (eq_by_cmp cmp q member ≡ true) ⊎ (has cmp q members ≡ true)
   has_cases q member members there = or_cases (eq_by_cmp cmp q member) (has cmp q members) (sym (has-cons q member members) ∙ there)
 
   -- one that ties with the first is there
-  has_first : (q member : E) (members : List E) → eq_by_cmp cmp q member ≡ true → has cmp q (member ∷ members) ≡ true
+  pub has_first : (q member : E) (members : List E) → eq_by_cmp cmp q member ≡ true → has cmp q (member ∷ members) ≡ true
   has_first q member members ties = has-cons q member members ∙ or_left (eq_by_cmp cmp q member) (has cmp q members) ties
 
   -- and so is one among the others
-  has_later : (q member : E) (members : List E) → has cmp q members ≡ true → has cmp q (member ∷ members) ≡ true
+  pub has_later : (q member : E) (members : List E) → has cmp q members ≡ true → has cmp q (member ∷ members) ≡ true
   has_later q member members there = has-cons q member members ∙ or_right (eq_by_cmp cmp q member) (has cmp q members) there
 
   -- the members of a set that pass a test are a set
@@ -133,7 +133,7 @@ module _ {E : Type 0} {cmp : E → E → Ordering} (total : IsTotalOrder cmp) (e
     list_any-united test a b is_a is_b = both_ways _ _ (list_any_apart test a b is_a is_b) (list_any_together test a b is_a is_b)
 
 -- whether a value is below none of the members
-abbrev is_maximal : {E : Type 0} → (E → E → Bool) → List E → E → Bool
+abbrev pub is_maximal : {E : Type 0} → (E → E → Bool) → List E → E → Bool
 is_maximal below members x = not (list_any (below x) members)
 
 -- where no member is below another, all are maximal
@@ -200,7 +200,7 @@ module _ {E : Type 0} {cmp : E → E → Ordering} {below : E → E → Bool} (t
       has-filter exact top (is_maximal below s) s ∙ and_from (is_maximal below s top) (has cmp top s) (not_from_false (list_any (below top) s) is.none_above) top_there
 
   -- what is below some member is below a maximal one
-  below_some_maximal : (x : E) (s : List E) → list_any (below x) s ≡ true → list_any (below x) (maximal below s) ≡ true
+  pub below_some_maximal : (x : E) (s : List E) → list_any (below x) s ≡ true → list_any (below x) (maximal below s) ≡ true
   below_some_maximal x s some =
       let found = has-from_list_any total (below x) s some in
       let walked = top_of found.0 s in
@@ -209,57 +209,6 @@ module _ {E : Type 0} {cmp : E → E → Ordering} {below : E → E → Bool} (t
   -- so what is below some maximal member is what is below some member
   pub below_maximal : (x : E) (s : List E) → list_any (below x) (maximal below s) ≡ list_any (below x) s
   below_maximal x s = both_ways _ _ (list_any_within total exact (below x) (maximal below s) s (has_before_filter exact (is_maximal below s) s)) (below_some_maximal x s)
-
--- a member of the first is in the second or below one of its members
-abbrev pub is_within : {E : Type 0} → (E → E → Ordering) → (E → E → Bool) → List E → E → Bool
-is_within cmp below others x = has cmp x others || list_any (below x) others
-
--- what is kept of two sets is the second, where each of the first is there or below one that is
-kept_is_second : (some_a some_b in_a in_b : Bool) → (some_a ≡ true → some_b ≡ true) → (in_b ≡ true → some_b ≡ false) → (in_a ≡ true → (in_b ≡ true) ⊎ (some_b ≡ true)) → (not (some_a || some_b) && (in_a || in_b)) ≡ in_b
-kept_is_second some_a some_b in_a true a_to_b none within = kept_is_second_in some_a some_b in_a a_to_b (none refl)
-  where
-    kept_is_second_in : (some_a some_b in_a : Bool) → (some_a ≡ true → some_b ≡ true) → some_b ≡ false → (not (some_a || some_b) && (in_a || true)) ≡ true
-    kept_is_second_in true some_b in_a a_to_b e = absurd (false≢true (sym e ∙ a_to_b refl))
-    kept_is_second_in false true in_a a_to_b e = absurd (false≢true (sym e))
-    kept_is_second_in false false true a_to_b e = refl
-    kept_is_second_in false false false a_to_b e = refl
-kept_is_second true some_b in_a false a_to_b none within = refl
-kept_is_second false true in_a false a_to_b none within = refl
-kept_is_second false false false false a_to_b none within = refl
-kept_is_second false false true false a_to_b none within = absurd (kept_is_second_out (within refl))
-  where
-    kept_is_second_out : (false ≡ true) ⊎ (false ≡ true) → ⊥
-    kept_is_second_out (inl e) = false≢true e
-    kept_is_second_out (inr e) = false≢true e
-
-module _ {E : Type 0} {cmp : E → E → Ordering} (exact : IsAntisymmetric cmp) where
-  -- a test that all members pass is one that each passes
-  list_all-at : (test : E → Bool) (members : List E) (q : E) → list_all test members ≡ true → has cmp q members ≡ true → test q ≡ true
-  list_all-at test [] q all there = absurd (false≢true there)
-  list_all-at test (member ∷ members) q all there =
-      let parts = and_parts (test member) (list_all test members) all in
-      elim (has_cases cmp q member members there) [
-        | inl ties ↦ ap test (exact q member ((Equal-is (cmp q member)).0 ties)) ∙ parts.0
-        | inr later ↦ list_all-at test members q parts.1 later
-      ]
-
-module _ {E : Type 0} {cmp : E → E → Ordering} (total : IsTotalOrder cmp) where
-  -- and the other way round
-  list_all-from_has : (test : E → Bool) (members : List E) → ((q : E) → has cmp q members ≡ true → test q ≡ true) → list_all test members ≡ true
-  list_all-from_has test [] each = refl
-  list_all-from_has test (member ∷ members) each =
-      and_from (test member) (list_all test members)
-      (each member (has_first cmp member member members (ap is_eq (tied_itself total member))))
-      (list_all-from_has test members (λ q there. each q (has_later cmp q member members there)))
-
-module _ {E : Type 0} {cmp : E → E → Ordering} (exact : IsAntisymmetric cmp) (below : E → E → Bool) where
-  -- no member of an antichain is below another
-  none_at : (s : List E) → All (λ x. list_any (below x) s ≡ false) s → (q : E) → has cmp q s ≡ true → list_any (below q) s ≡ false
-  none_at s none q there = not-true (list_any (below q) s) (list_all-at exact (λ x. not (list_any (below x) s)) s q (list_all-from_All s none) there)
-    where
-      list_all-from_All : (xs : List E) → All (λ x. list_any (below x) s ≡ false) xs → list_all (λ x. not (list_any (below x) s)) xs ≡ true
-      list_all-from_All [] all = refl
-      list_all-from_All (x ∷ xs) all = and_from _ _ (not_from_false (list_any (below x) s) (All-head (λ x. list_any (below x) s ≡ false) x xs all)) (list_all-from_All xs (All-tail (λ x. list_any (below x) s ≡ false) x xs all))
 
 module _ {E : Type 0} {cmp : E → E → Ordering} (total : IsTotalOrder cmp) (exact : IsAntisymmetric cmp) (is_member : E → Type 0) (below : E → E → Bool) (order : IsStrictOrder below) where
   -- the maximal members of a set are a set
@@ -334,36 +283,3 @@ module _ {E : Type 0} {cmp : E → E → Ordering} (total : IsTotalOrder cmp) (e
       ∙ ap (maximal below) (set_associative total exact is_member a b c va.is_set vb.is_set vc.is_set tt tt ∙ swapped a bc va.is_set is_bc tt)
       ∙ sym (maximal_of_maximal bc a is_bc va.is_set)
       ∙ ap (maximal below) (swapped (maximal below bc) a (maximal_is_set bc is_bc) va.is_set tt)
-
-  -- Whether one antichain is at most another is tested member by member: each stands in the other, or below one of its members.
-  pub each_within : (a b : List E) → IsAntichain cmp is_member below a → IsAntichain cmp is_member below b → IsTrue (list_all (is_within cmp below b) a) ↔ (joined_antichains cmp below a b ≡ b)
-  each_within a b va vb =
-      let ab = united cmp a b in
-      let is_ab = united_is_set total exact is_member a b va.is_set vb.is_set in
-      let in_ab : (x : E) → has cmp x ab ≡ (has cmp x a || has cmp x b) = λ x. has-united total exact is_member a b x va.is_set vb.is_set in
-      let some_ab : (x : E) → list_any (below x) ab ≡ (list_any (below x) a || list_any (below x) b) = λ x. list_any-united total exact is_member (below x) a b va.is_set vb.is_set in (
-        (λ all. same_sets total exact is_member (maximal below ab) b (maximal_is_set ab is_ab) vb.is_set (λ q.
-            has-filter exact q (is_maximal below ab) ab
-            ∙ ap (λ t. not t && has cmp q ab) (some_ab q)
-            ∙ ap (λ t. not (list_any (below q) a || list_any (below q) b) && t) (in_ab q)
-            ∙ kept_is_second (list_any (below q) a) (list_any (below q) b) (has cmp q a) (has cmp q b)
-            (λ some. below_within q a b all some)
-            (λ there. none_at exact below b vb.none_below q there)
-            (λ there. or_cases (has cmp q b) (list_any (below q) b) (list_all-at exact (is_within cmp below b) a q all there)))),
-        (λ same. list_all-from_has total (is_within cmp below b) a (λ q there.
-            elim (cases_Bool (list_any (below q) ab)) [
-              | inl below_some ↦ or_right (has cmp q b) (list_any (below q) b) (ap (list_any (below q)) (sym same) ∙ below_some_maximal total exact order q ab below_some)
-              | inr below_none ↦ or_left (has cmp q b) (list_any (below q) b) (ap (has cmp q) (sym same) ∙ has-filter exact q (is_maximal below ab) ab ∙ and_from (is_maximal below ab q) (has cmp q ab) (not_from_false (list_any (below q) ab) below_none) (in_ab q ∙ or_left (has cmp q a) (has cmp q b) there))
-            ])),
-      )
-    where
-      -- what is below some member of the first is below some member of the second
-      below_within : (q : E) (a b : List E) → IsTrue (list_all (is_within cmp below b) a) → list_any (below q) a ≡ true → list_any (below q) b ≡ true
-      below_within q a b all some =
-          let found = has-from_list_any total (below q) a some in
-          elim (or_cases (has cmp found.0 b) (list_any (below found.0) b) (list_all-at exact (is_within cmp below b) a found.0 all found.1)) [
-            | inl there ↦ list_any-from_has exact (below q) b found.0 there found.2
-            | inr higher ↦
-                let above = has-from_list_any total (below found.0) b higher in
-                list_any-from_has exact (below q) b above.0 above.1 (order.through q found.0 above.0 found.2 above.2)
-          ]

@@ -5,7 +5,7 @@ use Rattle.std.proofs.Common.{refl, arith, lit<, lit≤}
 use Rattle.std.proofs.lemmas.List.Elements.{All-from_recursion, All-nil}
 use Rattle.lattice_laws.specs.declared.maybe.Maybe.TheVariants.{Is}
 use Rattle.clock_lattice.specs.Clock.{count_of, covers}
-use Rattle.clock_lattice.specs.NeedsLaws.{empty_are_needs}
+use Rattle.clock_lattice.proofs.NeedsLemmas.{empty_are_needs}
 use Rattle.composed_value.specs.PlainValue.{IsPutOf}
 use Rattle.composed_value.specs.Sound.{counted, IsSound}
 use Rattle.composed_value.specs.declared.kind.Kind.TheVariants as kinds

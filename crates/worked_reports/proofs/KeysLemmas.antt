@@ -5,8 +5,8 @@ use Rattle.std.proofs.Common.{refl, lit<, lit≤}
 use Rattle.std.proofs.lemmas.List.Elements.{All-from_recursion, All-nil}
 use Rattle.lattice_laws.specs.declared.maybe.Maybe.TheVariants.{Is, Bottom}
 use Rattle.clock_lattice.specs.Clock.{count_of, covers}
-use Rattle.clock_lattice.specs.ClockLaws.{empty_is_clock}
-use Rattle.clock_lattice.specs.NeedsLaws.{empty_are_needs}
+use Rattle.clock_lattice.proofs.ClockLemmas.{empty_is_clock}
+use Rattle.clock_lattice.proofs.NeedsLemmas.{empty_are_needs}
 use Rattle.composed_value.specs.PlainValue.{IsPutOf}
 use Rattle.composed_value.specs.Sound.{counted, IsSound}
 use Rattle.composed_value.specs.declared.kind.Kind.TheVariants as kinds

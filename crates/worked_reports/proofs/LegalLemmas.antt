@@ -16,9 +16,10 @@ use Rattle.basic_lattices.specs.Stamped.{IsStamped}
 use Rattle.basic_lattices.specs.TextSet.{IsTextSet}
 use Rattle.basic_lattices.specs.Word.{IsWord}
 use Rattle.clock_lattice.specs.Clock.{IsCount, IsClock, count_of, one_count, covers}
-use Rattle.clock_lattice.specs.ClockLaws.{one_count_is_clock, one_count_entry}
+use Rattle.clock_lattice.proofs.ClockLemmas.{one_count_is_clock, one_count_entry}
 use Rattle.clock_lattice.specs.Needs.{IsNeeds}
-use Rattle.clock_lattice.specs.NeedsLaws.{empty_are_needs, needs_laws, one_need_is_needs}
+use Rattle.clock_lattice.specs.NeedsLaws.{needs_laws}
+use Rattle.clock_lattice.proofs.NeedsLemmas.{empty_are_needs, one_need_is_needs}
 use Rattle.composed_value.specs.Cell.{cell_of}
 use Rattle.composed_value.proofs.CellOfLemmas.{cell_of_is_cell}
 use Rattle.composed_value.specs.Kind.{kind_of}

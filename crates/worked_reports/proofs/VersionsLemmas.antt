@@ -4,7 +4,7 @@ use Rattle.std.specs.List.{list_any}
 use Rattle.std.proofs.Common.{refl, ap, arith, lit<, lit≤}
 use Rattle.std.proofs.lemmas.List.Elements.{All-from_recursion, All-nil}
 use Rattle.clock_lattice.specs.Clock.{count_of, covers}
-use Rattle.clock_lattice.specs.NeedsLaws.{empty_are_needs}
+use Rattle.clock_lattice.proofs.NeedsLemmas.{empty_are_needs}
 use Rattle.version_antichain.specs.Version.{IsVersion, is_below}
 use Rattle.version_antichain.specs.Versions.{IsVersions}
 use Rattle.version_antichain.specs.declared.version.Version.{Version}

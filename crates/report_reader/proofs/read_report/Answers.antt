@@ -1,5 +1,5 @@
 use Rattle.std.proofs.Common.{sym, subst, ◌∙◌}
-use Rattle.placement.specs.ConfigLaws.{placement_is}
+use Rattle.placement.proofs.ConfigLemmas.{placement_is}
 use Rattle.session_known.specs.Script.{IsValidScript}
 use Rattle.report_reader.specs.Reads.{IsReading}
 use Rattle.report_reader.proofs.FormToldLemmas.{reading_accepts}

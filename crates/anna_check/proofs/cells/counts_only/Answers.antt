@@ -7,7 +7,8 @@ use Rattle.std.proofs.lemmas.Bool.Decides.{eqb_tells}
 use Rattle.std.proofs.lemmas.List.Elements.{All-head, All-tail, AllWithin-more}
 use Rattle.std.proofs.lemmas.Option.{get_or_from_slice_get}
 use Rattle.composed_value.specs.PlainValue.{puts_of_session}
-use Rattle.lattice_laws.specs.Ascending.{ascending_tail, below_at, first_below, Greater_from_Less}
+use Rattle.lattice_laws.specs.Ascending.{ascending_tail, first_below}
+use Rattle.lattice_laws.proofs.AscendingLemmas.{below_at, Greater_from_Less}
 use Rattle.clock_lattice.specs.Clock.{count_of}
 use Rattle.clock_lattice.specs.SparseLaws.{first_value}
 use Rattle.anna_check.proofs.cells.counts_only.Goals as goal

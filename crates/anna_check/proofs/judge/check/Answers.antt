@@ -1,7 +1,7 @@
 use Rattle.std.proofs.Common.{◌≡◌, ℕ, List, sym, subst, ◌∙◌}
 use Rattle.std.proofs.lemmas.Result.{IfOk-weaker}
 use Rattle.placement.specs.Config.{IsPlacement}
-use Rattle.placement.specs.ConfigLaws.{placement_is}
+use Rattle.placement.proofs.ConfigLemmas.{placement_is}
 use Rattle.placement.specs.declared.config.Config.{Config}
 use Rattle.session_known.specs.Form.{HasForm}
 use Rattle.session_known.specs.Script.{IsValidScript}

@@ -1,6 +1,6 @@
 use Rattle.std.proofs.Common.{◌≡◌, Option, inl, inr, refl, sym, subst}
 use Rattle.placement.specs.Config.{placed}
-use Rattle.placement.specs.ConfigLaws.{placement_is}
+use Rattle.placement.proofs.ConfigLemmas.{placement_is}
 use Rattle.script_reader.proofs.ValidLaws.{script_is_valid}
 use Rattle.session_known.specs.Form.{HasForm, HasFormSomewhere}
 use Rattle.session_known.specs.declared.report.Report.{Report}

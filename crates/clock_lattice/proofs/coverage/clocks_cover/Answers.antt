@@ -1,4 +1,5 @@
-use Rattle.clock_lattice.specs.ClockLaws.{count-joined, counts_from_covers, covers_from_counts}
+use Rattle.clock_lattice.specs.ClockLaws.{count-joined, counts_from_covers}
+use Rattle.clock_lattice.proofs.ClockLemmas.{covers_from_counts}
 use Rattle.clock_lattice.proofs.CoverageLemmas.{clock_coverage}
 use Rattle.clock_lattice.proofs.coverage.clocks_cover.Goals as goal
 

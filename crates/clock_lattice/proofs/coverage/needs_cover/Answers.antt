@@ -1,4 +1,4 @@
-use Rattle.clock_lattice.specs.NeedsLaws.{clock-joined, clocks_from_covers, covers_from_clocks}
+use Rattle.clock_lattice.proofs.NeedsLemmas.{clock-joined, clocks_from_covers, covers_from_clocks}
 use Rattle.clock_lattice.proofs.CoverageLemmas.{needs_coverage}
 use Rattle.clock_lattice.proofs.coverage.needs_cover.Goals as goal
 

@@ -1,4 +1,4 @@
-use Rattle.placement.specs.ConfigLaws.{placement_is, is_placement}
+use Rattle.placement.proofs.ConfigLemmas.{placement_is, is_placement}
 use Rattle.placement.proofs.laws.placements_are_single.Goals as goal
 
 pub returns-clause-single : goal.returns-clause-single

@@ -1,6 +1,6 @@
 use Rattle.std.proofs.Common.{IsTrue, subst}
 use Rattle.std.specs.FinMap.{is_sorted}
-use Rattle.lattice_laws.specs.EntriesLaws.{plain_itself}
+use Rattle.lattice_laws.proofs.EntriesLemmas.{plain_itself}
 use Rattle.basic_lattices.specs.Word.{word_cmp}
 use Rattle.composed_value.specs.Value.{IsFields}
 use Rattle.report_reader.proofs.ReadRows.{all_pieces_read, no_piece, no_piece_place, no_piece_read, piece_read}

@@ -1,7 +1,8 @@
 use Rattle.std.proofs.Common.{◌≡◌, sym, ap, ◌∙◌, ℕ, List, [], unwrap_or, Bor}
 use Rattle.std.specs.Option.{option_map}
 use Rattle.clock_lattice.specs.Needs.{IsNeeds, joined_needs, one_need}
-use Rattle.clock_lattice.specs.NeedsLaws.{needs_laws, needs_associative, one_need_is_needs}
+use Rattle.clock_lattice.specs.NeedsLaws.{needs_laws, needs_associative}
+use Rattle.clock_lattice.proofs.NeedsLemmas.{one_need_is_needs}
 use Rattle.clock_lattice.specs.declared.needs.Needs.{Needs}
 use Rattle.session_known.proofs.known.learn_needs.Goals as goal
 

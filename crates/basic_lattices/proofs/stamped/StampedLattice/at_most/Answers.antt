@@ -1,6 +1,6 @@
 use Rattle.std.proofs.Common.{ap, ◌∙◌}
 use Rattle.std.specs.Ordering.{is_le}
-use Rattle.basic_lattices.specs.StampedLaws.{stamp_is_second}
+use Rattle.basic_lattices.proofs.StampedLemmas.{stamp_is_second}
 use Rattle.basic_lattices.proofs.stamped.StampedLattice.at_most.Goals as goal
 
 pub returns : goal.returns

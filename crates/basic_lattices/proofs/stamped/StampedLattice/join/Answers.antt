@@ -1,6 +1,6 @@
 use Rattle.std.proofs.Common.{ap, sym, ◌∙◌}
 use Rattle.std.specs.Ordering.{is_lt}
-use Rattle.basic_lattices.specs.StampedLaws.{stamp_if_below, stamp_unless_below}
+use Rattle.basic_lattices.proofs.StampedLemmas.{stamp_if_below, stamp_unless_below}
 use Rattle.basic_lattices.proofs.stamped.StampedLattice.join.Goals as goal
 
 pub returns-in_ok-self-clause-ok : goal.returns-in_ok-self-clause-ok

@@ -1,6 +1,6 @@
 use Rattle.std.specs.Prelude.{slice_get}
 use Rattle.std.proofs.Common.{sym, ap, ◌∙◌}
-use Rattle.lattice_laws.specs.SetsLaws.{member_at}
+use Rattle.lattice_laws.proofs.SetsLemmas.{member_at}
 use Rattle.basic_lattices.proofs.text_set.TextSet.at.Goals as goal
 
 pub returns : goal.returns

@@ -2,7 +2,7 @@ use Rattle.std.specs.Prelude.{is_some}
 use Rattle.std.specs.FinMap.{find}
 use Rattle.std.proofs.Common.{sym, ap, ◌∙◌}
 use Rattle.basic_lattices.specs.Word.{word_cmp}
-use Rattle.lattice_laws.specs.SetsLaws.{map_of_view, is_some-option_map}
+use Rattle.lattice_laws.proofs.SetsLemmas.{map_of_view, is_some-option_map}
 use Rattle.basic_lattices.proofs.text_set.TextSet.has.Goals as goal
 
 pub returns : goal.returns

@@ -2,7 +2,7 @@ use Rattle.std.specs.Prelude.{IfOk}
 use Rattle.std.proofs.Common.{subst}
 use Rattle.lattice_laws.specs.Entries.{IsPushed, plain_entries}
 use Rattle.lattice_laws.specs.Sets.{keys_of}
-use Rattle.lattice_laws.specs.SetsLaws.{pushed_to_set}
+use Rattle.lattice_laws.proofs.SetsLemmas.{pushed_to_set}
 use Rattle.basic_lattices.specs.Word.{IsWord, word_cmp}
 use Rattle.basic_lattices.specs.TextSet.{IsTextSet}
 use Rattle.basic_lattices.proofs.text_set.TextSet.push.Goals as goal

@@ -1,4 +1,4 @@
-use Rattle.lattice_laws.specs.SetsLaws.{united_is_second}
+use Rattle.lattice_laws.proofs.SetsLemmas.{united_is_second}
 use Rattle.basic_lattices.specs.Word.{word_cmp}
 use Rattle.basic_lattices.proofs.text_set.TextSetLattice.at_most.Goals as goal
 

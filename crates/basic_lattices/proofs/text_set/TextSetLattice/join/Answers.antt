@@ -1,7 +1,8 @@
 use Rattle.std.proofs.Common.{ap, ◌∙◌}
 use Rattle.std.proofs.lemmas.Result.{on_ok_weaker}
 use Rattle.lattice_laws.specs.Sets.{keys_of}
-use Rattle.lattice_laws.specs.SetsLaws.{keys_of-as_map, joined_views}
+use Rattle.lattice_laws.specs.SetsLaws.{keys_of-as_map}
+use Rattle.lattice_laws.proofs.SetsLemmas.{joined_views}
 use Rattle.basic_lattices.specs.Word.{word_cmp}
 use Rattle.basic_lattices.specs.TextSet.{united}
 use Rattle.basic_lattices.proofs.text_set.TextSetLattice.join.Goals as goal

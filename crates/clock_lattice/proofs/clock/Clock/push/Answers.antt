@@ -1,6 +1,6 @@
 use Rattle.std.specs.Ordering.{nat_cmp}
 use Rattle.std.proofs.Common.{◌<◌, ◌^◌, arith}
-use Rattle.lattice_laws.specs.EntriesLaws.{map_after_push}
+use Rattle.lattice_laws.proofs.EntriesLemmas.{map_after_push}
 use Rattle.clock_lattice.specs.Clock.{IsCount}
 use Rattle.clock_lattice.proofs.clock.Clock.push.Goals as goal
 

@@ -1,6 +1,6 @@
 use Rattle.std.specs.Ordering.{nat_cmp}
 use Rattle.std.proofs.Common.{◌<◌, ◌^◌}
-use Rattle.lattice_laws.specs.EntriesLaws.{map_after_push}
+use Rattle.lattice_laws.proofs.EntriesLemmas.{map_after_push}
 use Rattle.clock_lattice.specs.Needs.{IsSomeClock}
 use Rattle.clock_lattice.proofs.needs.Needs.push.Goals as goal
 

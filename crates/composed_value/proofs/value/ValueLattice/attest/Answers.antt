@@ -1,5 +1,5 @@
 use Rattle.std.proofs.Common.{subst, sym}
-use Rattle.lattice_laws.specs.EntriesLaws.{plain_itself}
+use Rattle.lattice_laws.proofs.EntriesLemmas.{plain_itself}
 use Rattle.composed_value.specs.Value.{IsFields, IsValue}
 use Rattle.composed_value.proofs.value.ValueLattice.attest.Goals as goal
 

@@ -1,7 +1,7 @@
 use Rattle.std.proofs.Common.{◌&&◌, leb, sym, ap, subst, ◌∙◌}
 use Rattle.clock_lattice.specs.Clock.{covers}
 use Rattle.clock_lattice.specs.Needs.{IsNeeds, clock_at}
-use Rattle.clock_lattice.specs.NeedsLaws.{clock_at_is_clock}
+use Rattle.clock_lattice.proofs.NeedsLemmas.{clock_at_is_clock}
 use Rattle.session_known.proofs.CoversLemmas.{covers_raised_both}
 use Rattle.session_known.proofs.known.Known.covers_raised.Goals as goal
 

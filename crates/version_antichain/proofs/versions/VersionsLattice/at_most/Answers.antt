@@ -1,7 +1,7 @@
 use Rattle.std.specs.Prelude.{◌≡◌, map}
 use Rattle.std.specs.List.{list_all}
 use Rattle.std.proofs.Common.{subst, sym, ap, ◌∙◌}
-use Rattle.version_antichain.specs.AntichainLaws.{is_within, each_within}
+use Rattle.version_antichain.proofs.AntichainLemmas.{is_within, each_within}
 use Rattle.version_antichain.specs.Version.{IsVersion, version_cmp, is_below}
 use Rattle.version_antichain.specs.VersionLaws.{version_total, version_exact, below_order}
 use Rattle.version_antichain.specs.Versions.{IsVersions}

@@ -10,7 +10,7 @@ use Rattle.std.specs.Ordering.{nat_cmp, is_lt}
 use Rattle.lattice_laws.specs.Ties.{both_tie}
 use Rattle.placement.specs.Config.{IsRing, IsPlacement, replicas_on, placed}
 use Rattle.placement.specs.Ring.{point_cmp, points_of, with_point, sorted_points, ring_of}
-use Rattle.placement.specs.SortedLaws.{sorted_none, sorted_one, sorted_cons, sorted_before, sorted_tail, none_below_first, not_above, one_sorted}
+use Rattle.placement.proofs.SortedLemmas.{sorted_none, sorted_one, sorted_cons, sorted_before, sorted_tail, none_below_first, not_above, one_sorted}
 use Rattle.placement.specs.declared.config.Config.{Config}
 use Rattle.placement.specs.declared.ring.Point.{Point}
 

@@ -12,7 +12,7 @@ use Rattle.std.specs.FinMap.{IsAntisymmetric}
 use Rattle.std.specs.Ordering.{is_lt, is_eq}
 use Rattle.std.specs.declared.cmp.Ordering.{Ordering}
 use Rattle.std.specs.declared.cmp.Ordering.TheVariants.{Less, Equal, Greater}
-use Rattle.lattice_laws.specs.Ascending.{Less_from_Greater}
+use Rattle.lattice_laws.proofs.AscendingLemmas.{Less_from_Greater}
 
 module _ {X : Type 0} (cmp : X → X → Ordering) where
   -- what follows the first is ascending too
