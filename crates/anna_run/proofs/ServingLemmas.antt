@@ -2,7 +2,7 @@
 use Rattle.std.proofs.Common.{◌≡◌, ℕ, ◌+◌, ◌-◌, ◌<◌, ◌≤◌, ◌^◌, max, cond, ◌==◌, false, List, ◌++◌, length, drop, inl, inr, refl, sym, ap, subst, ◌∙◌, arith}
 use Rattle.std.proofs.Math.Seq.{map-set_same}
 use Rattle.std.proofs.lemmas.List.{get_or-map, length-map}
-use Rattle.std.proofs.lemmas.Bool.{cases_eq, ne_eqb, eq-eqb}
+use Rattle.std.proofs.lemmas.Bool.{cases_eq, ne_eqb}
 use Rattle.clock_lattice.specs.Clock.{count_of, joined_clocks, one_count}
 use Rattle.composed_value.specs.Cell.{PlainCell, empty_cell}
 use Rattle.composed_value.specs.Kind.{kind_of, kind_of_value}
@@ -84,17 +84,6 @@ put_answered cells cells_now known known_now key lamport payload put can kept ne
       kinds_are = ap kinds_of cells_is ∙ kinds_with cells key put (kind_for cells key put (can.0.0) (subst (λ n. key ≤ n) (length-map cells (λ (cell : PlainCell). kind_of_value cell.value)) can.0.1) (ap (λ (p : Put). kind_of p.payload) put_is ∙ can.1));
       kept = subst IsKept (sym (knows_is ∙ ap (knows_put client knows key (own_count knows key + 1)) (greatest ∙ next))) kept_now;
     }
-
--- Nothing is put where none is left.
-pub worn_answered : (cells : List PlainCell) (known : Knows) (key : ℕ) (payload : Payload) → IsKept known.knows → known.knows.lamport ≡ last_lamport → HasAnswered cells known (lines.Put key payload) answers.Worn cells known
-worn_answered cells known key payload kept worn = record {
-  answer_is = sym (ap (λ worn. cond worn answers.Worn (answers.Put (own_count known.knows key + 1) (known.knows.lamport + 1))) (eq-eqb known.knows.lamport last_lamport worn));
-  cells_are = refl;
-  client_is = refl;
-  knows_is = refl;
-  kinds_are = refl;
-  kept = kept;
-}
 
 -- The first lines of a session are served.
 pub record IsServing (client : Client) (at_first : List PlainCell) (plan_lines : List Line) (i : ℕ) (cells : List PlainCell) (known : Knows) (given : List Answer) : Type 0 where

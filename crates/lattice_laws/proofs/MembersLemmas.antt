@@ -1,5 +1,5 @@
 -- Membership in lists that are mapped, filtered and put together.
-use Rattle.std.specs.Prelude.{◌≡◌, zero, suc, Bool, true, false, cond, ◌⊎◌, List, [], ◌∷◌, ◌++◌, map, filter, Contains}
+use Rattle.std.specs.Prelude.{◌≡◌, zero, suc, Bool, true, false, cond, ◌⊎◌, List, [], ◌∷◌, map, filter, Contains}
 use Rattle.std.proofs.Common.{refl, sym, ap, subst, ◌∙◌, inl, inr, arith}
 use Rattle.std.proofs.lemmas.List.Elements.{Contains-append_left, Contains-append_right, Contains-append_cases}
 use Rattle.lattice_laws.specs.Joins.{SameMembers}
@@ -27,19 +27,6 @@ module _ {X : Type 0} where
         | inl here ↦ inl (contains_only x y here)
         | inr later ↦ inr later
       ]
-
-  -- the list with the same members in front of others has the same members
-  pub same_append : (xs xs' ys ys' : List X) → SameMembers xs xs' → SameMembers ys ys' → SameMembers (xs ++ ys) (xs' ++ ys')
-  same_append xs xs' ys ys' same_x same_y x = (
-    (λ has_it. elim (Contains-append_cases xs ys x has_it) [
-      | inl left ↦ Contains-append_left xs' ys' x ((same_x x).0 left)
-      | inr right ↦ Contains-append_right xs' ys' x ((same_y x).0 right)
-    ]),
-    (λ has_it. elim (Contains-append_cases xs' ys' x has_it) [
-      | inl left ↦ Contains-append_left xs ys x ((same_x x).1 left)
-      | inr right ↦ Contains-append_right xs ys x ((same_y x).1 right)
-    ]),
-  )
 
   -- what is kept was there and passes the test, and the other way round
   pub contains_filter : (test : X → Bool) (xs : List X) (x : X) → Contains xs x → test x ≡ true → Contains (filter test xs) x
