@@ -1,14 +1,2 @@
 pub mod CheckLemmas
-pub mod OneCellFormLaws
-pub mod OneCellLaws
-pub mod OneKnownLaws
-pub mod OneLinesLaws
-pub mod OnePlaceLaws
-pub mod OnePutsLaws
-pub mod OneRunLaws
-pub mod OneSessionLaws
-pub mod OneWorker
-pub mod OneWorkerLaws
-pub mod ReportLemmas
-pub mod ServingLemmas
 pub mod Taking

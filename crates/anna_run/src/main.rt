@@ -4,9 +4,7 @@
 //! and the standard streams, and ends with the number that it answers.
 #![tactic(auto)]
 
-mod one_map;
 mod run;
-mod serve;
 mod texts;
 mod words;
 

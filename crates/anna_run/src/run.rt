@@ -11,11 +11,11 @@ ghost use Rattle.anna_run.specs.Outcomes.{IsOwed, IsOwedOf, IsReport, TellsOf, T
 ghost use Rattle.anna_run.specs.Words.{command_in};
 ghost use Rattle.anna_run.specs.Run.{use_of, sink_use_of, served_forms, exit_number, verdict_status, AreChecked, IsUntouched, IsBounded, IsEnd, IsComplete, IsJudged, KeepsCounts, IsRunOf, IsExitOf};
 
-use crate::serve::serve;
 use crate::texts::{line, refusal, report_refusal, verdict_line};
 use crate::words::{Command, WordsFault, read_words};
 use anna_check::{Verdict, check};
 use lattice_laws::NoMemory;
+use one_worker::serve::serve;
 use outside::{Failed, ReadFault, Sink, Source, finish, read_all};
 use report_text::{ReportFault, read_report, write_report};
 use script_reader::{Built, MOST_BYTES, ScriptFault, read_script, read_script_built, split_input};

@@ -1,0 +1,12 @@
+mod OneCellFormLaws
+mod OneCellLaws
+mod OneKnownLaws
+mod OneLinesLaws
+mod OnePlaceLaws
+mod OnePutsLaws
+mod OneRunLaws
+mod OneSessionLaws
+mod OneWorker
+mod OneWorkerLaws
+mod ReportLemmas
+mod ServingLemmas
