@@ -108,13 +108,7 @@ with_added sessions line = record {
 -- A command was added to the last session.
 pub record HasAdded (old new : Reader) (line : Line) : Type 0 where
   pub kept : IsKept new
-  pub added : so_far new ≡ record {
-    built = (so_far old).built;
-    named = (so_far old).named;
-    has_header = (so_far old).has_header;
-    has_workers = (so_far old).has_workers;
-    has_factor = (so_far old).has_factor;
-    has_round = (so_far old).has_round;
+  pub added : so_far new ≡ record (so_far old) {
     script = with_sessions (with_line line (so_far old).script.sessions) (so_far old).script;
     begun = begun_after_line (so_far old).begun line;
   }
@@ -122,15 +116,8 @@ pub record HasAdded (old new : Reader) (line : Line) : Type 0 where
 -- A session was begun.
 pub record HasOpened (old new : Reader) (plan : SessionPlan) : Type 0 where
   pub kept : IsKept new
-  pub added : so_far new ≡ record {
-    built = (so_far old).built;
-    named = (so_far old).named;
-    has_header = (so_far old).has_header;
-    has_workers = (so_far old).has_workers;
-    has_factor = (so_far old).has_factor;
-    has_round = (so_far old).has_round;
+  pub added : so_far new ≡ record (so_far old) {
     script = with_sessions ((so_far old).script.sessions ++ plan ∷ []) (so_far old).script;
-    begun = (so_far old).begun;
   }
 
 -- a session stands before, and fewer commands than there may be
