@@ -2,7 +2,8 @@
 use Rattle.std.specs.Prelude.{◌≡◌, ℕ, ◌+◌, ◌<◌, ◌≤◌, ◌⊎◌, false, List, [], ◌∷◌, ◌++◌, take, drop, length, Option, Some, None, Result, Ok, Err, Vec, String, codes}
 use Rattle.std.specs.Global.{Global}
 use Rattle.std.specs.Fmt.{decimal}
-use Rattle.outside.specs.Outside.{Ends, Rose, NoneLeft, Took, TookMost}
+use Rattle.lattice_laws.specs.Counts.{Rose}
+use Rattle.outside.specs.Outside.{Ends, NoneLeft, Took, TookMost}
 use Rattle.placement.specs.Config.{placed}
 use Rattle.script_reader.specs.Grammar.{most_bytes, all_built, IsScript, IsRefused}
 use Rattle.script_reader.specs.Split.{split_place}

@@ -1,6 +1,6 @@
 //! The call that does all that the program does.
 ghost use Rattle.std.specs.Prelude.{◌≡◌, ◌≤◌, ℕ, List, Some, None, IfOk};
-ghost use Rattle.outside.specs.Outside.{Rose};
+ghost use Rattle.lattice_laws.specs.Counts.{Rose};
 ghost use Rattle.script_reader.specs.Grammar.{IsScript};
 ghost use Rattle.placement.specs.Config.{placed};
 ghost use Rattle.session_known.specs.Form.{HasForm};

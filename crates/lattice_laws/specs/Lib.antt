@@ -1,4 +1,5 @@
 pub mod Ascending
+pub mod Counts
 pub mod Entries
 pub mod EntriesLaws
 pub mod Greatest

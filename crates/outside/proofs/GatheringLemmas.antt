@@ -4,7 +4,8 @@ use Rattle.std.proofs.lemmas.List.{append-nil, length-append, take-append-le}
 use Rattle.std.proofs.Math.Seq.{take-append-add}
 use Rattle.outside.proofs.OutsideLemmas.{Grew-more, Grew-none}
 use Rattle.outside.specs.Gathering.{Passes, Adds, Begins, HasEnded, EndsAs, Wrote}
-use Rattle.outside.specs.Outside.{Grew, GrewByFront, HasCause, Rose}
+use Rattle.lattice_laws.specs.Counts.{Rose}
+use Rattle.outside.specs.Outside.{Grew, GrewByFront, HasCause}
 use Rattle.outside.specs.declared.Failed.{Failed}
 use Rattle.outside.specs.declared.gathering.Out.{Out}
 

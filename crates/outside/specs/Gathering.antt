@@ -1,6 +1,7 @@
 -- A text on its way to a sink: what is gathered in a block, and what was given.
 use Rattle.std.specs.Prelude.{◌≡◌, ℕ, ◌≤◌, List, [], ◌++◌, Option, Bool, true, false, Result, Ok, Err}
-use Rattle.outside.specs.Outside.{Grew, GrewByFront, Rose}
+use Rattle.lattice_laws.specs.Counts.{Rose}
+use Rattle.outside.specs.Outside.{Grew, GrewByFront}
 use Rattle.outside.specs.declared.Failed.{Failed}
 use Rattle.outside.specs.declared.gathering.Out.{Out}
 

@@ -1,19 +1,12 @@
 -- What passes through the ends of a program: bytes taken, bytes written, and faults.
-use Rattle.std.specs.Prelude.{◌≡◌, ℕ, ◌+◌, ◌-◌, ◌^◌, ◌<◌, ◌≤◌, ◌↔◌, ◌⊎◌, min, List, [], ◌++◌, take, length, Option, Some, None, Result, Ok, Err, OnErr, ⊤}
+use Rattle.std.specs.Prelude.{◌≡◌, ℕ, ◌<◌, ◌≤◌, ◌↔◌, ◌⊎◌, List, [], ◌++◌, take, length, Option, Some, None, Result, Ok, Err, OnErr, ⊤}
+use Rattle.lattice_laws.specs.Counts.{one_more, Rose}
 use Rattle.outside.specs.declared.Failed.{Failed}
-
--- a count of faults with one more, at most 2 ^ 64 - 1
-abbrev pub one_fault_more : ℕ → ℕ
-one_fault_more faults = min (faults + 1) (2 ^ 64 - 1)
 
 -- a count of faults after a call that counts one fault where it failed, and else none
 abbrev pub faults_after : {T E : Type 0} → ℕ → Result T E → ℕ
 faults_after faults (Ok done) = faults
-faults_after faults (Err failed) = one_fault_more faults
-
--- The count of faults rose, or stands at the end of its type.
-abbrev pub Rose : ℕ → ℕ → Type 0
-Rose before now = one_fault_more before ≤ now
+faults_after faults (Err failed) = one_more faults
 
 -- The count has not fallen, and where the call failed it rose.
 abbrev pub HasCause : {T E : Type 0} → ℕ → ℕ → Result T E → Type 0

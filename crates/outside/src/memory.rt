@@ -1,7 +1,8 @@
 //! Ends over memory: sources and sinks for tests and for whatever runs without the world. They tell
 //! their bytes, so a contract about them says what was read and written.
 ghost use Rattle.std.specs.Prelude.{◌≡◌, ◌≢◌, ℕ, ◌+◌, ◌-◌, ◌^◌, ◌<◌, ◌≤◌, ◌↔◌, ◌⊎◌, min, List, [], ◌++◌, Some, Ok, IsTrue, IsErr, IfOk, IfSome, OnOk, OnErr, MatchBool, Contains, take, drop, length, if◌then◌else◌, codes, false};
-ghost use Rattle.outside.specs.Outside.{Takes, Grew, HasCause, Rose, one_fault_more};
+ghost use Rattle.lattice_laws.specs.Counts.{Rose, one_more};
+ghost use Rattle.outside.specs.Outside.{Takes, Grew, HasCause};
 ghost use Rattle.outside.specs.Memory.{FailsNext, next_call, new_plan, after_call, written_of, with_piece};
 
 use crate::transfer::move_front;
@@ -317,7 +318,7 @@ impl FaultPlan {
 
     /// Counts a fault.
     fn raise(&mut self)
-        ensures raised { self.new ≡ record self.old { faults = one_fault_more self.old.faults } }
+        ensures raised { self.new ≡ record self.old { faults = one_more self.old.faults } }
         ensures rose { (self.old.faults ≤ self.new.faults) × Rose self.old.faults self.new.faults }
     {
         self.faults = self.faults.saturating_add(1);

@@ -1,6 +1,7 @@
 //! Whole inputs and whole texts, over calls that move a part.
 ghost use Rattle.std.specs.Prelude.{◌≡◌, ℕ, ◌≤◌, min, List, length, take, IfOk, OnOk, OnErr, IsErrOf};
-ghost use Rattle.outside.specs.Outside.{HasCause, Rose, TookMost, TookSome, Grew, GrewByFront, Writes};
+ghost use Rattle.lattice_laws.specs.Counts.{Rose};
+ghost use Rattle.outside.specs.Outside.{HasCause, TookMost, TookSome, Grew, GrewByFront, Writes};
 
 use crate::{Failed, Sink, Source};
 use lattice_laws::NoMemory;

@@ -1,0 +1,9 @@
+pub mod Carried
+pub mod Got
+pub mod Lanes
+pub mod Parts
+pub mod Plain
+pub mod Scrambled
+pub mod Sends
+pub mod Standing
+pub mod Takes

@@ -1,0 +1,65 @@
+-- What a box knows of a sender.
+use Rattle.std.specs.Prelude.{◌≡◌, ◌≢◌, ℕ, ◌≤◌, Bool, IsTrue, List, sum_by, if◌then◌else◌, Option, Some, None, IfSome, ⊤}
+use Rattle.std.specs.List.{range_with_len}
+
+-- how a box stands to a sender
+pub data Standing (M : Type 0) : Type 0 where
+  -- neither shown nor taken in
+  Apart : Standing M
+  -- shown: what it had sent when the two were last beside each other
+  Shown : List M → Standing M
+  -- taken in, when it had ended: all that it sent
+  Settled : List M → Standing M
+
+pub record About (M : Type 0) : Type 0 where
+  pub standing : Standing M
+  -- it is known how many of its messages are left to take
+  pub met : Bool
+  -- how many are, where that is known
+  pub left : ℕ
+
+module _ {M : Type 0} where
+  abbrev pub OnShown : Standing M → (List M → Type 0) → Type 0
+  OnShown Apart holds = ⊤
+  OnShown (Shown sent) holds = holds sent
+  OnShown (Settled sent) holds = ⊤
+
+  -- what a box tells of what a sender sent: all of a settled one, and, where the box is complete, what a shown one had sent
+  abbrev pub sent_of : Bool → Standing M → Option (List M)
+  sent_of complete Apart = None
+  sent_of complete (Shown sent) = if complete then Some sent else None
+  sent_of complete (Settled sent) = Some sent
+
+  abbrev pub OfSent : Bool → Standing M → (List M → Type 0) → Type 0
+  OfSent complete standing holds = IfSome (sent_of complete standing) holds
+
+  abbrev pub IsSettled : Standing M → Type 0
+  IsSettled Apart = ⊥
+  IsSettled (Shown sent) = ⊥
+  IsSettled (Settled sent) = ⊤
+
+  -- once nobody is beside the box
+  abbrev pub parted : Standing M → Standing M
+  parted Apart = Apart
+  parted (Shown sent) = Apart
+  parted (Settled sent) = Settled sent
+
+  -- a call changes what is known of this sender alone
+  abbrev pub OthersStay : ℕ → (ℕ → About M) → (ℕ → About M) → Type 0
+  OthersStay sender before now = (other : ℕ) → other ≢ sender → now other ≡ before other
+
+  -- a take leaves how the box stands to its senders, and of which it knows how many messages are left
+  abbrev pub AllStand : (ℕ → About M) → (ℕ → About M) → Type 0
+  AllStand before now = (sender : ℕ) → ((now sender).standing ≡ (before sender).standing) × ((now sender).met ≡ (before sender).met)
+
+  -- nobody is shown any longer; of the settled all stays
+  abbrev pub AllPart : (ℕ → About M) → (ℕ → About M) → Type 0
+  AllPart before now = (sender : ℕ) → ((now sender).standing ≡ parted (before sender).standing) × (IsSettled (before sender).standing → now sender ≡ before sender)
+
+  -- of each of so many senders it is known how many messages are left
+  abbrev pub AreMet : ℕ → (ℕ → About M) → Type 0
+  AreMet senders about = (sender : ℕ) → 1 ≤ sender → sender ≤ senders → IsTrue (about sender).met
+
+  -- how many messages of so many senders are left
+  abbrev pub left_of_all : ℕ → (ℕ → About M) → ℕ
+  left_of_all senders about = sum_by (λ sender. (about sender).left) (range_with_len 1 senders)

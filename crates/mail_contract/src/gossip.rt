@@ -1,0 +1,132 @@
+//! The weak end of a receiver.
+ghost use Rattle.std.specs.Prelude.{◌≡◌, ℕ, ◌+◌, ◌*◌, ◌≤◌, Bool, IsFalse, IsTrue, List, Option, Result};
+ghost use Rattle.lattice_laws.specs.declared.lattice.NoMemory.{NoMemory};
+ghost use Rattle.mail_contract.specs.Got.{HandedOut, AreIn, AreAll, IsOfSent, AreAllOfSent, IsOfShown, StayDue, AreDueHandedOut, missing};
+ghost use Rattle.mail_contract.specs.Parts.{Parts};
+ghost use Rattle.mail_contract.specs.Standing.{About, Shown, Settled, IsSettled, AllPart, AllStand, AreMet, OthersStay, left_of_all};
+ghost use Rattle.mail_contract.specs.Takes.{Answers, OnSome, OnNone, Counted, IsNothingLeft, LeftFalls};
+
+use crate::Tx;
+use lattice_laws::NoMemory;
+
+/// The weak end of a receiver: messages come in any order, and may come again.
+pub trait GossipRx<M>: Drop {
+    /// The end of its senders.
+    type From: Tx<M>;
+
+    /// What no call changes. No value of it is made.
+    type Key;
+
+    // It tells which senders belong to the box.
+    ghost key: { Self → Self.Key };
+
+    // The box and a sender of this number are of one making.
+    ghost pairs: { Self.Key → Self.From.Key → ℕ → Type 0 };
+
+    // How many senders there are: their numbers go from 1 up to it.
+    ghost senders: { Self.Key → ℕ };
+
+    // The numbers that the box was made with.
+    ghost made_with: { Self.Key → List ℕ };
+
+    // At a sender's number and a place in what it sent, the message that was handed out.
+    ghost got: { Self → ℕ → ℕ → Option M };
+
+    ghost answers: { Self → Answers };
+
+    ghost about: { Self → ℕ → About M };
+
+    // Of a sender: until one of its messages comes that had not come before, nothing is found only where
+    // all came that it had sent when it was last beside the box.
+    ghost due: { Self → ℕ → Bool };
+
+    // How often a message is handed out before nothing is found, at most, where every sender is met.
+    ghost most: { Self → ℕ };
+
+    ghost keeps: { Parts };
+
+    // What a take of this kind of box tells besides.
+    ghost besides: { Result (Option (ℕ × M)) NoMemory → Self → Self → Type 0 };
+
+    /// Hands out a message, with its sender's number. It may have been handed out before.
+    /// `NoMemory` hands out nothing.
+    fn take(&mut self) -> Result<Option<(u16, M)>, NoMemory>
+        ensures key { key self.new ≡ key self.old }
+        ensures sender { OnSome result (λ sender _.
+            (1 ≤ sender) × (sender ≤ senders (key self.old))) }
+        ensures got { HandedOut result (got self.old) (got self.new) }
+        ensures answers { Counted result (answers self.old) (answers self.new) }
+        ensures standing { AllStand (about self.old) (about self.new) }
+        ensures told { (sender : ℕ)
+            → IsOfSent keeps.complete (got self.old) (about self.old) sender
+            → IsOfSent keeps.complete (got self.new) (about self.new) sender }
+        ensures none { OnNone result
+            (AreAllOfSent keeps.complete (got self.new) (about self.new)) }
+        ensures bounded { IsTrue keeps.bounded → OnSome result (λ sender _.
+            IsOfShown (got self.new) (about self.new) sender) }
+        ensures at_most_left { IsTrue keeps.bounded → IsTrue keeps.finite
+            → LeftFalls result (about self.old) (about self.new) }
+        ensures left { IsTrue keeps.finite → (sender : ℕ) → IsTrue (about self.old sender).met
+            → (about self.new sender).left ≤ (about self.old sender).left }
+        ensures most { IsTrue keeps.finite → AreMet (senders (key self.old)) (about self.old)
+            → most self.new ≤ most self.old }
+        ensures falls { IsTrue keeps.finite → AreMet (senders (key self.old)) (about self.old)
+            → OnSome result (λ _ _. most self.new + 1 ≤ most self.old) }
+        ensures exact { IsTrue keeps.exact → OnNone result (IsNothingLeft (about self.new)) }
+        ensures due { StayDue (got self.old) (got self.new) (due self.old) (due self.new) }
+        ensures advances { IsTrue keeps.advances
+            → OnNone result (AreDueHandedOut (got self.new) (about self.new) (due self.new)) }
+        ensures besides { besides result self.old self.new };
+
+    /// Takes in a sender that has ended. It tells that each message of it that was handed out was
+    /// sent by it. Takes no memory.
+    fn settle(&mut self, ended: Self::From)
+        requires pair { pairs (key self.old) (Self.From.key ended) (Self.From.number ended) }
+        requires once { IsSettled (about self.old (Self.From.number ended)).standing → ⊥ }
+        ensures key { key self.new ≡ key self.old }
+        ensures got { got self.new ≡ got self.old }
+        ensures answers { answers self.new ≡ answers self.old }
+        ensures others { OthersStay (Self.From.number ended) (about self.old) (about self.new) }
+        ensures settled { (about self.new (Self.From.number ended)).standing
+            ≡ Settled (Self.From.sent ended) }
+        ensures met { IsTrue (about self.new (Self.From.number ended)).met }
+        ensures told { AreIn (got self.old (Self.From.number ended)) (Self.From.sent ended) }
+        ensures left { IsTrue keeps.finite → (about self.new (Self.From.number ended)).left
+            ≤ missing (got self.old (Self.From.number ended)) (Self.From.sent ended) }
+        ensures most { IsTrue keeps.finite → most self.new
+            ≤ 2 * (left_of_all (senders (key self.old)) (about self.new) + 8) };
+
+    /// Holds a sender beside the box, so that each learns what the other has. Takes no memory.
+    fn beside(&mut self, tx: &mut Self::From)
+        requires { pairs (key self.old) (Self.From.key tx.old) (Self.From.number tx.old) }
+        ensures key { key self.new ≡ key self.old }
+        ensures got { got self.new ≡ got self.old }
+        ensures answers { answers self.new ≡ answers self.old }
+        ensures others { OthersStay (Self.From.number tx.old) (about self.old) (about self.new) }
+        ensures still { IsFalse keeps.shows → about self.new ≡ about self.old }
+        ensures tx_key { Self.From.key tx.new ≡ Self.From.key tx.old }
+        ensures tx_number { Self.From.number tx.new ≡ Self.From.number tx.old }
+        ensures tx_sent { Self.From.sent tx.new ≡ Self.From.sent tx.old }
+        ensures tx_fulls { Self.From.fulls tx.new ≡ Self.From.fulls tx.old }
+        ensures shown { IsTrue keeps.shows
+            → (about self.new (Self.From.number tx.old)).standing ≡ Shown (Self.From.sent tx.old) }
+        ensures left { IsTrue keeps.shows → (about self.new (Self.From.number tx.old)).left ≤ 64 }
+        ensures most { IsTrue keeps.finite → most self.new
+            ≤ 2 * (left_of_all (senders (key self.old)) (about self.new) + 8) }
+        ensures met { IsTrue (about self.new (Self.From.number tx.old)).met }
+        ensures due { IsTrue (due self.new (Self.From.number tx.old)) }
+        ensures told { IsTrue keeps.complete
+            → AreIn (got self.old (Self.From.number tx.old)) (Self.From.sent tx.old) }
+        ensures roomy { IsTrue keeps.roomy → Self.From.unseen tx.new
+            ≤ missing (got self.old (Self.From.number tx.old)) (Self.From.sent tx.old) }
+        ensures freed { IsTrue keeps.freed
+            → AreAll (got self.old (Self.From.number tx.old)) (Self.From.sent tx.old)
+            → Self.From.clear tx.new };
+
+    /// Nobody is beside the box any longer: no sender is shown. Takes no memory.
+    fn apart(&mut self)
+        ensures key { key self.new ≡ key self.old }
+        ensures got { got self.new ≡ got self.old }
+        ensures answers { answers self.new ≡ answers self.old }
+        ensures about { AllPart (about self.old) (about self.new) };
+}
