@@ -1,6 +1,8 @@
 -- A list of which one element changes, and what is told of each of its elements.
 use Rattle.std.proofs.Common.{◌≡◌, ℕ, ◌+◌, ◌<◌, ◌≤◌, List, [], ◌∷◌, ◌++◌, map, replicate, take, drop, length, get_or, set, sym, ◌∙◌, ap, refl, arith, length-set}
-use Rattle.std.proofs.lemmas.List.{map-append, replicate-append-replicate, map-set, get_or-map, get_or-set_same, take_more_set, take_more, drop-set-lt, get_or-drop, take_all}
+use Rattle.std.specs.List.{range_with_len}
+use Rattle.std.proofs.lemmas.List.FromFn.{map-range_with_len_more}
+use Rattle.std.proofs.lemmas.List.{map-append, map-id, replicate-append-replicate, map-set, get_or-map, get_or-set_same, take_more_set, take_more, drop-set-lt, get_or-drop, take_all}
 use Rattle.std.proofs.lemmas.Grind.{drop_more_same}
 use Rattle.std.proofs.Math.Seq.{map-set_same}
 
@@ -51,3 +53,7 @@ push_map f xs now x ys y is before here = ap (map f) is ∙ map-append f xs (x �
 
 pub push_replicate : {A B : Type 0} (f : A → B) (xs now : List A) (x : A) (n : ℕ) (y : B) → now ≡ xs ++ x ∷ [] → map f xs ≡ replicate n y → f x ≡ y → map f now ≡ replicate (n + 1) y
 push_replicate f xs now x n y is before here = push_map f xs now x (replicate n y) y is before here ∙ replicate-append-replicate n 1 y
+
+-- a number more
+pub range_more : (n : ℕ) → range_with_len 1 (n + 1) ≡ range_with_len 1 n ++ (n + 1) ∷ []
+range_more n = sym (map-id (range_with_len 1 (n + 1))) ∙ map-range_with_len_more (λ k. k) 1 n (n + 1) (omega arith) ∙ ap (λ l. l ++ (n + 1) ∷ []) (map-id (range_with_len 1 n))

@@ -36,11 +36,11 @@ pub trait GossipRx<M>: Drop {
 
     ghost about: { Self → ℕ → About M };
 
-    // Of a sender: until one of its messages comes that had not come before, nothing is found only where
-    // all came that it had sent when it was last beside the box.
+    // Of a sender: until one of its messages comes that had not come before, nothing is found only
+    // where all came that it had sent when it was last beside the box.
     ghost due: { Self → ℕ → Bool };
 
-    // How often a message is handed out before nothing is found, at most, where every sender is met.
+    // How often a message is handed out at most before nothing is found, where every sender is met.
     ghost most: { Self → ℕ };
 
     ghost keeps: { Parts };
