@@ -6,7 +6,7 @@ use Rattle.std.proofs.lemmas.Option.{get_or_from_slice_get, slice_get_past, slic
 use Rattle.mail_contract.specs.Got.{Added, AreAll, AreIn, missing}
 use Rattle.mail_contract.specs.Got as weak
 use Rattle.mail_contract.specs.Scrambled.{AreHeld, IsDealt, flat, got_of_held, is_hidden, times, times_of_all, veiled}
-use Rattle.mail_contract.specs.Standing.{About, OfSent, OthersStay, Settled, Shown, Standing}
+use Rattle.mail_contract.specs.Standing.{About, OfSent, OthersStay, Shown, Standing}
 use Rattle.mail_contract.specs.Takes.{AreAllOfSent, IsFront, IsFrontOfSent, from_sender}
 use Rattle.mail_contract.specs.declared.scramble.Held.{Held}
 use Rattle.mail_contract.proofs.ScrambleLemmas.{Stand, all_stand, hidden_here, hidden_there, unstand, veiled_same}
@@ -329,15 +329,6 @@ module _ {M : Type 0} where
       by P true is = is refl
       by P false is = tt
   told_beside false complete n sent received before now others shown still told all s = subst (λ (about : ℕ → About M). IsFrontOfSent complete received about s) (sym (still refl)) (all s)
-
-  pub told_settled : (complete : Bool) (n : ℕ) (sent : List M) (received : List (ℕ × M)) (before now : ℕ → About M) → OthersStay n before now
-      → (now n).standing ≡ Settled sent → IsFront (from_sender n received) sent
-      → ((s : ℕ) → IsFrontOfSent complete received before s) → (s : ℕ) → IsFrontOfSent complete received now s
-  told_settled complete n sent received before now others settled told all s = ⊎_elim
-      (λ (e : s ≡ n). subst (λ (standing : Standing M). OfSent complete standing (IsFront (from_sender s received))) (sym (ap (λ k. (now k).standing) e ∙ settled))
-      (subst (λ k. IsFront (from_sender k received) sent) (sym e) told))
-      (λ (e : s ≢ n). subst (λ (about : About M). OfSent complete about.standing (IsFront (from_sender s received))) (sym (others s e)) (all s))
-      (same_or_not s n)
 
   pub none_held : (held : List (Held M)) → length held ≡ 0 → held ≡ []
   none_held [] is = refl

@@ -5,7 +5,7 @@ use Rattle.std.proofs.Math.ListN.{get_or-map}
 use Rattle.mail_contract.specs.Lanes.{Lane, AreCounted, IsDry, about_lane, about_of, at_place, count, lane_apart, nothing, of_sender, received_of, told_apart, with_taken, woven}
 use Rattle.mail_contract.specs.Parts.{Parts}
 use Rattle.mail_contract.specs.Standing.{AllPart, Apart, IsSettled, OfSent, OnShown, Settled, Shown, Standing, parted}
-use Rattle.mail_contract.specs.Takes.{AreAllOfSent, ComesBefore, IsFront, IsFrontOfSent, IsInTurn, IsNothingLeft, IsOfShown, from_sender, last_sender}
+use Rattle.mail_contract.specs.Takes.{AreAllOfSent, ComesBefore, IsFront, IsFrontOfSent, IsInTurn, IsOfShown, from_sender, last_sender}
 use Rattle.mail_contract.proofs.WovenLemmas.{woven_more, from_sender_woven, senders_woven, count_more_same, count_more_other, count_last}
 
 same_or_not : (a b : ℕ) → (a ≡ b) ⊎ (a ≢ b)
@@ -139,9 +139,6 @@ module _ {M : Type 0} where
         (λ (x : k < length lanes). dry k x)
         (λ (x : length lanes ≤ k). subst (IsDry keeps) (sym (get_or_past lanes k nothing x)) (record { all = tt; exact = λ exact. refl }))
         (below_or_not k (length lanes))
-
-    pub none_left : IsTrue keeps.exact → IsNothingLeft (about_of lanes)
-    none_left exact s = (dry_at s).exact exact
 
     pub all_received : (order : List ℕ) → AreCounted order lanes → AreAllOfSent keeps.complete (received_of order lanes) (about_of lanes)
     all_received order counted s = rw (from_sender_of order lanes s (counted s)) (dry_at s).all

@@ -1,5 +1,5 @@
 -- A list of which one element changes, and what is told of each of its elements.
-use Rattle.std.proofs.Common.{◌≡◌, ℕ, ◌+◌, ◌<◌, ◌≤◌, List, [], ◌∷◌, ◌++◌, map, replicate, take, drop, length, get_or, set, sym, ◌∙◌, ap, refl, arith, length-set}
+use Rattle.std.proofs.Common.{◌≡◌, ℕ, ◌+◌, ◌<◌, ◌≤◌, List, [], ◌∷◌, ◌++◌, map, replicate, take, drop, length, get_or, set, sym, ◌∙◌, ap, arith, length-set}
 use Rattle.std.specs.List.{range_with_len}
 use Rattle.std.proofs.lemmas.List.FromFn.{map-range_with_len_more}
 use Rattle.std.proofs.lemmas.List.{map-append, map-id, replicate-append-replicate, map-set, get_or-map, get_or-set_same, take_more_set, take_more, drop-set-lt, get_or-drop, take_all}
@@ -32,9 +32,6 @@ pub record Changed {B : Type 0} (change : B → B) (before now : List B) (i : �
   pub rest : drop i now ≡ drop i before
 
 module _ {B : Type 0} (change : B → B) (before now : List B) where
-  pub changed_none : before ≡ now → Changed change before now 0
-  changed_none same = record { done = refl; rest = sym same }
-
   pub changed_more : (i : ℕ) (new d : B) → i < length now → length now ≡ length before → new ≡ change (get_or now i d) → Changed change before now i → Changed change before (set now i new) (i + 1)
   changed_more i new d low long is so_far =
       let low_before : i < length before = omega (arith, long) in

@@ -202,9 +202,6 @@ module _ {M : Type 0} where
       here = omega (arith, is)
   arriving_push n k (x ∷ xs) s m is = ap (λ l. record { sender = x.0; message = x.1; index = n; again = false } ∷ l) (arriving_push (n + 1) k xs s m (omega (arith, is)))
 
-  pub fills_none : (received : List (ℕ × M)) (held : List (Held M)) → Fills received received held held
-  fills_none received held = record { arrived = []; received = sym (append-nil received); filled_are = sym (append-nil held) }
-
   pub fills_more : (before received : List (ℕ × M)) (held filled : List (Held M)) (s : ℕ) (m : M) → Fills before received held filled → Fills before (received ++ (s, m) ∷ []) held (filled ++ new_held s m (length received) ∷ [])
   fills_more before received held filled s m fills =
       let long : length before + length fills.arrived ≡ length received = sym (ap length fills.received ∙ length-append before fills.arrived) in

@@ -1,4 +1,4 @@
--- Plain mail: what a sender has sent and given up, and what a parcel carries.
+-- Plain mail: what a lane of it holds, and what a parcel adds to its box.
 use Rattle.std.specs.Prelude.{◌≡◌, ℕ, ◌+◌, ◌-◌, ◌≤◌, Bool, true, false, if◌then◌else◌, List, [], ◌∷◌, ◌++◌, length, take, slice_index_or, slice_set, Result, Ok, Err}
 use Rattle.mail_contract.specs.Carried.{Carried}
 use Rattle.mail_contract.specs.Lanes.{Lane, about_lane, nothing}
