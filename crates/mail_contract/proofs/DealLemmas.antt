@@ -11,10 +11,7 @@ use Rattle.mail_contract.specs.Takes.{AreAllOfSent, IsFront, IsFrontOfSent, from
 use Rattle.mail_contract.specs.declared.scramble.Held.{Held}
 use Rattle.mail_contract.proofs.ScrambleLemmas.{Stand, all_stand, hidden_here, hidden_there, unstand, veiled_same}
 use Rattle.mail_contract.proofs.WeakLemmas.{front_in, in_front, missing_more, of_sent}
-use Rattle.mail_contract.proofs.WovenLemmas.{from_sender_here, from_sender_there}
-
-same_or_not : (a b : ℕ) → (a ≡ b) ⊎ (a ≢ b)
-same_or_not a b = grind arith
+use Rattle.mail_contract.proofs.WovenLemmas.{from_sender_here, from_sender_there, same_or_not}
 
 module _ {M : Type 0} where
   nothing_there : (x : M) → None ≡ Some x → ⊥

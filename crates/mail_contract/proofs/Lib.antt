@@ -4,5 +4,6 @@ pub mod LanesLemmas
 pub mod MapsLemmas
 pub mod PlainLemmas
 pub mod ScrambleLemmas
+pub mod StandsLemmas
 pub mod WeakLemmas
 pub mod WovenLemmas

@@ -1,8 +1,8 @@
 -- A list of which one element changes, and what is told of each of its elements.
-use Rattle.std.proofs.Common.{◌≡◌, ℕ, ◌+◌, ◌<◌, ◌≤◌, List, [], ◌∷◌, ◌++◌, map, replicate, take, drop, length, get_or, set, sym, ◌∙◌, ap, arith, length-set}
+use Rattle.std.proofs.Common.{◌≡◌, ℕ, ◌+◌, ◌<◌, ◌≤◌, List, [], ◌∷◌, ◌++◌, map, replicate, take, drop, length, get_or, set, sym, ◌∙◌, ap, arith, length-append, length-set}
 use Rattle.std.specs.List.{range_with_len}
 use Rattle.std.proofs.lemmas.List.FromFn.{map-range_with_len_more}
-use Rattle.std.proofs.lemmas.List.{map-append, map-id, replicate-append-replicate, map-set, get_or-map, get_or-set_same, take_more_set, take_more, drop-set-lt, get_or-drop, take_all}
+use Rattle.std.proofs.lemmas.List.{length-map, map-append, map-id, replicate-append-replicate, map-set, get_or-map, get_or-set_same, take_more_set, take_more, drop-set-lt, get_or-drop, take_all}
 use Rattle.std.proofs.lemmas.Grind.{drop_more_same}
 use Rattle.std.proofs.Math.Seq.{map-set_same}
 
@@ -54,3 +54,11 @@ push_replicate f xs now x n y is before here = push_map f xs now x (replicate n 
 -- a number more
 pub range_more : (n : ℕ) → range_with_len 1 (n + 1) ≡ range_with_len 1 n ++ (n + 1) ∷ []
 range_more n = sym (map-id (range_with_len 1 (n + 1))) ∙ map-range_with_len_more (λ k. k) 1 n (n + 1) (omega arith) ∙ ap (λ l. l ++ (n + 1) ∷ []) (map-id (range_with_len 1 n))
+
+-- the two elements of a list, taken from its end, where something is told of both
+pub popped_two : {A : Type 0} (f : A → ℕ) (txs mid rest : List A) (second first : A) → txs ≡ mid ++ second ∷ [] → mid ≡ rest ++ first ∷ [] → map f txs ≡ 1 ∷ 2 ∷ [] → (f first ≡ 1) × (f second ≡ 2)
+popped_two {A} f txs mid rest second first is mid_is told = by rest (is ∙ ap (λ l. l ++ second ∷ []) mid_is)
+  where
+    by : (rest : List A) → txs ≡ (rest ++ first ∷ []) ++ second ∷ [] → (f first ≡ 1) × (f second ≡ 2)
+    by [] here = let both = sym (ap (map f) here) ∙ told in (ap (λ l. get_or l 0 0) both, ap (λ l. get_or l 1 0) both)
+    by (x ∷ xs) here = absurd (omega (arith, ap length told, length-map txs f, ap length here, length-append ((x ∷ xs) ++ first ∷ []) (second ∷ []), length-append (x ∷ xs) (first ∷ [])))

@@ -1,5 +1,5 @@
 -- What a box that hands out in order tells, told as a weak one tells it.
-use Rattle.std.proofs.Common.{◌≡◌, ◌≢◌, ◌⊎◌, ℕ, zero, suc, ◌+◌, ◌-◌, ◌<◌, ◌≤◌, Bool, IsTrue, List, [], ◌∷◌, ◌++◌, length, slice_get, sum_by, max, append-nil, Option, Some, None, IfSome, if◌then◌else◌, take, Result, Ok, Err, inl, sym, ◌∙◌, ap, refl, subst, arith, ⊎_elim}
+use Rattle.std.proofs.Common.{◌≡◌, ◌≢◌, ◌⊎◌, ℕ, zero, suc, ◌+◌, ◌-◌, ◌<◌, ◌≤◌, Bool, IsTrue, List, [], ◌∷◌, ◌++◌, length, slice_get, sum_by, max, Option, Some, None, IfSome, if◌then◌else◌, take, Result, Ok, Err, inl, sym, ◌∙◌, ap, refl, subst, arith, ⊎_elim}
 use Rattle.std.specs.List.{range_with_len}
 use Rattle.std.proofs.lemmas.List.Sums.{sum_by-cons}
 use Rattle.std.proofs.lemmas.Option.{get_or_from_slice_get, slice_get_past, slice_get_within}
@@ -7,10 +7,7 @@ use Rattle.mail_contract.specs.Got as weak
 use Rattle.mail_contract.specs.Got.{Added, AreAll, AreIn, HandedOut, got_of, missing, missing_one}
 use Rattle.mail_contract.specs.Standing.{About, AreMet, OfSent, OnShown, Standing, Apart, Shown, Settled, left_of_all, sent_of}
 use Rattle.mail_contract.specs.Takes.{AreAllOfSent, IsFront, IsFrontOfSent, IsOfShown, LeftFalls, OnNone, OnSome, Took, from_sender}
-use Rattle.mail_contract.proofs.WovenLemmas.{from_sender-append, from_sender_here, from_sender_there}
-
-same_or_not : (a b : ℕ) → (a ≡ b) ⊎ (a ≢ b)
-same_or_not a b = grind arith
+use Rattle.mail_contract.proofs.WovenLemmas.{from_sender_more, from_sender_same, same_or_not}
 
 below_or_not : (a b : ℕ) → (a < b) ⊎ (b ≤ a)
 below_or_not a b = grind arith
@@ -76,12 +73,6 @@ module _ {M : Type 0} where
   missing_received received s sent = missing_more (got_of received s) sent (length (from_sender s received)) (slice_get_past (from_sender s received))
 
   -- a message more
-  from_sender_more : (s : ℕ) (messages : List (ℕ × M)) (message : ℕ × M) → message.0 ≡ s → from_sender s (messages ++ message ∷ []) ≡ from_sender s messages ++ message.1 ∷ []
-  from_sender_more s messages message is = from_sender-append s messages (message ∷ []) ∙ ap (λ l. from_sender s messages ++ l) (from_sender_here s message [] is)
-
-  from_sender_same : (s : ℕ) (messages : List (ℕ × M)) (message : ℕ × M) → message.0 ≢ s → from_sender s (messages ++ message ∷ []) ≡ from_sender s messages
-  from_sender_same s messages message other = from_sender-append s messages (message ∷ []) ∙ ap (λ l. from_sender s messages ++ l) (from_sender_there s message [] other) ∙ append-nil (from_sender s messages)
-
   one_more : (messages : List (ℕ × M)) (message : ℕ × M) → Added message.0 message.1 (got_of messages) (got_of (messages ++ message ∷ []))
   one_more messages message =
       let s = message.0 in

@@ -1,11 +1,11 @@
 -- Messages of several senders in the order in which they were taken, and what a list has of one sender.
-use Rattle.std.proofs.Common.{◌≡◌, ◌≢◌, ℕ, ◌+◌, ◌<◌, ◌≤◌, Bool, true, false, ◌==◌, if◌then◌else◌, List, [], ◌∷◌, ◌++◌, map, length, take, drop, get_or, sym, ◌∙◌, ap, refl, append_assoc, eq-eqb, arith, ⊎_elim, ◌⊎◌}
+use Rattle.std.proofs.Common.{◌≡◌, ◌≢◌, ℕ, ◌+◌, ◌<◌, ◌≤◌, Bool, true, false, ◌==◌, if◌then◌else◌, List, [], ◌∷◌, ◌++◌, map, length, take, drop, get_or, sym, ◌∙◌, ap, refl, append-nil, append_assoc, eq-eqb, arith, ⊎_elim, ◌⊎◌}
 use Rattle.std.proofs.lemmas.Bool.{ne_eqb}
 use Rattle.std.proofs.lemmas.List.{map-append}
 use Rattle.mail_contract.specs.Lanes.{count, woven}
 use Rattle.mail_contract.specs.Takes.{from_sender}
 
-same_or_not : (a b : ℕ) → (a ≡ b) ⊎ (a ≢ b)
+pub same_or_not : (a b : ℕ) → (a ≡ b) ⊎ (a ≢ b)
 same_or_not a b = grind arith
 
 nil : {M : Type 0} (xs : List M) → length xs ≡ 0 → xs ≡ []
@@ -98,6 +98,13 @@ from_sender_here {M} s x xs e = ap (λ (b : Bool). let r : List M = (if b then x
 
 pub from_sender_there : {M : Type 0} (s : ℕ) (x : ℕ × M) (xs : List (ℕ × M)) → x.0 ≢ s → from_sender s (x ∷ xs) ≡ from_sender s xs
 from_sender_there {M} s x xs e = ap (λ (b : Bool). let r : List M = (if b then x.1 ∷ from_sender s xs else from_sender s xs) in r) (ne_eqb x.0 s e)
+
+-- a message more at the end
+pub from_sender_more : {M : Type 0} (s : ℕ) (messages : List (ℕ × M)) (message : ℕ × M) → message.0 ≡ s → from_sender s (messages ++ message ∷ []) ≡ from_sender s messages ++ message.1 ∷ []
+from_sender_more s messages message is = from_sender-append s messages (message ∷ []) ∙ ap (λ l. from_sender s messages ++ l) (from_sender_here s message [] is)
+
+pub from_sender_same : {M : Type 0} (s : ℕ) (messages : List (ℕ × M)) (message : ℕ × M) → message.0 ≢ s → from_sender s (messages ++ message ∷ []) ≡ from_sender s messages
+from_sender_same s messages message other = from_sender-append s messages (message ∷ []) ∙ ap (λ l. from_sender s messages ++ l) (from_sender_there s message [] other) ∙ append-nil (from_sender s messages)
 
 all_from_sender : {M : Type 0} (s o : ℕ) (xs : List M) → o ≡ s → from_sender s (map (λ m. (o, m)) xs) ≡ xs
 all_from_sender s o [] e = refl

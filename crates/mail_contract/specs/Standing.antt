@@ -1,6 +1,7 @@
 -- What a box knows of a sender.
-use Rattle.std.specs.Prelude.{◌≡◌, ◌≢◌, ℕ, ◌≤◌, Bool, IsTrue, List, sum_by, if◌then◌else◌, Option, Some, None, IfSome, ⊤}
+use Rattle.std.specs.Prelude.{◌≡◌, ◌≢◌, ℕ, ◌≤◌, Bool, IsFalse, IsTrue, List, sum_by, if◌then◌else◌, Option, Some, None, IfSome, ⊤}
 use Rattle.std.specs.List.{range_with_len}
+use Rattle.mail_contract.specs.Parts.{Parts}
 
 -- how a box stands to a sender
 pub data Standing (M : Type 0) : Type 0 where
@@ -47,6 +48,15 @@ module _ {M : Type 0} where
   -- a call changes what is known of this sender alone
   abbrev pub OthersStay : ℕ → (ℕ → About M) → (ℕ → About M) → Type 0
   OthersStay sender before now = (other : ℕ) → other ≢ sender → now other ≡ before other
+
+  -- What is learned where a sender is held beside the box: of it alone, and nothing where the box shows nobody; where it does,
+  -- what the sender has sent, and that no more than 64 of its messages are left.
+  pub record Learned (keeps : Parts) (sender : ℕ) (sent : List M) (before now : ℕ → About M) : Type 0 where
+    pub others : OthersStay sender before now
+    pub still : IsFalse keeps.shows → now ≡ before
+    pub shown : IsTrue keeps.shows → (now sender).standing ≡ Shown sent
+    pub left : IsTrue keeps.shows → (now sender).left ≤ 64
+    pub met : IsTrue (now sender).met
 
   -- a take leaves how the box stands to its senders, and of which it knows how many messages are left
   abbrev pub AllStand : (ℕ → About M) → (ℕ → About M) → Type 0

@@ -1,9 +1,9 @@
 //! The weak end of a receiver.
-ghost use Rattle.std.specs.Prelude.{◌≡◌, ℕ, ◌+◌, ◌*◌, ◌≤◌, Bool, IsFalse, IsTrue, List, Option, Result};
+ghost use Rattle.std.specs.Prelude.{◌≡◌, ℕ, ◌+◌, ◌*◌, ◌≤◌, Bool, IsTrue, List, Option, Result};
 ghost use Rattle.lattice_laws.specs.declared.lattice.NoMemory.{NoMemory};
 ghost use Rattle.mail_contract.specs.Got.{HandedOut, AreIn, AreAll, IsOfSent, AreAllOfSent, IsOfShown, StayDue, AreDueHandedOut, missing};
 ghost use Rattle.mail_contract.specs.Parts.{Parts};
-ghost use Rattle.mail_contract.specs.Standing.{About, Shown, Settled, IsSettled, AllPart, AllStand, AreMet, OthersStay, left_of_all};
+ghost use Rattle.mail_contract.specs.Standing.{About, Learned, Settled, IsSettled, AllPart, AllStand, AreMet, OthersStay, left_of_all};
 ghost use Rattle.mail_contract.specs.Takes.{Answers, OnSome, OnNone, Counted, IsNothingLeft, LeftFalls};
 
 use crate::Tx;
@@ -102,18 +102,14 @@ pub trait GossipRx<M>: Drop {
         ensures key { key self.new ≡ key self.old }
         ensures got { got self.new ≡ got self.old }
         ensures answers { answers self.new ≡ answers self.old }
-        ensures others { OthersStay (Self.From.number tx.old) (about self.old) (about self.new) }
-        ensures still { IsFalse keeps.shows → about self.new ≡ about self.old }
+        ensures learned { Learned keeps (Self.From.number tx.old) (Self.From.sent tx.old)
+            (about self.old) (about self.new) }
         ensures tx_key { Self.From.key tx.new ≡ Self.From.key tx.old }
         ensures tx_number { Self.From.number tx.new ≡ Self.From.number tx.old }
         ensures tx_sent { Self.From.sent tx.new ≡ Self.From.sent tx.old }
         ensures tx_fulls { Self.From.fulls tx.new ≡ Self.From.fulls tx.old }
-        ensures shown { IsTrue keeps.shows
-            → (about self.new (Self.From.number tx.old)).standing ≡ Shown (Self.From.sent tx.old) }
-        ensures left { IsTrue keeps.shows → (about self.new (Self.From.number tx.old)).left ≤ 64 }
         ensures most { IsTrue keeps.finite → most self.new
             ≤ 2 * (left_of_all (senders (key self.old)) (about self.new) + 8) }
-        ensures met { IsTrue (about self.new (Self.From.number tx.old)).met }
         ensures due { IsTrue (due self.new (Self.From.number tx.old)) }
         ensures told { IsTrue keeps.complete
             → AreIn (got self.old (Self.From.number tx.old)) (Self.From.sent tx.old) }

@@ -1,7 +1,7 @@
 //! The end of a receiver.
-ghost use Rattle.std.specs.Prelude.{◌≡◌, ℕ, ◌+◌, ◌-◌, ◌≤◌, IsFalse, IsTrue, List, length, min};
+ghost use Rattle.std.specs.Prelude.{◌≡◌, ℕ, ◌+◌, ◌-◌, ◌≤◌, IsTrue, List, length, min};
 ghost use Rattle.mail_contract.specs.Parts.{Parts};
-ghost use Rattle.mail_contract.specs.Standing.{About, Shown, Settled, IsSettled, AllPart, AllStand, OthersStay};
+ghost use Rattle.mail_contract.specs.Standing.{About, Learned, Settled, IsSettled, AllPart, AllStand, OthersStay};
 ghost use Rattle.mail_contract.specs.Takes.{Answers, OnSome, OnNone, Took, Counted, LeftFalls, IsFront, IsFrontOfSent, AreAllOfSent, IsOfShown, IsInTurn, IsNothingLeft, from_sender, last_sender};
 
 use crate::Tx;
@@ -80,16 +80,12 @@ pub trait Rx<M>: Drop {
         ensures key { key self.new ≡ key self.old }
         ensures received { received self.new ≡ received self.old }
         ensures answers { answers self.new ≡ answers self.old }
-        ensures others { OthersStay (Self.From.number tx.old) (about self.old) (about self.new) }
-        ensures still { IsFalse keeps.shows → about self.new ≡ about self.old }
+        ensures learned { Learned keeps (Self.From.number tx.old) (Self.From.sent tx.old)
+            (about self.old) (about self.new) }
         ensures tx_key { Self.From.key tx.new ≡ Self.From.key tx.old }
         ensures tx_number { Self.From.number tx.new ≡ Self.From.number tx.old }
         ensures tx_sent { Self.From.sent tx.new ≡ Self.From.sent tx.old }
         ensures tx_fulls { Self.From.fulls tx.new ≡ Self.From.fulls tx.old }
-        ensures shown { IsTrue keeps.shows
-            → (about self.new (Self.From.number tx.old)).standing ≡ Shown (Self.From.sent tx.old) }
-        ensures left { IsTrue keeps.shows → (about self.new (Self.From.number tx.old)).left ≤ 64 }
-        ensures met { IsTrue (about self.new (Self.From.number tx.old)).met }
         ensures told { IsTrue keeps.complete
             → IsFront (from_sender (Self.From.number tx.old) (received self.old))
             (Self.From.sent tx.old) }

@@ -4,7 +4,7 @@ use Rattle.mail_contract.specs.Standing.{About, AllStand}
 use Rattle.mail_rings.specs.Rings.{lane_of}
 use Rattle.mail_rings.specs.declared.lane.RingLane.{RingLane}
 use Rattle.mail_rings.specs.declared.tests.Note.{Note}
-use Rattle.mail_rings.proofs.RingsLemmas.{stands_through}
+use Rattle.mail_contract.proofs.StandsLemmas.{stands_through}
 use Rattle.mail_rings.proofs.tests.take_all.Goals as goal
 
 abbrev about : List (RingLane Note) → ℕ → About Note

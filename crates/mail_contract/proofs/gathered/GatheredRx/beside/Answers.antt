@@ -17,18 +17,6 @@ returns-clause-key g c = same_map g.L.Lane.key _ _ _ _ c.index_mut-lane.ensures.
 pub returns-clause-received : goal.returns-clause-received
 returns-clause-received g c = still_received g.L.Lane.lane g.L.Lane.key _ _ _ _ _ c.sender-sender.ensures c.requires.0 c.requires.1 c.index_mut-lane.ensures.value c.show.ensures.taken c.args.self.now.order.items
 
-pub returns-clause-others : goal.returns-clause-others
-returns-clause-others g c = others_stay g.L.Lane.lane g.L.Lane.key _ _ _ _ _ c.sender-sender.ensures c.requires.0 c.requires.1 c.index_mut-lane.ensures.value
-
-pub returns-clause-shown : goal.returns-clause-shown
-returns-clause-shown g c = λ shows. ap (λ l. l.standing) (lane_now g.L.Lane.lane g.L.Lane.key _ _ _ _ _ c.sender-sender.ensures c.requires.0 c.requires.1 c.index_mut-lane.ensures.value) ∙ c.show.ensures.shown shows
-
-pub returns-clause-left : goal.returns-clause-left
-returns-clause-left g c = λ shows. subst (λ left. left ≤ 64) (sym (ap (λ l. l.left) (lane_now g.L.Lane.lane g.L.Lane.key _ _ _ _ _ c.sender-sender.ensures c.requires.0 c.requires.1 c.index_mut-lane.ensures.value))) (c.show.ensures.left shows)
-
-pub returns-clause-met : goal.returns-clause-met
-returns-clause-met g c = ap (λ l. l.met) (lane_now g.L.Lane.lane g.L.Lane.key _ _ _ _ _ c.sender-sender.ensures c.requires.0 c.requires.1 c.index_mut-lane.ensures.value) ∙ c.show.ensures.met
-
 pub returns-clause-told : goal.returns-clause-told
 returns-clause-told g c =
     let is = received_before g.L.Lane.lane g.L.Lane.key _ _ _ _ c.show.new.self c.sender-sender.ensures c.requires.0 c.requires.1 c.index_mut-lane.ensures.value _ c.args.self.now.counted in
@@ -44,5 +32,11 @@ returns-clause-freed g c =
     let is = received_before g.L.Lane.lane g.L.Lane.key _ _ _ _ c.show.new.self c.sender-sender.ensures c.requires.0 c.requires.1 c.index_mut-lane.ensures.value _ c.args.self.now.counted in
     λ freed all. c.show.ensures.freed freed (subst (IsFront (g.L.From.Tx.sent c.args.tx.now)) is all)
 
-pub returns-clause-still : goal.returns-clause-still
-returns-clause-still g c = λ still. ap about_of (same_map g.L.Lane.lane _ _ _ _ c.index_mut-lane.ensures.value (c.show.ensures.still still))
+pub returns-clause-learned : goal.returns-clause-learned
+returns-clause-learned g c = record {
+  others = others_stay g.L.Lane.lane g.L.Lane.key _ _ _ _ _ c.sender-sender.ensures c.requires.0 c.requires.1 c.index_mut-lane.ensures.value;
+  still = λ still. ap about_of (same_map g.L.Lane.lane _ _ _ _ c.index_mut-lane.ensures.value (c.show.ensures.still still));
+  shown = λ shows. ap (λ l. l.standing) (lane_now g.L.Lane.lane g.L.Lane.key _ _ _ _ _ c.sender-sender.ensures c.requires.0 c.requires.1 c.index_mut-lane.ensures.value) ∙ c.show.ensures.shown shows;
+  left = λ shows. subst (λ left. left ≤ 64) (sym (ap (λ l. l.left) (lane_now g.L.Lane.lane g.L.Lane.key _ _ _ _ _ c.sender-sender.ensures c.requires.0 c.requires.1 c.index_mut-lane.ensures.value))) (c.show.ensures.left shows);
+  met = ap (λ l. l.met) (lane_now g.L.Lane.lane g.L.Lane.key _ _ _ _ _ c.sender-sender.ensures c.requires.0 c.requires.1 c.index_mut-lane.ensures.value) ∙ c.show.ensures.met;
+}

@@ -7,7 +7,7 @@ use Rattle.mail_contract.proofs.scramble.ScrambleGossipRx.beside.Goals as goal
 pub invariant_of-self-clause-told : goal.invariant_of-self-clause-told
 invariant_of-self-clause-told g c = λ s. subst (λ received. IsFrontOfSent g.R.Rx.keeps.complete received (g.R.Rx.about c.beside.new.self) s) (sym c.beside.ensures.received)
     (told_beside g.R.Rx.keeps.shows g.R.Rx.keeps.complete (g.R.From.Tx.number c.args.tx.now) (g.R.From.Tx.sent c.args.tx.now) (g.R.Rx.received c.args.self.now.inner) (g.R.Rx.about c.args.self.now.inner) (g.R.Rx.about c.beside.new.self)
-    c.beside.ensures.others c.beside.ensures.shown c.beside.ensures.still c.beside.ensures.told c.args.self.now.told s)
+    c.beside.ensures.learned.others c.beside.ensures.learned.shown c.beside.ensures.learned.still c.beside.ensures.told c.args.self.now.told s)
 
 pub returns-clause-told : goal.returns-clause-told
 returns-clause-told g c = λ complete. got_in c.args.self.now.held.items (g.R.Rx.received c.args.self.now.inner) (g.R.From.Tx.number c.args.tx.now) (g.R.From.Tx.sent c.args.tx.now) (c.beside.ensures.told complete)

@@ -1,0 +1,173 @@
+//! Texts that are no scripts of one worker and eventual sessions.
+use lattice_laws::NoMemory;
+use script_reader::{Built, ScriptFault, read_script_built};
+use std::alloc::Global;
+use std::test::Fail;
+
+/// Scripts of one worker, with eventual sessions.
+const ONE_WORKER: Built = Built {
+    workers: false,
+    levels: false,
+};
+
+/// Texts, each with the line at which it is refused, and the code.
+const REFUSED: [(&str, u32, u8); 29] = [
+    // No header.
+    ("anna 2\nworkers 1\nend\n", 1, 1),
+    ("\nworkers 1\nend\n", 2, 1),
+    // A first word that may not stand there, other words than it may have, a form that is not served.
+    ("anna 1\nkey a max\nend\n", 2, 2),
+    ("anna 1\nworkers 1\nkey a list\nend\n", 3, 2),
+    (
+        "anna 1\nworkers 1\nkey a max\nsession s eventual\nput a\nend\n",
+        5,
+        2,
+    ),
+    (
+        "anna 1\nworkers 1\nkey a max\nsession s eventual\nawait a s 0\nend\n",
+        5,
+        2,
+    ),
+    (
+        "anna 1\nworkers 2\nkey a max\nsession s eventual\nput a 5\nput a 3\nget a\nend\n",
+        2,
+        2,
+    ),
+    (
+        "anna 1\nworkers 1\nkey a max\nsession s committed\nend\n",
+        4,
+        2,
+    ),
+    (
+        "anna 1\nworkers 1\nkey a max\nsession s eventual\nget a\nsession t causal\nend\n",
+        6,
+        2,
+    ),
+    // No number, or one that is too great.
+    ("anna 1\nworkers one\nend\n", 2, 3),
+    (
+        "anna 1\nworkers 1\nkey a max\nsession s eventual\nget a one\nend\n",
+        5,
+        3,
+    ),
+    (
+        "anna 1\nworkers 1\nkey a map\nsession s eventual\nput a f 18446744073709551616\nend\n",
+        5,
+        3,
+    ),
+    // No name.
+    ("anna 1\nworkers 1\nkey a+b max\nend\n", 3, 4),
+    // Twice.
+    ("anna 1\nworkers 1\nround 1\nround 1\nend\n", 4, 5),
+    ("anna 1\nworkers 1\nkey a max\nkey a set\nend\n", 4, 5),
+    (
+        "anna 1\nworkers 1\nsession s eventual\nsession s eventual\nend\n",
+        4,
+        5,
+    ),
+    // A key or a worker that is not there.
+    (
+        "anna 1\nworkers 1\nkey a max\nsession s eventual\nget b\nend\n",
+        5,
+        6,
+    ),
+    (
+        "anna 1\nworkers 1\nkey a max\nsession s eventual\nget a 2\nend\n",
+        5,
+        6,
+    ),
+    ("anna 1\nworkers 1\nkey a max at 2\nend\n", 3, 6),
+    // A payload of another kind.
+    (
+        "anna 1\nworkers 1\nkey a max\nsession s eventual\nput a five\nend\n",
+        5,
+        7,
+    ),
+    (
+        "anna 1\nworkers 1\nkey a or\nsession s eventual\nput a off\nend\n",
+        5,
+        7,
+    ),
+    (
+        "anna 1\nworkers 1\nkey a map\nsession s eventual\nput a 5\nend\n",
+        5,
+        7,
+    ),
+    // Out of range.
+    ("anna 1\nworkers 9\nend\n", 2, 8),
+    ("anna 1\nworkers 1\nround 65\nend\n", 3, 8),
+    // A transaction outside a committed session.
+    (
+        "anna 1\nworkers 1\nkey a max\nsession s eventual\nbegin\nend\n",
+        5,
+        9,
+    ),
+    // No end, and lines after it.
+    ("", 1, 10),
+    (
+        "anna 1\nworkers 1\nkey a max\nsession s eventual\nput a 5\nput a 3\nget a\nget a\n",
+        9,
+        10,
+    ),
+    (
+        "anna 1\nworkers 1\nkey a max\nsession s eventual\nput a 5\nput a 3\nget a\nend\nput a 9\n",
+        9,
+        11,
+    ),
+    // A byte that is no text.
+    (
+        "anna 1\nworkers 1\nkey a set\nsession s eventual\nput a caf\u{e9}\nend\n",
+        5,
+        13,
+    ),
+];
+
+/// Where a text is refused and by which code, and nothing where it is read.
+fn refused(alloc: Global, text: &str) -> Result<Option<(u32, u8)>, NoMemory> {
+    match read_script_built(alloc, text.as_bytes(), ONE_WORKER) {
+        Ok(_) => Ok(None),
+        Err(ScriptFault::Refused { line, code }) => Ok(Some((line, code))),
+        Err(ScriptFault::NoMemory) => Err(NoMemory),
+    }
+}
+
+#[test]
+fn refuses_a_script_at_a_line_with_a_code(rt: HostRuntime) -> Result<(), Fail> {
+    for (text, line, code) in REFUSED {
+        assert_eq!(rt; refused(rt.alloc(), text)?, Some((line, code)), "{text:?}");
+    }
+    Ok(())
+}
+
+/// Lines that take the place of the first put of the first script, and the code that refuses each.
+const REFUSED_LINES: [(&str, u8); 14] = [
+    ("put a", 2),
+    ("put a 5 6", 7),
+    ("put a x", 7),
+    ("put a 18446744073709551616", 3),
+    ("put b 5", 6),
+    ("put a+ 5", 4),
+    ("begin", 9),
+    ("get a 2", 6),
+    ("get a x", 3),
+    ("await a s 1", 2),
+    ("session s eventual", 5),
+    ("session t lazy", 2),
+    ("key b max", 2),
+    ("round 5", 2),
+];
+
+#[test]
+fn refuses_each_of_these_lines_by_its_code(rt: HostRuntime) -> Result<(), Fail> {
+    for (line, code) in REFUSED_LINES {
+        let text = format!(in rt.alloc();
+            "anna 1\nworkers 1\nkey a max\nsession s eventual\n{line}\nput a 3\nget a\nend\n"
+        )?;
+        assert_eq!(rt;
+            refused(rt.alloc(), text.as_str())?,
+            Some((5, code)),
+            "{line:?}"
+        );
+    }
+    Ok(())
+}
