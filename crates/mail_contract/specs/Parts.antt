@@ -20,3 +20,5 @@ pub record Parts : Type 0 where
   pub exact : Bool
   -- senders take turns: where a message of one is taken, nothing is left of those whose turn came before
   pub turns : Bool
+  -- no take wants for memory
+  pub sure : Bool

@@ -19,6 +19,7 @@ plain_parts = record {
   complete = false;
   exact = true;
   turns = true;
+  sure = false;
 }
 
 -- a lane that was given messages and has handed out so many of them; once its sender is taken in, these are all that it sent

@@ -120,7 +120,7 @@ fn part_all<M, L: Lane<M>>(lanes: &mut Vec<L>)
 }
 
 impl<M, L: Lane<M>> Rx<M> for Gathered<M, L> {
-    ghost use Rattle.std.specs.Prelude.{length, map};
+    ghost use Rattle.std.specs.Prelude.{false, length, map};
     ghost use Rattle.mail_contract.specs.Lanes.{IsLaneOf, about_of, received_of};
 
     type From = L::From;
@@ -139,8 +139,8 @@ impl<M, L: Lane<M>> Rx<M> for Gathered<M, L> {
 
     ghost about = { λ box. about_of (map L.lane box.lanes.items) };
 
-    // Where it is known exactly what is left, the lanes take turns.
-    ghost keeps = { record L.keeps { turns = L.keeps.exact; advances = L.keeps.complete } };
+    // Where it is known exactly what is left, the lanes take turns. A take makes room for the order.
+    ghost keeps = { record L.keeps { turns = L.keeps.exact; advances = L.keeps.complete; sure = false } };
 
     fn take(&mut self) -> Result<Option<(u16, M)>, NoMemory> {
         if self.order.reserve(1).is_err() {
@@ -180,7 +180,7 @@ impl<M, L: Lane<M>> Rx<M> for Gathered<M, L> {
 }
 
 impl<M, L: Lane<M>> GossipRx<M> for Gathered<M, L> {
-    ghost use Rattle.std.specs.Prelude.{true, ⊤, [], length, map};
+    ghost use Rattle.std.specs.Prelude.{true, false, ⊤, [], length, map};
     ghost use Rattle.mail_contract.specs.Got.{got_of};
     ghost use Rattle.mail_contract.specs.Lanes.{IsLaneOf, about_of, received_of};
     ghost use Rattle.mail_contract.specs.Standing.{left_of_all};
@@ -211,7 +211,7 @@ impl<M, L: Lane<M>> GossipRx<M> for Gathered<M, L> {
     ghost most = { λ box. left_of_all (length (map L.key box.lanes.items))
         (about_of (map L.lane box.lanes.items)) };
 
-    ghost keeps = { record L.keeps { turns = L.keeps.exact; advances = L.keeps.complete } };
+    ghost keeps = { record L.keeps { turns = L.keeps.exact; advances = L.keeps.complete; sure = false } };
 
     fn take(&mut self) -> Result<Option<(u16, M)>, NoMemory> {
         Rx::take(self)

@@ -1,5 +1,5 @@
 //! The weak end of a receiver.
-ghost use Rattle.std.specs.Prelude.{◌≡◌, ℕ, ◌+◌, ◌*◌, ◌≤◌, Bool, IsTrue, List, Option, Result};
+ghost use Rattle.std.specs.Prelude.{◌≡◌, ℕ, ◌+◌, ◌*◌, ◌≤◌, Bool, IsOk, IsTrue, List, Option, Result};
 ghost use Rattle.lattice_laws.specs.declared.lattice.NoMemory.{NoMemory};
 ghost use Rattle.mail_contract.specs.Got.{HandedOut, AreIn, AreAll, IsOfSent, AreAllOfSent, IsOfShown, StayDue, AreDueHandedOut, missing};
 ghost use Rattle.mail_contract.specs.Parts.{Parts};
@@ -76,6 +76,7 @@ pub trait GossipRx<M>: Drop {
         ensures due { StayDue (got self.old) (got self.new) (due self.old) (due self.new) }
         ensures advances { IsTrue keeps.advances
             → OnNone result (AreDueHandedOut (got self.new) (about self.new) (due self.new)) }
+        ensures sure { IsTrue keeps.sure → IsOk result }
         ensures besides { besides result self.old self.new };
 
     /// Takes in a sender that has ended. It tells that each message of it that was handed out was

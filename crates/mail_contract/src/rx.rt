@@ -1,5 +1,5 @@
 //! The end of a receiver.
-ghost use Rattle.std.specs.Prelude.{◌≡◌, ℕ, ◌+◌, ◌-◌, ◌≤◌, IsTrue, List, length, min};
+ghost use Rattle.std.specs.Prelude.{◌≡◌, ℕ, ◌+◌, ◌-◌, ◌≤◌, IsOk, IsTrue, List, length, min};
 ghost use Rattle.mail_contract.specs.Parts.{Parts};
 ghost use Rattle.mail_contract.specs.Standing.{About, Learned, Settled, IsSettled, AllPart, AllStand, OthersStay};
 ghost use Rattle.mail_contract.specs.Takes.{Answers, OnSome, OnNone, Took, Counted, LeftFalls, IsFront, IsFrontOfSent, AreAllOfSent, IsOfShown, IsInTurn, IsNothingLeft, from_sender, last_sender};
@@ -53,7 +53,8 @@ pub trait Rx<M>: Drop {
         ensures exact { IsTrue keeps.exact → OnNone result (IsNothingLeft (about self.new)) }
         ensures turns { IsTrue keeps.turns → OnSome result (λ sender _.
             IsInTurn (senders (key self.old)) (last_sender (received self.old))
-            (about self.new) sender) };
+            (about self.new) sender) }
+        ensures sure { IsTrue keeps.sure → IsOk result };
 
     /// Takes in a sender that has ended. It tells that what was received of it is the front of what
     /// it sent. Takes no memory.

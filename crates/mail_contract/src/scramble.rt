@@ -202,7 +202,7 @@ impl<M: Message, R: Rx<M>> GossipRx<M> for Scramble<M, R> {
     ghost most = { λ scramble. 2 * left_of_all (R.senders (R.key scramble.inner))
         (R.about scramble.inner) + times_of_all scramble.held.items };
 
-    ghost keeps = { record R.keeps { bounded = false; turns = false; advances = R.keeps.complete } };
+    ghost keeps = { record R.keeps { bounded = false; turns = false; advances = R.keeps.complete; sure = false } };
 
     fn take(&mut self) -> Result<Option<(u16, M)>, NoMemory> {
         fill(&mut self.inner, &mut self.held, &mut self.taken)?;

@@ -10,7 +10,7 @@ use Rattle.mail_contract.specs.Parts.{Parts}
 use Rattle.mail_contract.specs.Standing.{Apart, Shown, Settled}
 use Rattle.mail_rings.specs.declared.tx.RingTx.{RingTx}
 
--- rings keep all
+-- rings keep all but that a box makes room for the order in which it takes
 abbrev pub ring_parts : Parts
 ring_parts = record {
   shows = true;
@@ -22,6 +22,7 @@ ring_parts = record {
   complete = true;
   exact = true;
   turns = true;
+  sure = false;
 }
 
 module _ {T A P : Type 0} where

@@ -1,7 +1,7 @@
 //! Mail over rings: one lock-free ring of 64 places for each sender (`rtrb`).
 //!
 //! Ends may move to threads of their own, and every call returns. These ends keep all parts of the
-//! contract of [`mail_contract`].
+//! contract of [`mail_contract`], but that a take makes room for the order in which it takes.
 #![tactic(auto)]
 
 ghost use Rattle.std.specs.Prelude.{◌≡◌, ℕ, ◌≤◌, [], map, replicate, IfOk};

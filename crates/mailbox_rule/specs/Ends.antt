@@ -22,6 +22,7 @@ queue_parts = record {
   complete = false;
   exact = false;
   turns = false;
+  sure = true;
 }
 
 module _ {M : Type 0} where

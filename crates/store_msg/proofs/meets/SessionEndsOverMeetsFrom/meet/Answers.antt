@@ -1,0 +1,31 @@
+use Rattle.std.proofs.Common.{◌-◌, ◌<◌, [], ◌∙◌, length, min, slice_index_or, sym, arith}
+use Rattle.std.proofs.lemmas.List.{length-map}
+use Rattle.mail_contract.specs.Takes.{from_sender}
+use Rattle.mail_contract.proofs.MapsLemmas.{at_map, new_map, same_map}
+use Rattle.store_msg.proofs.meets.SessionEndsOverMeetsFrom.meet.Goals as goal
+
+pub returns-clause-key : goal.returns-clause-key
+returns-clause-key g c =
+    let same = same_map g.T.Tx.key c.args.self.now.requests.items (c.args.worker - 1) c.index_mut-sender.result.now c.beside.new.tx c.index_mut-sender.ensures.value c.beside.ensures.tx_key in
+    λ j. (same j, c.beside-2.ensures.key j)
+
+pub returns-clause-number : goal.returns-clause-number
+returns-clause-number g c =
+    let same = same_map g.T.Tx.number c.args.self.now.requests.items (c.args.worker - 1) c.index_mut-sender.result.now c.beside.new.tx c.index_mut-sender.ensures.value c.beside.ensures.tx_number in
+    λ j worker. slice_index_or (same j) (worker - 1) 0
+
+pub returns-clause-asked : goal.returns-clause-asked
+returns-clause-asked g c =
+    let same = same_map g.T.Tx.sent c.args.self.now.requests.items (c.args.worker - 1) c.index_mut-sender.result.now c.beside.new.tx c.index_mut-sender.ensures.value c.beside.ensures.tx_sent in
+    λ j worker. slice_index_or (same j) (worker - 1) []
+
+pub returns-clause-roomy : goal.returns-clause-roomy
+returns-clause-roomy g c =
+    let senders = c.args.self.now.requests.items in
+    let i = c.args.worker - 1 in
+    let old = c.index_mut-sender.result.now in
+    let low : i < length senders = omega (arith, c.requires.0.0, c.requires.0.1, length-map senders g.T.Tx.key) in
+    let sent = at_map g.T.Tx.sent senders i old [] low c.index_mut-sender.ensures.value in
+    let number = at_map g.T.Tx.number senders i old 0 low c.index_mut-sender.ensures.value in
+    λ roomy. new_map g.T.Tx.unseen senders i c.beside.new.tx 0 low ∙ c.beside.ensures.roomy roomy
+    ∙ (λ j. min 64 (length (sym sent j) - length (from_sender (sym number j) (g.Q.Rx.received c.args.requests.now))))
