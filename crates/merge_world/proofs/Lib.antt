@@ -1,0 +1,12 @@
+pub mod AcceptedLemmas
+pub mod AscendingLemmas
+pub mod AtLemmas
+pub mod CellsLemmas
+pub mod HeardLemmas
+pub mod KeptLemmas
+pub mod KeyCellsLemmas
+pub mod PlacesLemmas
+pub mod PutLemmas
+pub mod RunsLemmas
+pub mod StepsLemmas
+pub mod WorkersLemmas

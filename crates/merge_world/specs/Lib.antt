@@ -1,0 +1,5 @@
+pub mod Back
+pub mod Effects
+pub mod Heard
+pub mod Maps
+pub mod World

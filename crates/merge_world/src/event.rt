@@ -1,0 +1,78 @@
+//! The events of the protocol.
+ghost use Rattle.std.specs.Prelude.{◌≤◌};
+ghost use Rattle.composed_value.specs.Put.{IsPayload, IsPut};
+ghost use Rattle.merge_world.specs.World.{IsEvent};
+
+use composed_value::{Payload, Put};
+use lattice_laws::{Items, Lattice, MapKey};
+
+/// What can happen to workers that share keys. Workers and keys are numbered from 1, messages from 0
+/// in the order in which they were sent.
+#[derive(Debug, Drop)]
+pub enum Event {
+    /// A session's put comes to a worker.
+    Put {
+        worker: u16,
+        key: u16,
+        put: Put,
+    },
+    /// A worker is asked for a key.
+    Get {
+        worker: u16,
+        key: u16,
+    },
+    /// A worker tells another its own cells of some keys.
+    Send {
+        worker: u16,
+        mate: u16,
+        keys: Items<u16>,
+    },
+    /// A message comes to a worker; it may come again.
+    Deliver {
+        worker: u16,
+        message: u32,
+    },
+}
+
+impl Event {
+    /// Its put is one that there can be. Code calls it to learn the fact; it does nothing.
+    pub(crate) fn attest(&self)
+        ensures { IsEvent self.now }
+    {
+        if let Event::Put { put, .. } = self {
+            attest_put(put);
+        }
+    }
+}
+
+/// A put with a number is one that there can be. Does nothing.
+fn attest_put(put: &Put)
+    ensures { 1 ≤ put.now.number → IsPut put.now }
+{
+    let _session = put.session;
+    let _number = put.number;
+    let _lamport = put.lamport;
+    let _place = put.place;
+    put.seen.attest();
+    put.needs.attest();
+    attest_payload(&put.payload);
+}
+
+/// A payload is one that there can be. Does nothing.
+fn attest_payload(payload: &Payload)
+    ensures { IsPayload payload.now }
+{
+    match payload {
+        Payload::Max(number) => {
+            let _number = *number;
+        }
+        Payload::On => {}
+        Payload::Add(word) => word.attest(),
+        Payload::Field(field, number) => {
+            field.attest();
+            let _number = *number;
+        }
+        Payload::Last(word) => word.attest(),
+        Payload::Version(word) => word.attest(),
+    }
+}

@@ -1,0 +1,149 @@
+//! Runs of the protocol, and what they end in.
+ghost use Rattle.std.specs.Prelude.{◌≡◌, ◌+◌, ◌<◌, ◌≤◌, ◌^◌, length, IfOk, OnOk};
+ghost use Rattle.placement.specs.Config.{IsValidConfig};
+
+use crate::{Event, Took, World, run_world};
+use clock_lattice::{Clock, Needs};
+use composed_value::{Cell, Kind, Payload, Put, Value};
+use lattice_laws::{Items, Maybe};
+use placement::{Config, KeyPlace, Name, Placement};
+use std::alloc::Global;
+use std::test::Fail;
+
+/// Key a, which lives at workers 1 and 2.
+fn one_key(alloc: Global) -> Result<Config, Fail>
+    ensures valid { IfOk result IsValidConfig }
+    ensures one { IfOk result (λ config. length config.keys ≡ 1) }
+{
+    let name = Name::of(b"a")?;
+    let pins = Items::new(vec![in alloc; 1, 2]?);
+    Ok(Config {
+        workers: 2,
+        factor: 1,
+        keys: Items::new(vec![in alloc; KeyPlace { name, pins }]?),
+    })
+}
+
+/// A session's put of a number on key 1.
+fn put(alloc: Global, worker: u16, session: u16, number: u64, max: u64) -> Event {
+    Event::Put {
+        worker,
+        key: 1,
+        put: Put {
+            session,
+            number,
+            lamport: number,
+            place: 0,
+            seen: Clock::new(alloc),
+            needs: Needs::new(alloc),
+            payload: Payload::Max(max),
+        },
+    }
+}
+
+/// Gossip of key 1.
+fn send(alloc: Global, worker: u16, mate: u16) -> Result<Event, Fail> {
+    let keys = Items::new(vec![in alloc; 1]?);
+    Ok(Event::Send { worker, mate, keys })
+}
+
+/// A message comes to worker 2.
+fn heard(message: u32) -> Event {
+    Event::Deliver { worker: 2, message }
+}
+
+/// An event of a world with few messages.
+fn happens(world: &mut World, event: Event) -> Result<Took, Fail>
+    requires { length world.old.pool < 2 ^ 32 }
+    ensures { OnOk result (length world.new.pool ≤ length world.old.pool + 1) }
+{
+    Ok(world.step(&event)?)
+}
+
+/// How many puts of a session a replica of key 1 counts, and the greatest number put.
+fn shown(world: &World, worker: u16, session: u16) -> Option<(u64, u64)> {
+    let cell = world.replica(worker, 1)?;
+    match cell.value() {
+        Value::Max(Maybe::Is(max)) => Some((cell.clock().count(session), max.0)),
+        _ => None,
+    }
+}
+
+#[test]
+fn gossip_comes_late_and_again(rt: HostRuntime) -> Result<(), Fail> {
+    let alloc = rt.alloc();
+    let placement = Placement::build(alloc, &one_key(alloc)?)?;
+    let kinds = Items::new(vec![in alloc; Kind::Max]?);
+    let mut world = World::new(alloc, placement, kinds)?;
+    assert!(rt; world.settled());
+    assert_eq!(rt; happens(&mut world, put(alloc, 1, 1, 1, 5))?, Took::Done);
+    assert_eq!(rt; happens(&mut world, send(alloc, 1, 2)?)?, Took::Done);
+    assert_eq!(rt; happens(&mut world, put(alloc, 1, 1, 2, 3))?, Took::Done);
+    assert_eq!(rt; happens(&mut world, heard(0))?, Took::Done);
+    assert_eq!(rt; happens(&mut world, heard(0))?, Took::Done);
+    assert_eq!(rt; shown(&world, 2, 1), Some((1, 5)));
+    assert!(rt; !world.settled());
+    assert_eq!(rt; happens(&mut world, send(alloc, 1, 2)?)?, Took::Done);
+    assert!(rt; !world.settled());
+    assert_eq!(rt; happens(&mut world, heard(1))?, Took::Done);
+    assert_eq!(rt; shown(&world, 2, 1), Some((2, 5)));
+    assert!(rt; world.settled());
+    assert_eq!(rt; happens(&mut world, heard(0))?, Took::Done);
+    assert_eq!(rt; happens(&mut world, heard(7))?, Took::Strange);
+    assert_eq!(rt; shown(&world, 2, 1), Some((2, 5)));
+    Ok(())
+}
+
+// Sessions 1 to 4 put in turn, each at its home: the odd ones at worker 1. Each round both workers tell
+// each other, and each third message comes only at the end, when all come once more, the last first.
+fn rounds(alloc: Global) -> Result<Items<Event>, Fail> {
+    let mut events = Vec::new(alloc);
+    let mut messages = 0;
+    for round in 1..=50 {
+        for session in 1..=4 {
+            let worker = 2 - session % 2;
+            let max = round * u64::from(session) % 17;
+            events.push(put(alloc, worker, session, round, max))?;
+        }
+        for worker in 1..=2 {
+            events.push(send(alloc, worker, 3 - worker)?)?;
+            if messages % 3 > 0 {
+                let message = messages;
+                let worker = 3 - worker;
+                events.push(Event::Deliver { worker, message })?;
+            }
+            messages = messages.saturating_add(1);
+        }
+    }
+    for i in 0..messages {
+        let message = messages - 1 - i;
+        let worker = 2 - (message % 2) as u16;
+        events.push(Event::Deliver { worker, message })?;
+    }
+    Ok(Items::new(events))
+}
+
+fn are_like(a: &Cell, b: &Cell) -> bool {
+    a.clock() == b.clock() && a.top() == b.top()
+}
+
+#[test]
+fn replicas_are_equal_once_all_is_heard(rt: HostRuntime) -> Result<(), Fail> {
+    let alloc = rt.alloc();
+    let placement = Placement::build(alloc, &one_key(alloc)?)?;
+    let kinds = Items::new(vec![in alloc; Kind::Max]?);
+    let events = rounds(alloc)?;
+    assert!(rt; events.as_slice().len() < 1000);
+    let world = run_world(alloc, placement, kinds, events.as_slice())?;
+    assert!(rt; world.settled());
+    let (Some(first), Some(second)) = (world.replica(1, 1), world.replica(2, 1)) else {
+        return Err(Fail::new("no replica"));
+    };
+    assert!(rt; are_like(first, second));
+    assert_eq!(rt; first.top(), 50);
+    for session in 1..=4 {
+        assert_eq!(rt; shown(&world, 1, session), Some((50, 16)));
+        assert_eq!(rt; shown(&world, 2, session), Some((50, 16)));
+    }
+    Ok(())
+}
