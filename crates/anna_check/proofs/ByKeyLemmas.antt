@@ -8,10 +8,9 @@ use Rattle.std.proofs.lemmas.List.{append-nil, get_or-set_same, get_or-set_other
 use Rattle.composed_value.specs.declared.kind.Kind.{Kind}
 use Rattle.composed_value.specs.declared.kind.Kind.TheVariants.{Max}
 use Rattle.composed_value.specs.declared.put.Put.{Put}
-use Rattle.session_known.specs.Accepted.{puts_on}
-use Rattle.session_known.proofs.AcceptedLemmas.{puts_on-append, on_its_key, on_no_other}
+use Rattle.composed_value.specs.Keyed.{puts_on, kind_at}
+use Rattle.composed_value.proofs.KeyedLemmas.{puts_on-append, on_its_key, on_no_other}
 use Rattle.placement.specs.Config.{IsOneOf}
-use Rattle.session_known.specs.Script.{kind_at}
 use Rattle.anna_check.specs.ByKey.{OfKey, of_key, kinds_of, AreByKey}
 
 -- the puts on a key with one more after them

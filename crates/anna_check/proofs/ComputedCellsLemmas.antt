@@ -11,9 +11,9 @@ use Rattle.composed_value.specs.Sound.{counted}
 use Rattle.composed_value.specs.declared.kind.Kind.{Kind}
 use Rattle.composed_value.specs.declared.kind.Kind.TheVariants.{Max}
 use Rattle.composed_value.specs.declared.put.Put.{Put}
-use Rattle.session_known.specs.Accepted.{puts_on, made_on, AreNext}
+use Rattle.composed_value.specs.Keyed.{puts_on, kind_at}
+use Rattle.session_known.specs.Accepted.{made_on, AreNext}
 use Rattle.placement.specs.Config.{IsOneOf}
-use Rattle.session_known.specs.Script.{kind_at}
 use Rattle.anna_check.specs.Counted.{IsOfItsPuts, AreOfTheirPuts, cell_at, with_cell}
 use Rattle.anna_check.proofs.CountedLemmas.{empty_of_its_puts, of_its_puts}
 use Rattle.anna_check.proofs.SoundLemmas.{number_within}

@@ -21,9 +21,9 @@ use Rattle.composed_value.specs.declared.put.Put.{Put}
 use Rattle.composed_value.specs.declared.value.Value.{Value}
 use Rattle.session_known.specs.Lawful.{IsSoundReply, AreSoundWhereShown}
 use Rattle.session_known.specs.Legal.{IsLawfulFinal}
-use Rattle.session_known.specs.Accepted.{puts_on, made_on, AreNext}
+use Rattle.composed_value.specs.Keyed.{puts_on, kind_at}
+use Rattle.session_known.specs.Accepted.{made_on, AreNext}
 use Rattle.session_known.proofs.NumberedLemmas.{number_at, numbered_from_next}
-use Rattle.session_known.specs.Script.{kind_at}
 use Rattle.session_known.specs.declared.report.FinalCell.{FinalCell}
 use Rattle.session_known.specs.declared.report.Shown.{Shown}
 use Rattle.anna_check.specs.Counted.{AreNeedsShown, IsCellShown, IsCellFinal}

@@ -11,7 +11,7 @@ use Rattle.composed_value.specs.declared.put.Put.{Put}
 use Rattle.session_known.specs.Lawful.{IsSoundReply, CountsAccepted, IsTrueOf}
 use Rattle.session_known.specs.Legal.{IsLawfulFinal}
 use Rattle.placement.specs.Config.{IsOneOf}
-use Rattle.session_known.specs.Script.{kind_at}
+use Rattle.composed_value.specs.Keyed.{kind_at}
 use Rattle.session_known.specs.declared.report.Answer.{Answer}
 use Rattle.session_known.specs.declared.report.Answer.TheVariants as answers
 use Rattle.session_known.specs.declared.report.FinalCell.{FinalCell}

@@ -7,9 +7,8 @@ use Rattle.composed_value.specs.declared.kind.Kind.{Kind}
 use Rattle.composed_value.specs.declared.kind.Kind.TheVariants.{Max}
 use Rattle.composed_value.specs.declared.payload.Payload.{Payload}
 use Rattle.composed_value.specs.declared.put.Put.{Put}
-use Rattle.session_known.specs.Accepted.{puts_on}
+use Rattle.composed_value.specs.Keyed.{puts_on, kind_at}
 use Rattle.placement.specs.Config.{IsOneOf}
-use Rattle.session_known.specs.Script.{kind_at}
 
 -- puts on a key of a kind
 pub record OfKey : Type 0 where

@@ -6,11 +6,11 @@ use Rattle.composed_value.specs.Sound.{counted}
 use Rattle.composed_value.specs.declared.kind.Kind.{Kind}
 use Rattle.composed_value.specs.declared.kind.Kind.TheVariants.{Max}
 use Rattle.composed_value.specs.declared.put.Put.{Put}
-use Rattle.session_known.specs.Accepted.{puts_on, made_on, AreNext}
+use Rattle.composed_value.specs.Keyed.{puts_on, kind_at}
+use Rattle.session_known.specs.Accepted.{made_on, AreNext}
 use Rattle.session_known.specs.Lawful.{IsSoundReply}
 use Rattle.session_known.specs.Legal.{IsLawfulFinal}
 use Rattle.placement.specs.Config.{IsOneOf}
-use Rattle.session_known.specs.Script.{kind_at}
 use Rattle.session_known.specs.declared.report.FinalCell.{FinalCell}
 use Rattle.session_known.specs.declared.report.Shown.{Shown}
 use Rattle.anna_check.specs.Counted.{AreOfTheirPuts, with_cell}

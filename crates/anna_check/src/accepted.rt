@@ -2,7 +2,7 @@
 ghost use Rattle.std.specs.Prelude.{◌≡◌, [], ◌∷◌, ◌++◌, length, IfOk, OnOk, List, All};
 ghost use Rattle.composed_value.specs.PlainValue.{IsPutOf};
 ghost use Rattle.placement.specs.Config.{IsOneOf};
-ghost use Rattle.session_known.specs.Script.{kind_at};
+ghost use Rattle.composed_value.specs.Keyed.{kind_at};
 ghost use Rattle.anna_check.specs.ByKey.{AreByKey, HasAdded, of_key, kinds_of};
 
 use composed_value::{Kind, Put};

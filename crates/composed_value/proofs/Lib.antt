@@ -1,5 +1,6 @@
 pub mod CellOfLemmas
 pub mod GatheredLemmas
+pub mod KeyedLemmas
 pub mod PlainValueLemmas
 pub mod SetsOfListsLemmas
 pub mod SoundLemmas

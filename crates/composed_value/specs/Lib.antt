@@ -1,5 +1,6 @@
 pub mod Cell
 pub mod CellLaws
+pub mod Keyed
 pub mod Kind
 pub mod Laws
 pub mod PlainValue

@@ -1,6 +1,7 @@
 //! What a put brings.
 ghost use Rattle.std.specs.Prelude.{◌≡◌, IfOk};
 ghost use Rattle.composed_value.specs.Kind.{kind_of};
+ghost use Rattle.composed_value.specs.Put.{IsPayload};
 
 use crate::Kind;
 use basic_lattices::Word;
@@ -35,6 +36,25 @@ impl Payload {
             Payload::Field(_, _) => Kind::Map,
             Payload::Last(_) => Kind::Last,
             Payload::Version(_) => Kind::Versions,
+        }
+    }
+
+    /// It is a payload that there can be. Code calls it to learn the fact; it does nothing.
+    pub(crate) fn attest(&self)
+        ensures { IsPayload self.now }
+    {
+        match self {
+            Payload::Max(number) => {
+                let _number = *number;
+            }
+            Payload::On => {}
+            Payload::Add(word) => word.attest(),
+            Payload::Field(field, number) => {
+                field.attest();
+                let _number = *number;
+            }
+            Payload::Last(word) => word.attest(),
+            Payload::Version(word) => word.attest(),
         }
     }
 

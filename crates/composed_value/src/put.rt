@@ -1,6 +1,6 @@
 //! An update that a client makes.
-ghost use Rattle.std.specs.Prelude.{◌≡◌, IfOk};
-ghost use Rattle.composed_value.specs.Put.{stamp_of};
+ghost use Rattle.std.specs.Prelude.{◌≡◌, ◌≤◌, IfOk};
+ghost use Rattle.composed_value.specs.Put.{IsPut, stamp_of};
 
 use crate::Payload;
 use basic_lattices::{Stamped, Word};
@@ -39,6 +39,19 @@ impl Put {
             place: self.place,
             word,
         }
+    }
+
+    /// With a number it is a put that there can be. Code calls it to learn the fact; it does nothing.
+    pub fn attest(&self)
+        ensures { 1 ≤ self.now.number → IsPut self.now }
+    {
+        let _session = self.session;
+        let _number = self.number;
+        let _lamport = self.lamport;
+        let _place = self.place;
+        self.seen.attest();
+        self.needs.attest();
+        self.payload.attest();
     }
 
     /// An equal put.

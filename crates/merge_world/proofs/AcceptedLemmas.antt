@@ -1,33 +1,27 @@
 -- Accepted puts on a key, and a session's next one after them.
-use Rattle.std.specs.Prelude.{◌≡◌, ◌≢◌, ℕ, ◌+◌, ◌≤◌, ◌==◌, cond, List, [], ◌∷◌, ◌++◌, length, map, filter}
+use Rattle.std.specs.Prelude.{◌≡◌, ◌≢◌, ℕ, ◌+◌, ◌≤◌, ◌==◌, cond, List, [], ◌∷◌, ◌++◌, length, filter}
 use Rattle.std.proofs.Common.{sym, ap, subst, ◌∙◌, inl, inr, append-nil, arith}
 use Rattle.std.proofs.lemmas.Bool.{ne_eqb, eq-eqb, cases_eq}
-use Rattle.std.proofs.lemmas.List.{map-append, length_push}
+use Rattle.std.proofs.lemmas.List.{length_push}
 use Rattle.std.proofs.lemmas.List.Elements.{All-nil, All-push, All-weaker, filter-append}
 use Rattle.std.proofs.lemmas.List.Quantifiers.{all_pairs_push}
+use Rattle.composed_value.proofs.KeyedLemmas.{puts_on-append, on_its_key, on_no_other}
+use Rattle.composed_value.specs.Keyed.{puts_on}
 use Rattle.composed_value.specs.PlainValue.{IsPutOf, puts_of_session}
 use Rattle.composed_value.specs.Sound.{AreNumbered, AreAccepted}
 use Rattle.composed_value.specs.declared.kind.Kind.{Kind}
 use Rattle.composed_value.specs.declared.put.Put.{Put}
-use Rattle.merge_world.specs.World.{puts_on}
-
--- the puts on a key of two lists
-puts_on-append : (key : ℕ) (puts more : List (ℕ × Put)) → puts_on key (puts ++ more) ≡ puts_on key puts ++ puts_on key more
-puts_on-append key puts more =
-    let on_key = λ (entry : ℕ × Put). entry.0 == key in
-    ap (map (λ entry. entry.1)) (filter-append on_key puts more) ∙ map-append (λ entry. entry.1) (filter on_key puts) (filter on_key more)
 
 -- a put comes to those on its key
 pub put_here : (its_key key : ℕ) (put : Put) (puts : List (ℕ × Put)) → its_key ≡ key → puts_on key (puts ++ (its_key, put) ∷ []) ≡ puts_on key puts ++ put ∷ []
 put_here its_key key put puts same =
-    puts_on-append key puts ((its_key, put) ∷ [])
-    ∙ ap (λ t. puts_on key puts ++ map (λ (entry : ℕ × Put). entry.1) (cond t ((its_key, put) ∷ []) [])) (eq-eqb its_key key same)
+    puts_on-append key puts ((its_key, put) ∷ []) ∙ ap (λ more. puts_on key puts ++ more) (on_its_key its_key key put same)
 
 -- and to those on no other
 pub put_there : (its_key key : ℕ) (put : Put) (puts : List (ℕ × Put)) → its_key ≢ key → puts_on key (puts ++ (its_key, put) ∷ []) ≡ puts_on key puts
 put_there its_key key put puts apart =
     puts_on-append key puts ((its_key, put) ∷ [])
-    ∙ ap (λ t. puts_on key puts ++ map (λ (entry : ℕ × Put). entry.1) (cond t ((its_key, put) ∷ []) [])) (ne_eqb its_key key apart)
+    ∙ ap (λ more. puts_on key puts ++ more) (on_no_other its_key key put apart)
     ∙ append-nil (puts_on key puts)
 
 -- a put comes to those of its session

@@ -16,7 +16,8 @@ use Rattle.composed_value.specs.declared.put.Put.{Put}
 use Rattle.placement.specs.Asked.{replicas_of}
 use Rattle.placement.specs.Config.{home_of}
 use Rattle.merge_world.specs.Effects.{cells_at, changed_at, empty_cells, hears, opening_map, tells, told_of}
-use Rattle.merge_world.specs.World.{PlainWorld, cells_of, entries_of, is_for, kind_at, map_of, opening, puts_on, workers_of}
+use Rattle.composed_value.specs.Keyed.{kind_at, puts_on}
+use Rattle.merge_world.specs.World.{PlainWorld, cells_of, entries_of, is_for, map_of, opening, workers_of}
 use Rattle.merge_world.specs.declared.private_map.KeyCells.{KeyCells}
 use Rattle.merge_world.specs.declared.world.Message.{Message}
 use Rattle.merge_world.proofs.AcceptedLemmas.{none_accepted}

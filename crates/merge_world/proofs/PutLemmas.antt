@@ -14,7 +14,8 @@ use Rattle.composed_value.specs.declared.put.Put.{Put}
 use Rattle.placement.specs.Asked.{replicas_of}
 use Rattle.placement.specs.Config.{home_of}
 use Rattle.merge_world.specs.Effects.{cells_at, changed_at, is_kind, takes, with_put}
-use Rattle.merge_world.specs.World.{PlainWorld, can_be, cells_of, is_next, kind_at, map_of, puts_on}
+use Rattle.composed_value.specs.Keyed.{kind_at, puts_on}
+use Rattle.merge_world.specs.World.{PlainWorld, can_be, cells_of, is_next, map_of}
 use Rattle.merge_world.specs.declared.event.Event.TheVariants as events
 use Rattle.merge_world.specs.declared.private_map.KeyCells.{KeyCells}
 use Rattle.merge_world.proofs.AcceptedLemmas.{accepted_push, put_here, put_of_it, put_of_other, put_there}

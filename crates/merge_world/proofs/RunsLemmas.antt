@@ -9,7 +9,8 @@ use Rattle.composed_value.specs.declared.kind.Kind.{Kind}
 use Rattle.composed_value.specs.declared.put.Put.{Put}
 use Rattle.placement.specs.Asked.{replicas_of}
 use Rattle.placement.specs.Config.{home_of}
-use Rattle.merge_world.specs.World.{PlainWorld, AreEqual, AreSound, IsEvent, IsSettled, after, can_be, cells_of, kind_at, opening, put_of, puts_on, puts_taken, ran, stepped}
+use Rattle.composed_value.specs.Keyed.{kind_at, puts_on}
+use Rattle.merge_world.specs.World.{PlainWorld, AreEqual, AreSound, IsEvent, IsSettled, after, can_be, cells_of, opening, put_of, puts_taken, ran, stepped}
 use Rattle.merge_world.specs.declared.event.Event.{Event}
 use Rattle.merge_world.specs.declared.event.Event.TheVariants as events
 use Rattle.merge_world.specs.declared.private_map.KeyCells.{KeyCells}

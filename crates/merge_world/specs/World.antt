@@ -1,13 +1,13 @@
 -- The protocol alone: workers, messages, and the events that there can be, in any order.
-use Rattle.std.specs.Prelude.{◌≡◌, ◌≢◌, ◌==◌, ◌&&◌, ℕ, ◌+◌, ◌-◌, ◌≤◌, Bool, true, false, IsTrue, leb, if◌then◌else◌, List, [], ◌∷◌, ◌++◌, Contains, is_some, filter, fold, length, map, max, slice_get, slice_index_or, Option, Some, None, ⊤}
+use Rattle.std.specs.Prelude.{◌≡◌, ◌≢◌, ◌==◌, ◌&&◌, ℕ, ◌+◌, ◌≤◌, Bool, true, false, IsTrue, leb, if◌then◌else◌, List, [], ◌∷◌, ◌++◌, Contains, is_some, fold, length, map, max, slice_get, slice_index_or, Option, Some, None, ⊤}
 use Rattle.std.specs.List.{list_all, range_with_len}
 use Rattle.clock_lattice.specs.Clock.{count_of}
 use Rattle.composed_value.specs.Cell.{PlainCell}
+use Rattle.composed_value.specs.Keyed.{kind_at, puts_on}
 use Rattle.composed_value.specs.Kind.{kind_of, kind_of_value}
 use Rattle.composed_value.specs.Put.{IsPut}
 use Rattle.composed_value.specs.Sound.{IsSoundCell}
 use Rattle.composed_value.specs.declared.kind.Kind.{Kind}
-use Rattle.composed_value.specs.declared.kind.Kind.TheVariants.{Max}
 use Rattle.composed_value.specs.declared.put.Put.{Put}
 use Rattle.placement.specs.Asked.{replicas_of}
 use Rattle.placement.specs.Config.{home_of}
@@ -32,9 +32,6 @@ map_of world worker = slice_index_or ([] ∷ world.maps) worker []
 
 abbrev pub cells_of : PlainWorld → ℕ → ℕ → Option KeyCells
 cells_of world worker key = cells_at (map_of world worker) key
-
-abbrev pub kind_at : List Kind → ℕ → Kind
-kind_at kinds key = slice_index_or kinds (key - 1) Max
 
 -- a key is held by both
 abbrev pub is_shared : PlainWorld → ℕ → ℕ → ℕ → Bool
@@ -108,9 +105,6 @@ put_of world event = []
 abbrev pub puts_taken : PlainWorld → List Event → List (ℕ × Put)
 puts_taken world [] = []
 puts_taken world (event ∷ rest) = put_of world event ++ puts_taken (stepped world event) rest
-
-abbrev pub puts_on : ℕ → List (ℕ × Put) → List Put
-puts_on key puts = map (λ put. put.1) (filter (λ put. put.0 == key) puts)
 
 -- the workers that hold keys are numbered up to the greatest
 abbrev pub workers_of : List (List ℕ) → ℕ

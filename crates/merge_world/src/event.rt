@@ -1,10 +1,8 @@
 //! The events of the protocol.
-ghost use Rattle.std.specs.Prelude.{◌≤◌};
-ghost use Rattle.composed_value.specs.Put.{IsPayload, IsPut};
 ghost use Rattle.merge_world.specs.World.{IsEvent};
 
-use composed_value::{Payload, Put};
-use lattice_laws::{Items, Lattice, MapKey};
+use composed_value::Put;
+use lattice_laws::Items;
 
 /// What can happen to workers that share keys. Workers and keys are numbered from 1, messages from 0
 /// in the order in which they were sent.
@@ -40,39 +38,7 @@ impl Event {
         ensures { IsEvent self.now }
     {
         if let Event::Put { put, .. } = self {
-            attest_put(put);
+            put.attest();
         }
-    }
-}
-
-/// A put with a number is one that there can be. Does nothing.
-fn attest_put(put: &Put)
-    ensures { 1 ≤ put.now.number → IsPut put.now }
-{
-    let _session = put.session;
-    let _number = put.number;
-    let _lamport = put.lamport;
-    let _place = put.place;
-    put.seen.attest();
-    put.needs.attest();
-    attest_payload(&put.payload);
-}
-
-/// A payload is one that there can be. Does nothing.
-fn attest_payload(payload: &Payload)
-    ensures { IsPayload payload.now }
-{
-    match payload {
-        Payload::Max(number) => {
-            let _number = *number;
-        }
-        Payload::On => {}
-        Payload::Add(word) => word.attest(),
-        Payload::Field(field, number) => {
-            field.attest();
-            let _number = *number;
-        }
-        Payload::Last(word) => word.attest(),
-        Payload::Version(word) => word.attest(),
     }
 }

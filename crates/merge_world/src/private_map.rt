@@ -1,6 +1,5 @@
 //! The private map of a worker.
-ghost use Rattle.std.specs.List.{list_any};
-ghost use Rattle.std.specs.Prelude.{◌≡◌, ◌==◌, ◌⊎◌, ◌+◌, ◌<◌, length, option_map, slice_index_or, Some, IfSome, IfNone, IfOk, OnOk, OnErr};
+ghost use Rattle.std.specs.Prelude.{◌≡◌, ◌⊎◌, ◌+◌, ◌<◌, length, option_map, slice_index_or, Some, IfSome, IfNone, IfOk, OnOk, OnErr};
 ghost use Rattle.merge_world.specs.Effects.{cells_at, changed_at, empty_cells, hears, merged, opened, opening_map, takes, tells, told_of, with_heard, with_put};
 ghost use Rattle.composed_value.specs.declared.kind.Kind.TheVariants.{Max};
 ghost use Rattle.merge_world.specs.Back.{with_all_back, with_back, with_whole};
@@ -74,7 +73,7 @@ fn merge(into: &mut Cell, cell: &Cell) -> Result<(), NoMemory>
 fn opened(alloc: Global, worker: u16, replicas: &[u16], kind: Kind) -> Option<KeyCells>
     ensures { result ≡ opened worker replicas.now kind }
 {
-    if lives_at(replicas, worker) {
+    if replicas.contains(&worker) {
         Some(KeyCells::empty(alloc, kind))
     } else {
         None
@@ -86,17 +85,6 @@ fn kind_of_place(kinds: &[Kind], place: u16) -> Kind
     ensures { result ≡ slice_index_or kinds.now place Max }
 {
     kinds[usize::from(place)]
-}
-
-fn lives_at(replicas: &[u16], worker: u16) -> bool
-    ensures { result ≡ list_any (λ replica. replica == worker) replicas.now }
-{
-    for replica in replicas {
-        if *replica == worker {
-            return true;
-        }
-    }
-    false
 }
 
 /// The place of a key or worker, from 0, and nothing where there are not so many.

@@ -20,7 +20,7 @@ use Rattle.clock_lattice.specs.Clock.{IsCount, IsClock, joined_clocks, one_count
 use Rattle.composed_value.specs.Cell.{PlainCell, joined_cells, empty_cell, one_put_cell}
 use Rattle.composed_value.specs.PlainValue.{IsValueOf, stamped_of, version_of, stamped, versions}
 use Rattle.composed_value.proofs.PlainValueLemmas.{value_has_kind}
-use Rattle.session_known.specs.Accepted.{puts_on}
+use Rattle.composed_value.specs.Keyed.{puts_on, kind_at}
 use Rattle.composed_value.specs.declared.kind.Kind.{Kind}
 use Rattle.composed_value.specs.declared.kind.Kind.TheVariants as kinds
 use Rattle.composed_value.specs.declared.payload.Payload.{Payload}
@@ -33,7 +33,6 @@ use Rattle.version_antichain.specs.VersionLaws.{version_total}
 use Rattle.version_antichain.specs.declared.version.Version.{Version}
 use Rattle.session_known.specs.Form.{NamesSessions, IsClockIn, ValueNamesSessions, IsValueIn, IsFinalIn}
 use Rattle.placement.specs.Config.{IsOneOf}
-use Rattle.session_known.specs.Script.{kind_at}
 use Rattle.session_known.specs.declared.script.Script.{Script}
 use Rattle.one_worker.proofs.OneWorker.{cell_at, final_at}
 use Rattle.one_worker.proofs.OneCellLaws.{cell_is}

@@ -12,14 +12,13 @@ use Rattle.composed_value.specs.Cell.{PlainCell, IsCell}
 use Rattle.composed_value.proofs.CellOfLemmas.{cell_of_is_cell}
 use Rattle.composed_value.specs.PlainValue.{IsValueOf, IsCellOf}
 use Rattle.composed_value.specs.Sound.{counted, IsSound}
-use Rattle.session_known.specs.Accepted.{puts_on}
+use Rattle.composed_value.specs.Keyed.{puts_on, kind_at}
 use Rattle.composed_value.specs.declared.kind.Kind.{Kind}
 use Rattle.composed_value.specs.declared.put.Put.{Put}
 use Rattle.session_known.proofs.NumberedLemmas.{made_on-append}
 use Rattle.session_known.specs.Accepted.{made_on, AreNext}
-use Rattle.session_known.specs.Script.{kind_at}
 use Rattle.session_known.specs.declared.script.Script.{Script}
-use Rattle.session_known.proofs.AcceptedLemmas.{puts_on-append}
+use Rattle.composed_value.proofs.KeyedLemmas.{puts_on-append}
 use Rattle.one_worker.proofs.OneWorker.{cell_at}
 use Rattle.one_worker.proofs.OnePutsLaws.{ArePutsIn, each_on_key, of_kind_on, next_rest, greater_of_next, greatest_of_next, puts_in_front}
 

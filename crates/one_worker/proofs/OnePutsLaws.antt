@@ -10,12 +10,11 @@ use Rattle.lattice_laws.specs.Greatest.{IsGreatestOrZero}
 use Rattle.lattice_laws.proofs.ListLemmas.{All-front}
 use Rattle.clock_lattice.specs.Clock.{IsCount}
 use Rattle.composed_value.specs.PlainValue.{IsPutOf}
-use Rattle.session_known.specs.Accepted.{puts_on}
+use Rattle.composed_value.specs.Keyed.{puts_on, kind_at}
 use Rattle.composed_value.specs.declared.put.Put.{Put}
 use Rattle.session_known.specs.Accepted.{made_on, AreNext}
 use Rattle.session_known.proofs.NumberedLemmas.{number_at, made_on-append, made_here, made_elsewhere, made_by_other}
 use Rattle.placement.specs.Config.{IsOneOf}
-use Rattle.session_known.specs.Script.{kind_at}
 use Rattle.session_known.specs.declared.script.Script.{Script}
 
 -- a clock of so many sessions

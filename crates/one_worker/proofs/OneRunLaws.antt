@@ -9,11 +9,12 @@ use Rattle.composed_value.specs.declared.kind.Kind.{Kind}
 use Rattle.composed_value.specs.declared.payload.Payload.{Payload}
 use Rattle.composed_value.specs.declared.put.Put.{Put}
 use Rattle.placement.specs.Config.{placed}
-use Rattle.session_known.specs.Accepted.{client_of, puts_on, accepted_from}
+use Rattle.composed_value.specs.Keyed.{puts_on, kind_at}
+use Rattle.session_known.specs.Accepted.{client_of, accepted_from}
 use Rattle.session_known.specs.Form.{Fits}
 use Rattle.session_known.specs.Lawful.{IsSoundReply, IsTrueOf}
 use Rattle.session_known.specs.Legal.{AreLawfulFrom}
-use Rattle.session_known.specs.Script.{IsValidSession, MayStand, kind_at}
+use Rattle.session_known.specs.Script.{IsValidSession, MayStand}
 use Rattle.session_known.specs.Session.{Client, State, start, after, puts_by, puts_from}
 use Rattle.session_known.specs.declared.report.Answer.{Answer}
 use Rattle.session_known.specs.declared.report.Answer.TheVariants as answers

@@ -13,14 +13,13 @@ use Rattle.clock_lattice.proofs.ClockLemmas.{covers_from_counts}
 use Rattle.clock_lattice.proofs.NeedsLemmas.{empty_are_needs}
 use Rattle.composed_value.specs.Kind.{kind_of}
 use Rattle.composed_value.specs.Put.{IsPayload}
-use Rattle.session_known.specs.Accepted.{puts_on}
+use Rattle.composed_value.specs.Keyed.{puts_on, kind_at}
 use Rattle.composed_value.specs.declared.payload.Payload.{Payload}
 use Rattle.composed_value.specs.declared.put.Put as puts
 use Rattle.session_known.specs.Lawful.{had_from, earlier_from}
 use Rattle.session_known.specs.Accepted.{made_on}
 use Rattle.session_known.proofs.NumberedLemmas.{made_on-append, made_here, made_elsewhere, count_put, count_put_elsewhere}
 use Rattle.placement.specs.Config.{IsOneOf}
-use Rattle.session_known.specs.Script.{kind_at}
 use Rattle.session_known.specs.Session.{State, start, own_count, put_made, after}
 use Rattle.session_known.specs.declared.report.Answer.{Answer}
 use Rattle.session_known.specs.declared.report.Answer.TheVariants as answers

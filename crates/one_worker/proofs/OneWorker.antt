@@ -2,12 +2,11 @@
 use Rattle.std.specs.Prelude.{ℕ, ◌+◌, ◌==◌, if◌then◌else◌, List, [], ◌∷◌, ◌++◌, map, length}
 use Rattle.std.specs.List.{range_with_len}
 use Rattle.composed_value.specs.Cell.{PlainCell, cell_of}
-use Rattle.session_known.specs.Accepted.{puts_on}
+use Rattle.composed_value.specs.Keyed.{puts_on, kind_at}
 use Rattle.composed_value.specs.declared.kind.Kind.{Kind}
 use Rattle.composed_value.specs.declared.put.Put.{Put}
 use Rattle.session_known.specs.Accepted.{client_of, accepted_from}
 use Rattle.session_known.specs.Lawful.{last_lamport}
-use Rattle.session_known.specs.Script.{kind_at}
 use Rattle.session_known.specs.Session.{Client, State, start, own_count, after, puts_by, puts_from}
 use Rattle.session_known.specs.declared.report.Answer.{Answer}
 use Rattle.session_known.specs.declared.report.Answer.TheVariants as answers

@@ -7,10 +7,11 @@ use Rattle.composed_value.specs.Sound.{IsSound}
 use Rattle.composed_value.specs.declared.put.Put.{Put}
 use Rattle.placement.specs.Config.{placed}
 use Rattle.placement.proofs.ConfigLemmas.{is_placement}
-use Rattle.session_known.specs.Accepted.{puts_on, accepted_from}
+use Rattle.composed_value.specs.Keyed.{puts_on, kind_at}
+use Rattle.session_known.specs.Accepted.{accepted_from}
 use Rattle.session_known.specs.Form.{IsFinalIn}
 use Rattle.session_known.specs.Legal.{IsLawfulFinal, IsLegal}
-use Rattle.session_known.specs.Script.{IsValidScript, kind_at}
+use Rattle.session_known.specs.Script.{IsValidScript}
 use Rattle.session_known.specs.declared.report.Answer.{Answer}
 use Rattle.session_known.specs.declared.script.Level.TheVariants.{Eventual}
 use Rattle.session_known.specs.declared.script.Script.{Script}

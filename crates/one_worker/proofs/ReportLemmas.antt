@@ -10,14 +10,14 @@ use Rattle.lattice_laws.specs.Joins.{joined_all}
 use Rattle.lattice_laws.proofs.Joining.{joined_all-push}
 use Rattle.composed_value.specs.Cell.{PlainCell, empty_cell, one_put_cell, joined_cells, cell_of}
 use Rattle.composed_value.proofs.ValidValueLemmas.{empty_has_kind}
-use Rattle.session_known.specs.Accepted.{puts_on}
+use Rattle.composed_value.specs.Keyed.{puts_on, kind_at}
 use Rattle.composed_value.specs.declared.kind.Kind.{Kind}
 use Rattle.composed_value.specs.declared.kind.Kind.TheVariants as kinds
 use Rattle.composed_value.specs.declared.payload.Payload.{Payload}
 use Rattle.composed_value.specs.declared.put.Put.{Put}
 use Rattle.session_known.specs.Accepted.{client_of, accepted_from}
 use Rattle.placement.specs.Config.{IsOneOf}
-use Rattle.session_known.specs.Script.{kind_at, IsValidScript, MayStand}
+use Rattle.session_known.specs.Script.{IsValidScript, MayStand}
 use Rattle.session_known.specs.Session.{Client, Knowledge, nothing_known, start, after, puts_by, puts_from}
 use Rattle.session_known.specs.declared.report.Answer.{Answer}
 use Rattle.session_known.specs.declared.report.Answer.TheVariants as answers
@@ -27,7 +27,7 @@ use Rattle.session_known.specs.declared.script.Line.{Line}
 use Rattle.session_known.specs.declared.script.Line.TheVariants as lines
 use Rattle.session_known.specs.declared.script.Script.{Script}
 use Rattle.session_known.specs.declared.script.SessionPlan.{SessionPlan}
-use Rattle.session_known.proofs.AcceptedLemmas.{puts_on-append}
+use Rattle.composed_value.proofs.KeyedLemmas.{puts_on-append}
 use Rattle.one_worker.specs.OneMap.{cell_for, cells_with}
 use Rattle.one_worker.proofs.OneWorker.{cell_at, answer_of, session_answers, run_answers, final_at, report_of}
 use Rattle.one_worker.specs.Serving.{shown_plainly}

@@ -16,7 +16,7 @@ use Rattle.composed_value.specs.declared.value.Value.{Value}
 use Rattle.composed_value.specs.declared.value.Value.TheVariants.{Max, Or, Set, Map, Last, Versions}
 use Rattle.session_known.specs.Lawful.{last_lamport}
 use Rattle.session_known.proofs.NumberedLemmas.{count_put, count_put_elsewhere}
-use Rattle.session_known.specs.Script.{kind_at}
+use Rattle.composed_value.specs.Keyed.{kind_at}
 use Rattle.session_known.specs.Session.{Client, Knowledge, Knows, nothing_known, own_count, put_made, knows_put}
 use Rattle.session_known.specs.declared.report.Answer.{Answer}
 use Rattle.session_known.specs.declared.report.Answer.TheVariants as answers

@@ -10,7 +10,8 @@ use Rattle.composed_value.specs.declared.kind.Kind.{Kind}
 use Rattle.composed_value.specs.declared.value.Value.{Value}
 use Rattle.placement.specs.Name.{IsName}
 use Rattle.session_known.specs.Form.{IsClockIn, IsValueIn, NeedsFit, IsShownIn, IsAgainIn, Fits, IsFinalIn, HasForm}
-use Rattle.session_known.specs.Script.{kind_at, key_name, session_name}
+use Rattle.composed_value.specs.Keyed.{kind_at}
+use Rattle.session_known.specs.Script.{key_name, session_name}
 use Rattle.session_known.specs.declared.report.Answer.{Answer}
 use Rattle.session_known.specs.declared.report.Answer.TheVariants as answers
 use Rattle.session_known.specs.declared.report.FinalCell.{FinalCell}

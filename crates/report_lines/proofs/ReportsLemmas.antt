@@ -5,7 +5,7 @@ use Rattle.std.proofs.Common.{refl, sym, ap, subst, ◌∙◌}
 use Rattle.std.proofs.lemmas.Fmt.{decimal_injective}
 use Rattle.std.proofs.lemmas.List.{append_assoc}
 use Rattle.session_known.specs.Form.{IsValueIn, Fits, IsFinalIn}
-use Rattle.session_known.specs.Script.{kind_at}
+use Rattle.composed_value.specs.Keyed.{kind_at}
 use Rattle.session_known.specs.declared.report.Answer.{Answer}
 use Rattle.session_known.specs.declared.report.FinalCell.{FinalCell}
 use Rattle.session_known.specs.declared.script.Level.{Level}

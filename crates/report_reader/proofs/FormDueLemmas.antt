@@ -10,7 +10,7 @@ use Rattle.composed_value.specs.declared.kind.Kind.{Kind}
 use Rattle.composed_value.specs.declared.kind.Kind.TheVariants as kinds
 use Rattle.placement.specs.Name.{IsName}
 use Rattle.session_known.specs.Form.{IsClockIn, IsValueIn, ValueNamesSessions, NeedsFit, IsShownIn, Fits, IsFinalIn, HasForm, final_places}
-use Rattle.session_known.specs.Script.{kind_at}
+use Rattle.composed_value.specs.Keyed.{kind_at}
 use Rattle.session_known.specs.declared.report.Answer.{Answer}
 use Rattle.session_known.specs.declared.report.Answer.TheVariants as answers
 use Rattle.session_known.specs.declared.report.FinalCell.{FinalCell}

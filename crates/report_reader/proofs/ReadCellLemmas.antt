@@ -3,7 +3,7 @@ use Rattle.std.proofs.Common.{◌≡◌, ℕ, ◌-◌, ◌≤◌, List, [], take
 use Rattle.std.specs.List.{take-map}
 use Rattle.composed_value.specs.declared.kind.Kind.{Kind}
 use Rattle.session_known.specs.Form.{IsValueIn}
-use Rattle.session_known.specs.Script.{kind_at}
+use Rattle.composed_value.specs.Keyed.{kind_at}
 use Rattle.session_known.specs.declared.report.FinalCell.{FinalCell}
 use Rattle.session_known.specs.declared.report.Shown.{Shown}
 use Rattle.session_known.specs.declared.script.Level.{Level}

@@ -1,7 +1,7 @@
 -- The parts of answers, as they are read.
 use Rattle.std.specs.Prelude.{ℕ, ◌<◌, ◌^◌, List, [], ◌∷◌, codes}
 use Rattle.session_known.specs.Form.{IsClockIn, IsValueIn, NeedsFit, IsShownIn, IsAgainIn}
-use Rattle.session_known.specs.Script.{kind_at}
+use Rattle.composed_value.specs.Keyed.{kind_at}
 use Rattle.session_known.specs.declared.report.Answer.{Answer}
 use Rattle.session_known.specs.declared.report.Answer.TheVariants as answers
 use Rattle.session_known.specs.declared.report.Shown.{Shown}

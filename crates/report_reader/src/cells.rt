@@ -1,7 +1,8 @@
 //! Cells, read: what answers and final cells share.
 ghost use Rattle.std.specs.Prelude.{◌≡◌, ◌↔◌, ◌∷◌, [], List, ℕ, IfOk, IsTrue, MatchOption, length};
 ghost use Rattle.placement.specs.Config.{IsOneOf};
-ghost use Rattle.session_known.specs.Script.{kind_at, IsValid, key_name};
+ghost use Rattle.composed_value.specs.Keyed.{kind_at};
+ghost use Rattle.session_known.specs.Script.{IsValid, key_name};
 ghost use Rattle.report_reader.specs.ReadCells.{IsCellIn, parts_of_cell};
 ghost use Rattle.script_reader.specs.Words.{texts};
 ghost use Rattle.report_reader.specs.Reads.{Reads};

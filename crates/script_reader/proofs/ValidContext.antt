@@ -7,7 +7,8 @@ use Rattle.placement.specs.Config.{IsOneOf, ArePins, placed}
 use Rattle.placement.specs.Name.{IsName}
 use Rattle.placement.specs.declared.config.Config.{Config}
 use Rattle.script_reader.specs.Faults.{Context}
-use Rattle.session_known.specs.Script.{MayName, kind_at}
+use Rattle.composed_value.specs.Keyed.{kind_at}
+use Rattle.session_known.specs.Script.{MayName}
 use Rattle.placement.specs.Asked.{replicas_of}
 use Rattle.session_known.specs.declared.script.Level.{Level}
 use Rattle.session_known.specs.declared.script.Level.TheVariants.{Committed, Causal}

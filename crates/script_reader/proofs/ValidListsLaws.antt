@@ -28,7 +28,7 @@ use Rattle.script_reader.specs.Faults.{has_repeat, is_within}
 use Rattle.script_reader.specs.Said.{place_of, number_in, session_number, payload_for}
 use Rattle.script_reader.proofs.ValidContext.{AreApart}
 use Rattle.script_reader.specs.Words.{is_spelled, is_value_word, is_numeral, number_said, word_said, payload_said}
-use Rattle.session_known.specs.Script.{kind_at}
+use Rattle.composed_value.specs.Keyed.{kind_at}
 use Rattle.placement.specs.Asked.{replicas_of}
 
 -- a number within bounds is one of them

@@ -14,14 +14,14 @@ use Rattle.composed_value.proofs.PlainValueLemmas.{value_is_single}
 use Rattle.composed_value.specs.Sound.{counted, IsSound, AreNumbered}
 use Rattle.composed_value.specs.declared.kind.Kind.{Kind}
 use Rattle.composed_value.specs.declared.put.Put as puts
-use Rattle.session_known.specs.Accepted.{puts_on, made_on, AreNext, accepted, accepted_from}
+use Rattle.composed_value.specs.Keyed.{puts_on, kind_at}
+use Rattle.session_known.specs.Accepted.{made_on, AreNext, accepted, accepted_from}
 use Rattle.session_known.specs.Form.{Fits, IsFinalIn}
 use Rattle.session_known.proofs.KnownLemmas.{CountsAtMost, first_at_most, shown_is_known}
 use Rattle.session_known.specs.Lawful.{ShowsAt, by_get, by_await, required_by_get, IsLawful, IsTrueOf, CountsAccepted}
 use Rattle.session_known.specs.Laws.{FinalsAgree}
 use Rattle.session_known.specs.Legal.{AreLawfulFrom, IsLawfulFinal, IsLegalAt}
 use Rattle.session_known.proofs.NumberedLemmas.{number_at, numbered_from_next, accepted_are_next}
-use Rattle.session_known.specs.Script.{kind_at}
 use Rattle.session_known.specs.Session.{Client, State, after}
 use Rattle.session_known.specs.declared.report.Answer.{Answer}
 use Rattle.session_known.specs.declared.report.FinalCell.{FinalCell}

@@ -1,4 +1,3 @@
-pub mod AcceptedLemmas
 pub mod CoversLemmas
 pub mod FormLemmas
 pub mod KnownLemmas

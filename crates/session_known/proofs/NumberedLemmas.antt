@@ -15,8 +15,9 @@ use Rattle.composed_value.specs.PlainValue.{puts_of_session}
 use Rattle.composed_value.specs.Sound.{AreNumbered}
 use Rattle.composed_value.specs.declared.payload.Payload.{Payload}
 use Rattle.composed_value.specs.declared.put.Put as puts
-use Rattle.session_known.proofs.AcceptedLemmas.{puts_on-append, on_its_key, on_no_other}
-use Rattle.session_known.specs.Accepted.{client_of, puts_on, made_on, AreNext, accepted_from}
+use Rattle.composed_value.proofs.KeyedLemmas.{puts_on-append, on_its_key, on_no_other}
+use Rattle.composed_value.specs.Keyed.{puts_on}
+use Rattle.session_known.specs.Accepted.{client_of, made_on, AreNext, accepted_from}
 use Rattle.session_known.specs.Lawful.{IsLawful, AreLawful}
 use Rattle.session_known.specs.Legal.{AreLawfulFrom}
 use Rattle.session_known.specs.Session.{Client, Knowledge, State, start, own_count, put_made, knows_put, puts_committed, knows_committed, held_puts, after, puts_by, puts_from}

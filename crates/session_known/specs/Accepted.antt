@@ -1,5 +1,6 @@
 -- The puts that a report accepts.
-use Rattle.std.specs.Prelude.{◌≡◌, ℕ, ◌+◌, List, [], ◌∷◌, ◌++◌, ◌==◌, map, filter, ⊤}
+use Rattle.std.specs.Prelude.{◌≡◌, ℕ, ◌+◌, List, [], ◌∷◌, ◌++◌, ⊤}
+use Rattle.composed_value.specs.Keyed.{puts_on}
 use Rattle.composed_value.specs.PlainValue.{puts_of_session}
 use Rattle.composed_value.specs.declared.put.Put.{Put}
 use Rattle.session_known.specs.Session.{Client, start, puts_from}
@@ -20,10 +21,6 @@ accepted_from number plans answers = []
 -- The accepted puts of a report, each with its key: those of the put lines that were accepted and of the commits, in script order.
 abbrev pub accepted : Script → Report → List (ℕ × Put)
 accepted script report = accepted_from 1 script.sessions report.answers
-
--- the puts on a key, of puts each with its key
-abbrev pub puts_on : ℕ → List (ℕ × Put) → List Put
-puts_on key accepted = map (λ entry. entry.1) (filter (λ entry. entry.0 == key) accepted)
 
 -- those of them that a session made
 abbrev pub made_on : ℕ → ℕ → List (ℕ × Put) → List Put

@@ -4,7 +4,8 @@ use Rattle.composed_value.specs.PlainValue.{puts_of_session}
 use Rattle.composed_value.specs.Sound.{AreNumbered}
 use Rattle.composed_value.specs.declared.kind.Kind.{Kind}
 use Rattle.composed_value.specs.declared.put.Put as puts
-use Rattle.session_known.specs.Accepted.{puts_on, accepted_from}
+use Rattle.composed_value.specs.Keyed.{puts_on}
+use Rattle.session_known.specs.Accepted.{accepted_from}
 use Rattle.session_known.specs.Lawful.{ShowsAt, IsTrueOf, CountsAccepted}
 use Rattle.session_known.specs.Legal.{AreLawfulFrom, IsLegalAt}
 use Rattle.session_known.specs.declared.report.Answer.{Answer}

@@ -6,10 +6,10 @@ use Rattle.clock_lattice.specs.Clock.{count_of}
 use Rattle.composed_value.specs.Sound.{IsSound}
 use Rattle.composed_value.specs.declared.kind.Kind.{Kind}
 use Rattle.composed_value.specs.declared.put.Put as puts
-use Rattle.session_known.specs.Accepted.{client_of, puts_on, accepted}
+use Rattle.composed_value.specs.Keyed.{puts_on, kind_at}
+use Rattle.session_known.specs.Accepted.{client_of, accepted}
 use Rattle.session_known.specs.Form.{HasForm}
 use Rattle.session_known.specs.Lawful.{AreLawful, IsTrueOf}
-use Rattle.session_known.specs.Script.{kind_at}
 use Rattle.session_known.specs.Session.{start}
 use Rattle.session_known.specs.declared.report.Answer.{Answer}
 use Rattle.session_known.specs.declared.report.FinalCell.{FinalCell}

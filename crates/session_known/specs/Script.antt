@@ -3,20 +3,15 @@ use Rattle.std.specs.Prelude.{◌≡◌, ◌≢◌, ℕ, ◌-◌, ◌≤◌, Boo
 use Rattle.placement.specs.Name.{IsName}
 use Rattle.placement.specs.Asked.{replicas_of}
 use Rattle.placement.specs.Config.{IsOneOf, IsValidConfig, IsPlacement}
+use Rattle.composed_value.specs.Keyed.{kind_at}
 use Rattle.composed_value.specs.Kind.{kind_of}
 use Rattle.composed_value.specs.Put.{IsPayload}
-use Rattle.composed_value.specs.declared.kind.Kind.{Kind}
-use Rattle.composed_value.specs.declared.kind.Kind.TheVariants as kinds
 use Rattle.session_known.specs.declared.script.Level.{Level}
 use Rattle.session_known.specs.declared.script.Level.TheVariants.{Committed, Causal}
 use Rattle.session_known.specs.declared.script.Line.{Line}
 use Rattle.session_known.specs.declared.script.Line.TheVariants.{Put, Get, Await, Begin, Commit, Abort}
 use Rattle.session_known.specs.declared.script.Script.{Script}
 use Rattle.session_known.specs.declared.script.SessionPlan.{SessionPlan}
-
--- the kind of a key
-abbrev pub kind_at : List Kind → ℕ → Kind
-kind_at of_keys key = slice_index_or of_keys (key - 1) kinds.Max
 
 -- the name of a key, by its number
 abbrev pub key_name : Script → ℕ → List ℕ

@@ -1,7 +1,8 @@
 //! What is asked for: keys, sessions, and the command lines of each.
 ghost use Rattle.std.specs.Prelude.{◌≡◌, length};
 ghost use Rattle.placement.specs.Config.{IsOneOf};
-ghost use Rattle.session_known.specs.Script.{kind_at, key_name, session_name};
+ghost use Rattle.composed_value.specs.Keyed.{kind_at};
+ghost use Rattle.session_known.specs.Script.{key_name, session_name};
 
 use composed_value::{Kind, Payload};
 use lattice_laws::Items;

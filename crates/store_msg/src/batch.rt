@@ -58,6 +58,13 @@ impl Batch {
         self.entries.len()
     }
 
+    /// The entries, in order. Takes no memory.
+    pub fn as_slice(&self) -> &[(u16, Cell)]
+        ensures { result.now ≡ self.now }
+    {
+        self.entries.as_slice()
+    }
+
     /// The key and cell at a place, counted from 0, and nothing past the last. Takes no memory.
     pub fn at(&self, i: usize) -> Option<(u16, &Cell)>
         ensures some { IsSome result ↔ (i < length self.now) }

@@ -15,7 +15,8 @@ use Rattle.composed_value.specs.declared.value.Value.TheVariants as values
 use Rattle.placement.specs.Name.{IsName}
 use Rattle.placement.specs.Config.{IsOneOf, ArePins, IsPlacement}
 use Rattle.placement.specs.declared.config.KeyPlace.{KeyPlace}
-use Rattle.session_known.specs.Accepted.{puts_on, accepted}
+use Rattle.composed_value.specs.Keyed.{puts_on}
+use Rattle.session_known.specs.Accepted.{accepted}
 use Rattle.session_known.specs.Form.{NamesSessions, IsClockIn, IsAgainIn, AreNeedsIn, IsFinalIn}
 use Rattle.session_known.specs.Lawful.{last_lamport, CountsAccepted}
 use Rattle.session_known.specs.Legal.{IsLawfulFinal, IsLegalAt}

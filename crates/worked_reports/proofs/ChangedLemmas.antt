@@ -9,7 +9,8 @@ use Rattle.composed_value.specs.declared.put.Put.{Put}
 use Rattle.version_antichain.specs.declared.version.Version.{Version}
 use Rattle.composed_value.specs.declared.value.Value.TheVariants as values
 use Rattle.placement.specs.Asked.{replicas_of}
-use Rattle.session_known.specs.Accepted.{puts_on, accepted}
+use Rattle.composed_value.specs.Keyed.{puts_on}
+use Rattle.session_known.specs.Accepted.{accepted}
 use Rattle.session_known.specs.Lawful.{last_lamport}
 use Rattle.worked_reports.specs.Worked.{first_script, first_report, first_final, causal_final_b, versions_final}
 use Rattle.worked_reports.proofs.LegalLemmas.{below_differs}

@@ -33,7 +33,8 @@ use Rattle.composed_value.specs.declared.payload.Payload.TheVariants as payloads
 use Rattle.composed_value.specs.declared.put.Put.{Put}
 use Rattle.composed_value.specs.declared.value.Value.{Value}
 use Rattle.composed_value.specs.declared.value.Value.TheVariants as values
-use Rattle.session_known.specs.Accepted.{puts_on, accepted}
+use Rattle.composed_value.specs.Keyed.{puts_on}
+use Rattle.session_known.specs.Accepted.{accepted}
 use Rattle.session_known.specs.Form.{NamesSessions, IsClockIn, AreNeedsIn, IsFinalIn}
 use Rattle.session_known.specs.Lawful.{last_lamport}
 use Rattle.session_known.specs.Legal.{IsLawfulFinal, IsLegalAt}

@@ -16,7 +16,8 @@ use Rattle.composed_value.specs.declared.put.Put.{Put}
 use Rattle.composed_value.specs.declared.value.Value.TheVariants as values
 use Rattle.placement.specs.Name.{IsName}
 use Rattle.placement.specs.Config.{IsPlacement}
-use Rattle.session_known.specs.Accepted.{puts_on, accepted}
+use Rattle.composed_value.specs.Keyed.{puts_on}
+use Rattle.session_known.specs.Accepted.{accepted}
 use Rattle.session_known.specs.Form.{NamesSessions, IsClockIn, IsFinalIn}
 use Rattle.session_known.specs.Lawful.{last_lamport}
 use Rattle.session_known.specs.Legal.{IsLawfulFinal, IsLegalAt}

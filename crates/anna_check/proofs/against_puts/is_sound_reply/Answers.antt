@@ -1,7 +1,6 @@
 use Rattle.std.proofs.Common.{◌≡◌, length, ap, subst, ◌∙◌}
-use Rattle.session_known.specs.Accepted.{puts_on}
+use Rattle.composed_value.specs.Keyed.{puts_on, kind_at}
 use Rattle.placement.specs.Config.{IsOneOf}
-use Rattle.session_known.specs.Script.{kind_at}
 use Rattle.anna_check.specs.ByKey.{OfKey}
 use Rattle.anna_check.proofs.ByKeyLemmas.{kind_is}
 use Rattle.anna_check.proofs.against_puts.is_sound_reply.Goals as goal

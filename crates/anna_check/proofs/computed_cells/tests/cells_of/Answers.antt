@@ -3,7 +3,7 @@ use Rattle.std.proofs.lemmas.List.Elements.{All-filter, All-map, All-weaker}
 use Rattle.composed_value.specs.PlainValue.{IsPutOf}
 use Rattle.composed_value.specs.declared.kind.Kind.TheVariants.{Max}
 use Rattle.composed_value.specs.declared.put.Put.{Put}
-use Rattle.session_known.specs.Accepted.{puts_on}
+use Rattle.composed_value.specs.Keyed.{puts_on}
 use Rattle.anna_check.specs.Counted.{AreOfTheirPuts}
 use Rattle.anna_check.proofs.ComputedCellsLemmas.{empty_of_their_puts}
 use Rattle.anna_check.proofs.computed_cells.tests.cells_of.Goals as goal
