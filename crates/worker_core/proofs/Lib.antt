@@ -1,0 +1,15 @@
+pub mod BatchesLemmas
+pub mod KeptLemmas
+pub mod KeysLemmas
+pub mod LagLemmas
+pub mod LawfulLemmas
+pub mod MapLemmas
+pub mod MarkingLemmas
+pub mod OwnLemmas
+pub mod PostsLemmas
+pub mod RepliesLemmas
+pub mod SealedLemmas
+pub mod ServingLemmas
+pub mod TellingLemmas
+pub mod ToldLemmas
+pub mod TurnLemmas

@@ -1,0 +1,17 @@
+use Rattle.std.proofs.Common.{◌≡◌, ◌-◌, [], length, map, slice_index_or}
+use Rattle.worker_core.proofs.TellingLemmas.{IsTellingMate, mates_of}
+use Rattle.worker_core.proofs.gossip.tell_mate.Given as goal
+
+abbrev pub invariant-loop-from : goal.invariant-loop-from
+invariant-loop-from g l = record {
+  keys : map g.O.Tx.key l.senders.items ≡ map g.O.Tx.key l.fn.senders.items;
+  numbers : map g.O.Tx.number l.senders.items ≡ map g.O.Tx.number l.fn.senders.items;
+  most : l.changes.most ≡ l.fn.changes.most;
+  mate :
+      IsTellingMate l.cells l.taken l.fn.changes.most l.mate l.from l.sent
+      (mates_of g.O.Tx.sent g.O.Tx.fulls l.fn.changes l.fn.turned.items l.fn.senders.items)
+      (mates_of g.O.Tx.sent g.O.Tx.fulls l.changes l.turned.items l.senders.items);
+}
+
+abbrev pub decreases-loop-from : goal.decreases-loop-from
+decreases-loop-from g l = length (slice_index_or l.changes.of_mates l.mate []) - l.from

@@ -1,0 +1,13 @@
+use Rattle.std.proofs.Common.{subst}
+use Rattle.worker_core.specs.Lag.{Lags}
+use Rattle.worker_core.specs.Local.{state_of}
+use Rattle.worker_core.specs.State.{Lists, PlainWorker, lists_of}
+use Rattle.worker_core.proofs.LagLemmas.{lag_less}
+use Rattle.worker_core.proofs.worker.WorkerOver.attest.Goals as goal
+
+pub returns-clause-lags : goal.returns-clause-lags
+returns-clause-lags g c =
+    let lists_are = lists_of g.Q.Rx.received g.T.Tx.sent g.O.Tx.sent g.G.GossipRx.got in
+    let keeps = c.self.invariant.keeps in
+    subst (λ worker. Lags (lists_are worker)) c.self.view_is
+    (lag_less c.self.inside.local.since c.self.inside.local.round (lists_are (record { state = state_of c.self.inside.local; ends = c.self.inside.ends })) keeps.since keeps.lags)

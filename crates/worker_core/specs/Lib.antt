@@ -1,0 +1,12 @@
+pub mod Boxes
+pub mod Changes
+pub mod Lag
+pub mod Local
+pub mod Kept
+pub mod Sealed
+pub mod Sending
+pub mod Serving
+pub mod Share
+pub mod State
+pub mod Telling
+pub mod Turns

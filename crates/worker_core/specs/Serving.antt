@@ -1,0 +1,91 @@
+-- A worker works on the message that is kept.
+use Rattle.std.specs.Prelude.{◌≡◌, ◌⊎◌, ℕ, ◌-◌, ◌<◌, ◌≤◌, ◌==◌, ◌||◌, ltb, Bool, true, false, IsTrue, is_some, if◌then◌else◌, List, [], ◌∷◌, ◌++◌, length, slice_index_or, slice_set, Option, Some, None, Result, Ok, Err, IfOk, OnErr, OnOk, ⊤}
+use Rattle.lattice_laws.specs.Counts.{Rose}
+use Rattle.mail_contract.specs.Takes.{Answers}
+use Rattle.merge_world.specs.Effects.{hears}
+use Rattle.store_msg.specs.Reply.{PlainReply}
+use Rattle.store_msg.specs.declared.request.Request.{Request}
+use Rattle.worker_core.specs.Share.{owed_to}
+use Rattle.worker_core.specs.State.{Lists, State, dirty}
+use Rattle.worker_core.specs.Turns.{Counts, KeepsBatch, KeepsRequest, Rounds, marked, reply_to, served}
+use Rattle.worker_core.specs.declared.did.Did.{Did}
+use Rattle.worker_core.specs.declared.did.Did.TheVariants as did
+use Rattle.worker_core.specs.declared.popped.Popped.{Popped}
+use Rattle.worker_core.specs.declared.popped.Popped.TheVariants as popped
+
+-- replies to a session are sent or held, after those that were
+abbrev pub AddsReplies : ℕ → List PlainReply → List (List PlainReply) → Option (ℕ × PlainReply) → List (List PlainReply) → Option (ℕ × PlainReply) → Type 0
+AddsReplies session replies before held now held_now =
+    (to : ℕ) → 1 ≤ to → to ≤ length before → owed_to now held_now to ≡ owed_to before held to ++ (if session == to then replies else [])
+
+-- a reply is held for one of so many sessions
+abbrev pub IsHeldFor : ℕ → Option (ℕ × PlainReply) → Type 0
+IsHeldFor sessions None = ⊤
+IsHeldFor sessions (Some held) = (1 ≤ held.0) × (held.0 ≤ sessions)
+
+-- a request is worked on, by what the worker keeps and what it replied
+pub record Worked (session : ℕ) (request : Request) (before now : State) (replied replied_now : List (List PlainReply)) : Type 0 where
+  pub cells : now.cells ≡ served request before.cells
+  pub changed : (place : ℕ) → place < length before.changed → slice_index_or now.changed place [] ≡ marked before request place
+  pub mates : length now.changed ≡ length before.changed
+  pub replies : AddsReplies session (reply_to before request) replied before.held replied_now now.held
+  pub held : IsHeldFor (length replied) now.held
+  pub rest : now ≡ record before { cells = now.cells; changed = now.changed; kept = None; held = now.held }
+
+-- and so the message that is kept
+abbrev pub Served : Option Popped → State → State → List (List PlainReply) → List (List PlainReply) → Type 0
+Served None before now replied replied_now = ⊥
+Served (Some (popped.Request session request)) before now replied replied_now = Worked session request before now replied replied_now
+Served (Some (popped.Batch sender batch)) before now replied replied_now =
+    (now ≡ record before { cells = hears batch before.cells; kept = None }) × (replied_now ≡ replied)
+
+-- what it was
+abbrev pub did_of : Option Popped → Did
+did_of None = did.Idle
+did_of (Some (popped.Request session request)) = did.Request
+did_of (Some (popped.Batch sender batch)) = did.Gossip
+
+-- the reply that is held is sent again, or there is none
+abbrev pub Resent : {E : Type 0} → Result Bool E → Option (ℕ × PlainReply) → Option (ℕ × PlainReply) → List (List PlainReply) → List (List PlainReply) → List ℕ → List ℕ → Type 0
+Resent (Ok true) held held_now replied replied_now fulls fulls_now =
+    (session : ℕ) × (reply : PlainReply) × (held ≡ Some (session, reply)) × (held_now ≡ None)
+    × (replied_now ≡ slice_set replied (session - 1) (slice_index_or replied (session - 1) [] ++ reply ∷ []))
+Resent (Ok false) held held_now replied replied_now fulls fulls_now =
+    (held_now ≡ held) × (replied_now ≡ replied)
+    × ((held ≡ None) ⊎ ((session : ℕ) × (reply : PlainReply) × (held ≡ Some (session, reply)) × (session - 1 < length fulls) × Rose (slice_index_or fulls (session - 1) 0) (slice_index_or fulls_now (session - 1) 0)))
+Resent (Err error) held held_now replied replied_now fulls fulls_now = (held_now ≡ held) × (replied_now ≡ replied)
+
+-- the message that is kept is worked on, by the answer
+pub record WorksOn {E : Type 0} (result : Result Did E) (before now : Lists) : Type 0 where
+  pub serves : OnOk result (Served before.state.kept before.state now.state before.replied now.replied)
+  pub did : IfOk result (λ did. did ≡ did_of before.state.kept)
+  pub still : OnErr result (now ≡ before)
+  pub received : now.received ≡ before.received
+  pub got : now.got ≡ before.got
+  pub told : now.told ≡ before.told
+
+-- a batch of gossip is taken out of its box and kept, by the answer
+abbrev pub TakesGossip : {E : Type 0} → Result Bool E → Lists → Lists → Answers → Answers → Type 0 → Type 0
+TakesGossip (Ok true) before now count count_now nothing = KeepsBatch before now × Rose count.somes count_now.somes
+TakesGossip (Ok false) before now count count_now nothing = (now ≡ before) × Rose count.nones count_now.nones × nothing
+TakesGossip (Err error) before now count count_now nothing = now ≡ before
+
+-- and so a request, where no reply is held
+abbrev pub TakesRequest : {E : Type 0} → Result Bool E → Lists → Lists → Answers → Answers → Type 0 → Type 0
+TakesRequest (Ok true) before now count count_now nothing = KeepsRequest before now
+TakesRequest (Ok false) before now count count_now nothing = (now ≡ before) × (IsTrue (is_some before.state.held) ⊎ (Rose count.nones count_now.nones × nothing))
+TakesRequest (Err error) before now count count_now nothing = now ≡ before
+
+-- how many requests there were since the last round, after one that was made or met want of memory
+abbrev pub since_after : {E : Type 0} → ℕ → Result ℕ E → ℕ
+since_after since (Ok sent) = 0
+since_after since (Err error) = since
+
+-- a round, or none
+abbrev pub RoundsIf : {E : Type 0} → Bool → Result ℕ E → Lists → Lists → Counts → Counts → Type 0
+RoundsIf true result before now count count_now = Rounds result before now count count_now
+RoundsIf false result before now count count_now = (result ≡ Ok 0) × (now ≡ before) × (count_now ≡ count)
+
+-- what a turn did that found nothing to do
+abbrev pub rests_as : State → Did
+rests_as state = if ltb 0 (dirty state) || is_some state.held then did.Blocked else did.Idle

@@ -1,0 +1,38 @@
+-- A worker tells its mates, one after the other.
+use Rattle.std.specs.Prelude.{◌≡◌, ◌≢◌, ℕ, ◌*◌, ◌<◌, ◌≤◌, Bool, IsTrue, List, [], filter, length, not, slice_index_or, Option, Result, IfOk, OnOk}
+use Rattle.std.specs.List.{list_any}
+use Rattle.lattice_laws.specs.Counts.{Rose}
+use Rattle.merge_world.specs.declared.private_map.KeyCells.{KeyCells}
+use Rattle.worker_core.specs.State.{Entries}
+use Rattle.worker_core.specs.Turns.{ToldMate, batches}
+
+-- Lists of the same length that may differ at one place.
+pub record DifferAt {A : Type 0} (default : A) (place : ℕ) (before now : List A) : Type 0 where
+  pub same_length : length now ≡ length before
+  pub others : (other : ℕ) → other ≢ place → slice_index_or now other default ≡ slice_index_or before other default
+
+-- A mate was told, by the answer: how many batches went out.
+pub record TellsOne {E : Type 0} (result : Result ℕ E) (cells : List (Option KeyCells)) (taken : ℕ) (keys keys_now : List ℕ) (batches batches_now : List Entries) (back back_now fulls fulls_now : ℕ) : Type 0 where
+  pub tries : List Bool
+  pub mate : ToldMate cells taken tries keys keys_now batches batches_now back back_now
+  pub all : OnOk result (length keys ≤ 16 * length tries)
+  pub sent : IfOk result (λ sent. sent ≡ length (filter (λ went. went) tries))
+  -- a batch came back only where the count of the sender rose
+  pub full : IsTrue (list_any not tries) → Rose fulls fulls_now
+  pub never_falls : fulls ≤ fulls_now
+
+-- The mates were told, by the answer: how many batches went out. Where memory was wanting some were not.
+pub record TellsAll {E : Type 0} (result : Result ℕ E) (cells : List (Option KeyCells)) (taken : ℕ) (changed changed_now : List (List ℕ)) (told told_now : List (List Entries)) (turned turned_now fulls fulls_now : List ℕ) : Type 0 where
+  pub tries : List (List Bool)
+  pub mates : length tries ≤ length told
+  pub same_changed : length changed_now ≡ length changed
+  pub same_told : length told_now ≡ length told
+  pub same_turned : length turned_now ≡ length turned
+  pub each :
+      (place : ℕ) → place < length told
+      → ToldMate cells taken (slice_index_or tries place []) (slice_index_or changed place []) (slice_index_or changed_now place [])
+      (slice_index_or told place []) (slice_index_or told_now place []) (slice_index_or turned place 0) (slice_index_or turned_now place 0)
+  pub all : OnOk result ((place : ℕ) → place < length told → length (slice_index_or changed place []) ≤ 16 * length (slice_index_or tries place []))
+  pub sent : IfOk result (λ sent. sent ≡ batches tries)
+  pub full : (place : ℕ) → place < length told → IsTrue (list_any not (slice_index_or tries place [])) → Rose (slice_index_or fulls place 0) (slice_index_or fulls_now place 0)
+  pub never_fall : (place : ℕ) → place < length told → slice_index_or fulls place 0 ≤ slice_index_or fulls_now place 0

@@ -1,0 +1,17 @@
+//! A worker of the store.
+#![tactic(auto)]
+
+mod boxes;
+mod changeset;
+mod did;
+mod gossip;
+mod local;
+mod popped;
+mod sealed;
+mod serve;
+mod worker;
+
+pub use did::Did;
+pub use popped::Popped;
+pub use sealed::{Sealed, SealedOver};
+pub use worker::{Worker, WorkerOver};

@@ -1,0 +1,520 @@
+//! A worker.
+ghost use Rattle.std.specs.Prelude.{◌≡◌, ◌⊎◌, ℕ, ◌<◌, ◌≤◌, ◌+◌, ◌-◌, ◌^◌, All, Bool, true, false, List, [], is_some, length, map, option_map, replicate, slice_get, None, Some, Ok, IsTrue, IfOk, OnOk, OnErr, MatchResult};
+ghost use Rattle.lattice_laws.specs.Counts.{Rose};
+ghost use Rattle.mail_contract.specs.Standing.{AllPart, IsSettled};
+ghost use Rattle.merge_world.specs.Effects.{cells_at};
+ghost use Rattle.worker_core.specs.Boxes.{FindsNothing, FindsNothingWeak, MayHandOut, MayTake, Settles, Shows, box_of, weak_box_of};
+ghost use Rattle.worker_core.specs.Lag.{Lags};
+ghost use Rattle.worker_core.specs.Sealed.{HoldsSealed, sealed_of};
+ghost use Rattle.worker_core.specs.Serving.{Resent, RoundsIf, TakesGossip, TakesRequest, WorksOn, rests_as};
+ghost use Rattle.worker_core.specs.Share.{Share};
+ghost use Rattle.worker_core.specs.State.{IsFixed, KeysStay, dirty, kept_request, lists_of, opening_state};
+ghost use Rattle.worker_core.specs.Turns.{MayAsk, OnNothing, Rounds, Turns, TurnsOnlyWhereFull, counts_of};
+
+use crate::boxes::{meet, settle_one, take_one, take_weak};
+use crate::changeset::Changeset;
+use crate::gossip::gossip;
+use crate::local::Local;
+use crate::sealed::batch_of;
+use crate::serve::{
+    attest_entries, attest_request, count_again, count_request, keep, resend, serve,
+};
+use crate::{Did, Popped, SealedOver};
+use composed_value::{Cell, Kind};
+use lattice_laws::{Items, NoMemory};
+use mail_contract::{GossipRx, Rx, Tx};
+use merge_world::PrivateMap;
+use placement::Placement;
+use std::marker::Model;
+use store_msg::{Batch, Mail, Meets, Reply, Request, WorkerEndsOver};
+
+/// A worker over the ends that it holds.
+#[derive(Drop)]
+pub struct WorkerOver<Q: Rx<Request>, T: Tx<Reply>, O: Tx<Batch>, G: GossipRx<Batch, From = O>> {
+    pub(crate) local: Local,
+    pub(crate) ends: WorkerEndsOver<Q, T, O, G>,
+}
+
+/// A worker over one kind of mail.
+pub type Worker<P> = WorkerOver<
+    <P as Mail>::ReqRx,
+    <P as Mail>::RepTx,
+    <P as Mail>::GosTx,
+    <P as Mail>::GosRx,
+>;
+
+impl<Q: Rx<Request>, T: Tx<Reply>, O: Tx<Batch>, G: GossipRx<Batch, From = O>> Model
+    for WorkerOver<Q, T, O, G> {
+    ghost use Rattle.worker_core.specs.Kept.{IsLawful};
+    ghost use Rattle.worker_core.specs.Local.{state_of};
+    ghost use Rattle.worker_core.specs.State.{PlainWorker, lists_of};
+
+    ghost Value = { PlainWorker Q T O G };
+
+    ghost view = { λ worker. record { state = state_of worker.local; ends = worker.ends } };
+
+    ghost invariant = { λ worker. IsLawful
+        (lists_of Q.received T.sent O.sent G.got (record { state = state_of worker.local; ends = worker.ends }))
+        worker.local.taken worker.local.changes.most };
+}
+
+impl<Q: Rx<Request>, T: Tx<Reply>, O: Tx<Batch>, G: GossipRx<Batch, From = O>> WorkerOver<
+    Q,
+    T,
+    O,
+    G,
+> {
+    /// A worker that holds its keys with empty cells, with nothing received and nothing told. It makes a round
+    /// of gossip after `round` requests, 1 to 64. Each key has a kind. The ends are unused; there is one
+    /// sender of gossip for each other worker, and `me` is one of the workers' numbers, from 1.
+    pub fn new(
+        me: u16,
+        round: u32,
+        placement: Placement,
+        kinds: Items<Kind>,
+        ends: WorkerEndsOver<Q, T, O, G>,
+    ) -> Result<WorkerOver<Q, T, O, G>, NoMemory>
+        requires me { (1 ≤ me) × (me ≤ length ends.gossip_out.items + 1) }
+        requires mates { length ends.gossip_out.items + 1 < 2 ^ 16 }
+        requires round { (1 ≤ round) × (round ≤ 64) }
+        requires kinds { length kinds ≡ length placement }
+        requires received { Q.received ends.requests ≡ [] }
+        requires got { (sender place : ℕ) → G.got ends.gossip_in sender place ≡ None }
+        requires replied { All (λ sender. T.sent sender ≡ []) ends.replies.items }
+        requires told { All (λ sender. O.sent sender ≡ []) ends.gossip_out.items }
+        ensures worker { IfOk result (λ worker. worker ≡ record {
+          state = opening_state me round placement kinds (length ends.gossip_out.items);
+          ends = ends;
+        }) }
+        ensures share { IfOk result (λ worker.
+            Share (lists_of Q.received T.sent O.sent G.got worker)) }
+    {
+        let alloc = *ends.gossip_out.allocator();
+        let mates = ends.gossip_out.len();
+        let map = PrivateMap::new(alloc, me, &placement, kinds.as_slice())?;
+        let changes = Changeset::new(alloc, placement.keys(), mates)?;
+        let turned = vec![in alloc; 0; mates]?;
+        let local = Local {
+            me,
+            round,
+            placement,
+            kinds,
+            map,
+            changes,
+            turned,
+            since: 0,
+            taken: 0,
+            kept: None,
+            held: None,
+        };
+        let worker = WorkerOver { local, ends };
+        worker.attest();
+        Ok(worker)
+    }
+
+    /// Does the first thing that is to do.
+    pub fn turn(&mut self) -> Result<Did, NoMemory>
+        ensures share { Share (lists_of Q.received T.sent O.sent G.got self.new) }
+        ensures lags { Lags (lists_of Q.received T.sent O.sent G.got self.new) }
+        ensures fixed { IsFixed self.old.state self.new.state }
+        ensures keys { KeysStay Q.key T.key T.number O.key O.number G.key self.old self.new }
+        ensures did { Turns result
+            (lists_of Q.received T.sent O.sent G.got self.old)
+            (lists_of Q.received T.sent O.sent G.got self.new)
+            (counts_of Q.answers T.fulls O.fulls G.answers self.old)
+            (counts_of Q.answers T.fulls O.fulls G.answers self.new) }
+        ensures turned { TurnsOnlyWhereFull
+            (lists_of Q.received T.sent O.sent G.got self.old)
+            (lists_of Q.received T.sent O.sent G.got self.new)
+            (counts_of Q.answers T.fulls O.fulls G.answers self.old)
+            (counts_of Q.answers T.fulls O.fulls G.answers self.new) }
+        ensures requests { MayTake Q.keeps (Q.senders (Q.key self.old.ends.requests))
+            (box_of Q.received Q.answers Q.about self.old.ends.requests)
+            (box_of Q.received Q.answers Q.about self.new.ends.requests) }
+        ensures gossip { MayHandOut G.keeps (G.senders (G.key self.old.ends.gossip_in))
+            (weak_box_of G.got G.answers G.about G.due G.most self.old.ends.gossip_in)
+            (weak_box_of G.got G.answers G.about G.due G.most self.new.ends.gossip_in) }
+        ensures no_request { OnNothing result (IsTrue (is_some self.new.state.held)
+            ⊎ FindsNothing Q.keeps (box_of Q.received Q.answers Q.about self.new.ends.requests)) }
+        ensures no_gossip { OnNothing result (FindsNothingWeak G.keeps
+            (weak_box_of G.got G.answers G.about G.due G.most self.new.ends.gossip_in)) }
+    {
+        let did = self.step();
+        self.attest();
+        did
+    }
+
+    /// What the worker keeps from call to call. It does nothing.
+    pub(crate) fn attest(&self)
+        ensures share { Share (lists_of Q.received T.sent O.sent G.got self.now) }
+        ensures lags { Lags (lists_of Q.received T.sent O.sent G.got self.now) }
+    {
+        let _ = &self.local;
+    }
+
+    fn step(&mut self) -> Result<Did, NoMemory>
+        ensures fixed { IsFixed self.old.state self.new.state }
+        ensures keys { KeysStay Q.key T.key T.number O.key O.number G.key self.old self.new }
+        ensures did { Turns result
+            (lists_of Q.received T.sent O.sent G.got self.old)
+            (lists_of Q.received T.sent O.sent G.got self.new)
+            (counts_of Q.answers T.fulls O.fulls G.answers self.old)
+            (counts_of Q.answers T.fulls O.fulls G.answers self.new) }
+        ensures turned { TurnsOnlyWhereFull
+            (lists_of Q.received T.sent O.sent G.got self.old)
+            (lists_of Q.received T.sent O.sent G.got self.new)
+            (counts_of Q.answers T.fulls O.fulls G.answers self.old)
+            (counts_of Q.answers T.fulls O.fulls G.answers self.new) }
+        ensures requests { MayTake Q.keeps (Q.senders (Q.key self.old.ends.requests))
+            (box_of Q.received Q.answers Q.about self.old.ends.requests)
+            (box_of Q.received Q.answers Q.about self.new.ends.requests) }
+        ensures gossip { MayHandOut G.keeps (G.senders (G.key self.old.ends.gossip_in))
+            (weak_box_of G.got G.answers G.about G.due G.most self.old.ends.gossip_in)
+            (weak_box_of G.got G.answers G.about G.due G.most self.new.ends.gossip_in) }
+        ensures no_request { OnNothing result (IsTrue (is_some self.new.state.held)
+            ⊎ FindsNothing Q.keeps (box_of Q.received Q.answers Q.about self.new.ends.requests)) }
+        ensures no_gossip { OnNothing result (FindsNothingWeak G.keeps
+            (weak_box_of G.got G.answers G.about G.due G.most self.new.ends.gossip_in)) }
+    {
+        if self.has_kept() {
+            return self.work();
+        }
+        if self.resend()? {
+            return Ok(Did::Request);
+        }
+        let due = self.is_due();
+        if self.tell_if(due)? > 0 {
+            return Ok(Did::Round);
+        }
+        if self.take_gossip()? {
+            return self.work();
+        }
+        if self.take_request()? {
+            return self.work();
+        }
+        let left = self.is_left(due);
+        if self.tell_if(left)? > 0 {
+            return Ok(Did::Round);
+        }
+        Ok(self.rests())
+    }
+
+    /// Whether a message is kept.
+    fn has_kept(&self) -> bool
+        ensures kept { result ≡ is_some self.now.state.kept }
+        ensures mates { length self.now.state.changed ≡ length self.now.ends.gossip_out.items }
+    {
+        self.local.kept.is_some()
+    }
+
+    /// Whether a round is to be made before the next request is taken.
+    fn is_due(&self) -> bool
+        ensures due { IsTrue result → 1 ≤ dirty self.now.state }
+        ensures not_due { result ≡ false → MayAsk self.now.state }
+    {
+        self.local.since >= self.local.round && self.local.changes.len() > 0
+    }
+
+    /// Whether a round is to be made since nothing else was to do, and none was tried.
+    fn is_left(&self, tried: bool) -> bool
+        ensures left { IsTrue result → (tried ≡ false) × (1 ≤ dirty self.now.state) }
+        ensures none { result ≡ false → tried ≡ false → dirty self.now.state ≡ 0 }
+    {
+        !tried && self.local.changes.len() > 0
+    }
+
+    /// What a turn did that found nothing to do.
+    fn rests(&self) -> Did
+        ensures { result ≡ rests_as self.now.state }
+    {
+        if self.local.changes.len() > 0 || self.local.held.is_some() {
+            Did::Blocked
+        } else {
+            Did::Idle
+        }
+    }
+
+    /// Works on the message that is kept. After `NoMemory` all is as before.
+    fn work(&mut self) -> Result<Did, NoMemory>
+        requires { IsTrue (is_some self.old.state.kept) }
+        ensures fixed { IsFixed self.old.state self.new.state }
+        ensures keys { KeysStay Q.key T.key T.number O.key O.number G.key self.old self.new }
+        ensures requests { self.new.ends.requests ≡ self.old.ends.requests }
+        ensures gossip_in { self.new.ends.gossip_in ≡ self.old.ends.gossip_in }
+        ensures gossip_out { self.new.ends.gossip_out ≡ self.old.ends.gossip_out }
+        ensures works { WorksOn result
+            (lists_of Q.received T.sent O.sent G.got self.old)
+            (lists_of Q.received T.sent O.sent G.got self.new) }
+        ensures turned { self.new.state.turned ≡ self.old.state.turned }
+    {
+        serve(&mut self.local, &mut self.ends.replies)
+    }
+
+    /// Sends the reply that is held again, and tells whether it went out.
+    fn resend(&mut self) -> Result<bool, NoMemory>
+        ensures keys { KeysStay Q.key T.key T.number O.key O.number G.key self.old self.new }
+        ensures requests { self.new.ends.requests ≡ self.old.ends.requests }
+        ensures gossip_in { self.new.ends.gossip_in ≡ self.old.ends.gossip_in }
+        ensures gossip_out { self.new.ends.gossip_out ≡ self.old.ends.gossip_out }
+        ensures state { self.new.state ≡ record self.old.state { held = self.new.state.held } }
+        ensures resent { Resent result self.old.state.held self.new.state.held
+            (map T.sent self.old.ends.replies.items) (map T.sent self.new.ends.replies.items)
+            (map T.fulls self.old.ends.replies.items) (map T.fulls self.new.ends.replies.items) }
+    {
+        resend(&mut self.local.held, &mut self.ends.replies)
+    }
+
+    /// Takes a batch of gossip out of its box, which is kept then, and tells whether there was one.
+    fn take_gossip(&mut self) -> Result<bool, NoMemory>
+        requires { self.old.state.kept ≡ None }
+        ensures keys { KeysStay Q.key T.key T.number O.key O.number G.key self.old self.new }
+        ensures requests { self.new.ends.requests ≡ self.old.ends.requests }
+        ensures replies { self.new.ends.replies ≡ self.old.ends.replies }
+        ensures gossip_out { self.new.ends.gossip_out ≡ self.old.ends.gossip_out }
+        ensures hands_out { MayHandOut G.keeps (G.senders (G.key self.old.ends.gossip_in))
+            (weak_box_of G.got G.answers G.about G.due G.most self.old.ends.gossip_in)
+            (weak_box_of G.got G.answers G.about G.due G.most self.new.ends.gossip_in) }
+        ensures kept { TakesGossip result
+            (lists_of Q.received T.sent O.sent G.got self.old)
+            (lists_of Q.received T.sent O.sent G.got self.new)
+            (G.answers self.old.ends.gossip_in) (G.answers self.new.ends.gossip_in)
+            (FindsNothingWeak G.keeps
+            (weak_box_of G.got G.answers G.about G.due G.most self.new.ends.gossip_in)) }
+    {
+        match take_weak(&mut self.ends.gossip_in)? {
+            Some((sender, batch)) => {
+                attest_entries(batch.as_slice());
+                keep(&mut self.local.kept, Popped::Batch(sender, batch));
+                Ok(true)
+            }
+            None => Ok(false),
+        }
+    }
+
+    /// Takes a request out of its box where no reply is held; it is kept then. Tells whether there was one.
+    fn take_request(&mut self) -> Result<bool, NoMemory>
+        requires kept { self.old.state.kept ≡ None }
+        requires asks { MayAsk self.old.state }
+        ensures keys { KeysStay Q.key T.key T.number O.key O.number G.key self.old self.new }
+        ensures gossip_in { self.new.ends.gossip_in ≡ self.old.ends.gossip_in }
+        ensures replies { self.new.ends.replies ≡ self.old.ends.replies }
+        ensures gossip_out { self.new.ends.gossip_out ≡ self.old.ends.gossip_out }
+        ensures takes { MayTake Q.keeps (Q.senders (Q.key self.old.ends.requests))
+            (box_of Q.received Q.answers Q.about self.old.ends.requests)
+            (box_of Q.received Q.answers Q.about self.new.ends.requests) }
+        ensures kept { TakesRequest result
+            (lists_of Q.received T.sent O.sent G.got self.old)
+            (lists_of Q.received T.sent O.sent G.got self.new)
+            (Q.answers self.old.ends.requests) (Q.answers self.new.ends.requests)
+            (FindsNothing Q.keeps
+            (box_of Q.received Q.answers Q.about self.new.ends.requests)) }
+    {
+        if self.local.held.is_some() {
+            return Ok(false);
+        }
+        match take_one(&mut self.ends.requests)? {
+            Some((session, request)) => {
+                attest_request(&request);
+                keep(&mut self.local.kept, Popped::Request(session, request));
+                count_request(&mut self.local);
+                Ok(true)
+            }
+            None => Ok(false),
+        }
+    }
+
+    /// Makes a round of gossip.
+    pub fn round(&mut self) -> Result<u32, NoMemory>
+        ensures share { Share (lists_of Q.received T.sent O.sent G.got self.new) }
+        ensures lags { Lags (lists_of Q.received T.sent O.sent G.got self.new) }
+        ensures fixed { IsFixed self.old.state self.new.state }
+        ensures keys { KeysStay Q.key T.key T.number O.key O.number G.key self.old self.new }
+        ensures requests { self.new.ends.requests ≡ self.old.ends.requests }
+        ensures replies { self.new.ends.replies ≡ self.old.ends.replies }
+        ensures gossip_in { self.new.ends.gossip_in ≡ self.old.ends.gossip_in }
+        ensures rounds { Rounds result
+            (lists_of Q.received T.sent O.sent G.got self.old)
+            (lists_of Q.received T.sent O.sent G.got self.new)
+            (counts_of Q.answers T.fulls O.fulls G.answers self.old)
+            (counts_of Q.answers T.fulls O.fulls G.answers self.new) }
+    {
+        let sent = self.tell();
+        self.attest();
+        sent
+    }
+
+    /// Makes a round of gossip, or none, and gives the number of batches that went out.
+    fn tell_if(&mut self, made: bool) -> Result<u32, NoMemory>
+        ensures fixed { IsFixed self.old.state self.new.state }
+        ensures keys { KeysStay Q.key T.key T.number O.key O.number G.key self.old self.new }
+        ensures requests { self.new.ends.requests ≡ self.old.ends.requests }
+        ensures replies { self.new.ends.replies ≡ self.old.ends.replies }
+        ensures gossip_in { self.new.ends.gossip_in ≡ self.old.ends.gossip_in }
+        ensures asks { OnOk result (IsTrue made → MayAsk self.new.state) }
+        ensures mates { length self.new.state.changed ≡ length self.new.ends.gossip_out.items }
+        ensures rounds { RoundsIf made result
+            (lists_of Q.received T.sent O.sent G.got self.old)
+            (lists_of Q.received T.sent O.sent G.got self.new)
+            (counts_of Q.answers T.fulls O.fulls G.answers self.old)
+            (counts_of Q.answers T.fulls O.fulls G.answers self.new) }
+    {
+        let _ = &self.local;
+        if made { self.tell() } else { Ok(0) }
+    }
+
+    /// Tells each mate what changed.
+    fn tell(&mut self) -> Result<u32, NoMemory>
+        ensures fixed { IsFixed self.old.state self.new.state }
+        ensures keys { KeysStay Q.key T.key T.number O.key O.number G.key self.old self.new }
+        ensures requests { self.new.ends.requests ≡ self.old.ends.requests }
+        ensures replies { self.new.ends.replies ≡ self.old.ends.replies }
+        ensures gossip_in { self.new.ends.gossip_in ≡ self.old.ends.gossip_in }
+        ensures asks { OnOk result (MayAsk self.new.state) }
+        ensures mates { length self.new.state.changed ≡ length self.new.ends.gossip_out.items }
+        ensures rounds { Rounds result
+            (lists_of Q.received T.sent O.sent G.got self.old)
+            (lists_of Q.received T.sent O.sent G.got self.new)
+            (counts_of Q.answers T.fulls O.fulls G.answers self.old)
+            (counts_of Q.answers T.fulls O.fulls G.answers self.new) }
+    {
+        let alloc = *self.local.turned.allocator();
+        let told = gossip(
+            alloc,
+            &self.local.map,
+            &mut self.local.changes,
+            self.local.taken,
+            &mut self.local.turned,
+            &mut self.ends.gossip_out,
+        );
+        count_again(&mut self.local.since, &told);
+        told
+    }
+
+    /// The join of the puts on a key that the worker took itself and of all that it heard of it, and nothing
+    /// where it does not hold the key. Takes no memory.
+    pub fn cell(&self, key: u16) -> Option<&Cell>
+        ensures { option_map (λ cell. cell.now) result
+            ≡ option_map (λ cells. cells.whole) (cells_at self.now.state.cells key) }
+    {
+        self.local.map.whole(key)
+    }
+
+    /// The number of pairs of a key and a mate in the changeset. Takes no memory.
+    pub fn dirty(&self) -> usize
+        ensures { result ≡ dirty self.now.state }
+    {
+        self.local.changes.len()
+    }
+
+    /// Takes in a session's sender that has ended. Takes no memory.
+    pub fn settle(&mut self, ended: Q::From)
+        requires pair { Q.pairs (Q.key self.old.ends.requests)
+            (Q.From.key ended) (Q.From.number ended) }
+        requires once { IsSettled (Q.about self.old.ends.requests (Q.From.number ended)).standing → ⊥ }
+        ensures share { Share (lists_of Q.received T.sent O.sent G.got self.new) }
+        ensures lags { Lags (lists_of Q.received T.sent O.sent G.got self.new) }
+        ensures key { Q.key self.new.ends.requests ≡ Q.key self.old.ends.requests }
+        ensures settles { Settles Q.keeps (Q.From.number ended) (Q.From.sent ended)
+            (box_of Q.received Q.answers Q.about self.old.ends.requests)
+            (box_of Q.received Q.answers Q.about self.new.ends.requests) }
+        ensures rest { self.new ≡ record self.old {
+          ends = record self.old.ends { requests = self.new.ends.requests };
+        } }
+    {
+        settle_one(&mut self.ends.requests, ended);
+        self.attest();
+    }
+
+    /// Holds a session beside the worker, by its number, from 1: the box of requests beside the session's
+    /// sender, and the sender of replies beside the session's box. The ends are of one making. Takes no
+    /// memory.
+    pub fn beside_session<S: Meets<Q, T>>(&mut self, session: u16, side: &mut S)
+        requires session { (1 ≤ session) × (session ≤ length self.old.ends.replies.items) }
+        requires pairs { (sender : T)
+            → slice_get self.old.ends.replies.items (session - 1) ≡ Some sender
+            → S.pairs (S.key side.old) self.old.state.me (Q.key self.old.ends.requests)
+            (S.number side.old self.old.state.me) (T.key sender) (T.number sender) }
+        ensures share { Share (lists_of Q.received T.sent O.sent G.got self.new) }
+        ensures lags { Lags (lists_of Q.received T.sent O.sent G.got self.new) }
+        ensures state { self.new.state ≡ self.old.state }
+        ensures gossip_in { self.new.ends.gossip_in ≡ self.old.ends.gossip_in }
+        ensures gossip_out { self.new.ends.gossip_out ≡ self.old.ends.gossip_out }
+        ensures requests_key { Q.key self.new.ends.requests ≡ Q.key self.old.ends.requests }
+        ensures requests { Shows Q.keeps
+            (S.number side.old self.old.state.me) (S.asked side.old self.old.state.me)
+            (box_of Q.received Q.answers Q.about self.old.ends.requests)
+            (box_of Q.received Q.answers Q.about self.new.ends.requests) }
+        ensures replies_keys { map T.key self.new.ends.replies.items
+            ≡ map T.key self.old.ends.replies.items }
+        ensures replies_numbers { map T.number self.new.ends.replies.items
+            ≡ map T.number self.old.ends.replies.items }
+        ensures replies_sent { map T.sent self.new.ends.replies.items
+            ≡ map T.sent self.old.ends.replies.items }
+        ensures replies_fulls { map T.fulls self.new.ends.replies.items
+            ≡ map T.fulls self.old.ends.replies.items }
+        ensures key { S.key side.new ≡ S.key side.old }
+        ensures number { S.number side.new ≡ S.number side.old }
+        ensures asked { S.asked side.new ≡ S.asked side.old }
+        ensures heard { S.heard side.new ≡ S.heard side.old }
+    {
+        let me = self.local.me;
+        meet(
+            side,
+            me,
+            &mut self.ends.requests,
+            &mut self.ends.replies,
+            session,
+        );
+        self.attest();
+    }
+
+    /// Nobody is beside the worker's boxes any longer. Takes no memory.
+    pub fn apart(&mut self)
+        ensures share { Share (lists_of Q.received T.sent O.sent G.got self.new) }
+        ensures lags { Lags (lists_of Q.received T.sent O.sent G.got self.new) }
+        ensures state { self.new.state ≡ self.old.state }
+        ensures replies { self.new.ends.replies ≡ self.old.ends.replies }
+        ensures gossip_out { self.new.ends.gossip_out ≡ self.old.ends.gossip_out }
+        ensures requests_key { Q.key self.new.ends.requests ≡ Q.key self.old.ends.requests }
+        ensures requests_received { Q.received self.new.ends.requests
+            ≡ Q.received self.old.ends.requests }
+        ensures requests_answers { Q.answers self.new.ends.requests
+            ≡ Q.answers self.old.ends.requests }
+        ensures requests_about { AllPart (Q.about self.old.ends.requests)
+            (Q.about self.new.ends.requests) }
+        ensures gossip_key { G.key self.new.ends.gossip_in ≡ G.key self.old.ends.gossip_in }
+        ensures gossip_got { G.got self.new.ends.gossip_in ≡ G.got self.old.ends.gossip_in }
+        ensures gossip_answers { G.answers self.new.ends.gossip_in
+            ≡ G.answers self.old.ends.gossip_in }
+        ensures gossip_about { AllPart (G.about self.old.ends.gossip_in)
+            (G.about self.new.ends.gossip_in) }
+    {
+        self.ends.requests.apart();
+        self.ends.gossip_in.apart();
+        self.attest();
+    }
+
+    /// The worker, sealed, with its senders of replies and of gossip: it is asked nothing more, and tells
+    /// nothing. Nothing is left to tell or to send, and no request is kept. Takes no memory.
+    pub fn seal(self) -> (SealedOver<Q, G>, Vec<T>, Vec<O>)
+        requires clean { dirty self.state ≡ 0 }
+        requires none_held { self.state.held ≡ None }
+        requires none_kept { kept_request self.state.kept ≡ [] }
+        ensures sealed { result.0 ≡ sealed_of self }
+        ensures holds { HoldsSealed Q.received G.got result.0 }
+        ensures replies { result.1 ≡ self.ends.replies }
+        ensures gossip_out { result.2 ≡ self.ends.gossip_out }
+    {
+        let WorkerOver { local, ends } = self;
+        let sealed = SealedOver {
+            me: local.me,
+            kinds: local.kinds,
+            map: local.map,
+            kept: batch_of(local.kept),
+            requests: ends.requests,
+            gossip_in: ends.gossip_in,
+        };
+        sealed.attest();
+        (sealed, ends.replies, ends.gossip_out)
+    }
+}
