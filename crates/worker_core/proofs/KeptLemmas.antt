@@ -1,5 +1,5 @@
 -- What a worker keeps from call to call stays kept in each of its steps, and holds before the first.
-use Rattle.std.specs.Prelude.{◌≡◌, ◌⊎◌, ℕ, zero, suc, ◌+◌, ◌-◌, ◌<◌, ◌≤◌, ◌^◌, true, false, IsTrue, List, [], ◌∷◌, ◌++◌, All, AllPairs, Contains, is_some, length, replicate, slice_index_or, slice_set, Option, Some, None, Result, Ok}
+use Rattle.std.specs.Prelude.{◌≡◌, ◌⊎◌, ℕ, zero, suc, ◌+◌, ◌-◌, ◌<◌, ◌≤◌, ◌^◌, Bool, IsTrue, List, [], ◌∷◌, ◌++◌, All, AllPairs, Contains, is_some, length, replicate, slice_index_or, slice_set, Option, Some, None, Result, Ok}
 use Rattle.std.specs.List.{AllZip}
 use Rattle.std.proofs.Common.{refl, sym, ap, subst, ◌∙◌, inl, inr, append-nil, arith}
 use Rattle.std.proofs.lemmas.Bool.{cases_eq, cases_lt, false≢true}
@@ -12,7 +12,7 @@ use Rattle.lattice_laws.proofs.MembersLemmas.{contains_none}
 use Rattle.composed_value.specs.Cell.{IsCell, PlainCell}
 use Rattle.composed_value.specs.Keyed.{kind_at}
 use Rattle.composed_value.specs.declared.kind.Kind.{Kind}
-use Rattle.merge_world.specs.Effects.{cells_at, hears, opening_map}
+use Rattle.merge_world.specs.Effects.{cells_at, hears}
 use Rattle.merge_world.specs.World.{is_ascending}
 use Rattle.merge_world.specs.declared.private_map.KeyCells.{KeyCells}
 use Rattle.mail_contract.specs.Got.{Added}
@@ -453,8 +453,9 @@ module _ (before : Lists) (keeps : IsKept before) where
 
 -- Mates are told, each or some of them.
 module _ {E : Type 0} (result : Result ℕ E) (before : Lists) (changed : List (List ℕ)) (told : List (List Entries)) (turned fulls fulls_now : List ℕ)
+    {room : ℕ → List Bool → Type 0}
     (tells : TellsAll result before.state.cells (counted (length before.received)) before.state.changed changed before.told told before.state.turned
-    turned fulls fulls_now) where
+    turned fulls fulls_now room) where
   -- what they are told is gossip
   abbrev pub gossips_of : (since : ℕ)
       → Gossips before (record before { state = record before.state { changed = changed; turned = turned; since = since }; told = told })
@@ -511,8 +512,9 @@ module _ {E : Type 0} (result : Result ℕ E) (before : Lists) (changed : List (
 
 -- A round is made, in which each changed key is tried.
 pub keeps_round : {E : Type 0} (sent : ℕ) (before : Lists) (changed : List (List ℕ)) (told : List (List Entries)) (turned fulls fulls_now : List ℕ)
+    {room : ℕ → List Bool → Type 0}
     (tells : TellsAll {E = E} (Ok sent) before.state.cells (counted (length before.received)) before.state.changed changed before.told told
-    before.state.turned turned fulls fulls_now)
+    before.state.turned turned fulls fulls_now room)
     → IsKept before → IsKept (record before { state = record before.state { changed = changed; turned = turned; since = 0 }; told = told })
 keeps_round {E} sent before changed told turned fulls fulls_now tells keeps =
     let now : Lists = record before { state = record before.state { changed = changed; turned = turned; since = 0 }; told = told } in

@@ -1,9 +1,8 @@
 -- What a worker keeps from call to call, after each step.
-use Rattle.std.proofs.Common.{◌≡◌, ℕ, ◌+◌, ◌-◌, ◌<◌, ◌≤◌, ◌^◌, Bool, true, false, List, [], ◌∷◌, ◌++◌, All, is_some, length, map, min, replicate, sym, subst, ◌∙◌, ap, refl, arith, ◌⊎◌, inl, inr, Option, Some, None, Result, Ok, Err, OnOk, OnErr}
+use Rattle.std.proofs.Common.{◌≡◌, ℕ, ◌+◌, Bool, true, false, List, [], ◌∷◌, ◌++◌, is_some, length, map, min, sym, subst, ◌∙◌, ap, refl, arith, ◌⊎◌, inl, inr, Option, Some, None, Result, Ok, Err, OnOk, OnErr}
 use Rattle.std.proofs.lemmas.Bool.{cases_lt, true≢false}
 use Rattle.std.proofs.lemmas.List.{length-append, length-map}
 use Rattle.lattice_laws.specs.Counts.{one_more}
-use Rattle.composed_value.specs.declared.kind.Kind.{Kind}
 use Rattle.mail_contract.specs.Got.{Added}
 use Rattle.store_msg.specs.Reply.{PlainReply}
 use Rattle.store_msg.specs.declared.request.Request.{Request}
@@ -81,15 +80,15 @@ module _ (before : Lists) (taken most : ℕ) (lawful : IsLawful before taken mos
   served_lawful (Err error) state replied long serves still = still_lawful _ (λ j. record before { state = still.0 j; replied = still.1 j })
 
   -- each mate was told, or some of them where memory was wanting: the tries of each, by how many requests were taken
-  told_counted : {E : Type 0} (result : Result ℕ E) (changed : List (List ℕ)) (told : List (List Entries)) (turned fulls fulls_now : List ℕ)
-      → TellsAll result before.state.cells taken before.state.changed changed before.told told before.state.turned turned fulls fulls_now
-      → TellsAll result before.state.cells (counted (length before.received)) before.state.changed changed before.told told before.state.turned turned fulls fulls_now
-  told_counted result changed told turned fulls fulls_now tells =
-      subst (λ taken. TellsAll result before.state.cells taken before.state.changed changed before.told told before.state.turned turned fulls fulls_now) lawful.taken_is tells
+  told_counted : {E : Type 0} (result : Result ℕ E) (changed : List (List ℕ)) (told : List (List Entries)) (turned fulls fulls_now : List ℕ) {room : ℕ → List Bool → Type 0}
+      → TellsAll result before.state.cells taken before.state.changed changed before.told told before.state.turned turned fulls fulls_now room
+      → TellsAll result before.state.cells (counted (length before.received)) before.state.changed changed before.told told before.state.turned turned fulls fulls_now room
+  told_counted result changed told turned fulls fulls_now {room} tells =
+      subst (λ taken. TellsAll result before.state.cells taken before.state.changed changed before.told told before.state.turned turned fulls fulls_now room) lawful.taken_is tells
 
   -- and what it keeps then
-  pub round_lawful : {E : Type 0} (result : Result ℕ E) (changed : List (List ℕ)) (told : List (List Entries)) (turned fulls fulls_now : List ℕ)
-      → TellsAll result before.state.cells taken before.state.changed changed before.told told before.state.turned turned fulls fulls_now
+  pub round_lawful : {E : Type 0} (result : Result ℕ E) (changed : List (List ℕ)) (told : List (List Entries)) (turned fulls fulls_now : List ℕ) {room : ℕ → List Bool → Type 0}
+      → TellsAll result before.state.cells taken before.state.changed changed before.told told before.state.turned turned fulls fulls_now room
       → IsLawful (record before { state = record before.state { changed = changed; turned = turned; since = since_after before.state.since result }; told = told }) taken most
   round_lawful (Ok sent) changed told turned fulls fulls_now tells = record {
     keeps = keeps_round sent before changed told turned fulls fulls_now (told_counted (Ok sent) changed told turned fulls fulls_now tells) lawful.keeps;
@@ -103,16 +102,16 @@ module _ (before : Lists) (taken most : ℕ) (lawful : IsLawful before taken mos
   }
 
   -- what a round answers
-  pub rounds : {E : Type 0} (result : Result ℕ E) (changed : List (List ℕ)) (told : List (List Entries)) (turned : List ℕ) (count count_now : Counts)
-      → TellsAll result before.state.cells taken before.state.changed changed before.told told before.state.turned turned count.gossip_fulls count_now.gossip_fulls
-      → Rounds result before (record before { state = record before.state { changed = changed; turned = turned; since = since_after before.state.since result }; told = told }) count count_now
+  pub rounds : {E : Type 0} (result : Result ℕ E) (changed : List (List ℕ)) (told : List (List Entries)) (turned : List ℕ) (count count_now : Counts) {room : ℕ → List Bool → Type 0}
+      → TellsAll result before.state.cells taken before.state.changed changed before.told told before.state.turned turned count.gossip_fulls count_now.gossip_fulls room
+      → Rounds result before (record before { state = record before.state { changed = changed; turned = turned; since = since_after before.state.since result }; told = told }) count count_now room
   rounds (Ok sent) changed told turned count count_now tells =
       let fulls = count.gossip_fulls in
       let fulls_now = count_now.gossip_fulls in
       let by_count = told_counted (Ok sent) changed told turned fulls fulls_now tells in
-      (gossips_of (Ok sent) before changed told turned fulls fulls_now by_count 0, by_count.full, by_count.all, by_count.sent, refl)
+      (gossips_of (Ok sent) before changed told turned fulls fulls_now by_count 0, by_count.full, by_count.have_room, by_count.all, by_count.sent, refl)
   rounds (Err error) changed told turned count count_now tells =
       let fulls = count.gossip_fulls in
       let fulls_now = count_now.gossip_fulls in
       let by_count = told_counted (Err error) changed told turned fulls fulls_now tells in
-      (gossips_of (Err error) before changed told turned fulls fulls_now by_count before.state.since, by_count.full, refl)
+      (gossips_of (Err error) before changed told turned fulls fulls_now by_count before.state.since, by_count.full, by_count.have_room, refl)

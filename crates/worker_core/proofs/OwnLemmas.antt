@@ -1,5 +1,5 @@
 -- The cell of the puts among requests, on a key and of its kind; and what is joined of cells of one kind.
-use Rattle.std.specs.Prelude.{◌≡◌, ◌==◌, ℕ, ◌≤◌, Bool, true, cond, if◌then◌else◌, leb, IsTrue, List, [], ◌∷◌, ◌++◌, All, Contains, filter, map}
+use Rattle.std.specs.Prelude.{◌≡◌, ◌==◌, ℕ, ◌≤◌, Bool, true, if◌then◌else◌, leb, IsTrue, List, [], ◌∷◌, ◌++◌, All, Contains, filter, map}
 use Rattle.std.proofs.Common.{refl, sym, ap, subst, ◌∙◌, inl, inr, append-nil}
 use Rattle.std.proofs.lemmas.Bool.{cond_both, eq-eqb, le-leb, leb-true}
 use Rattle.std.proofs.lemmas.List.{map-append}
@@ -22,7 +22,7 @@ use Rattle.composed_value.specs.declared.kind.Kind.{Kind}
 use Rattle.composed_value.specs.declared.kind.Kind.TheVariants.{Max, Or, Set, Map, Last, Versions}
 use Rattle.composed_value.specs.declared.put.Put.{Put}
 use Rattle.composed_value.proofs.CellOfLemmas.{cell_of_is_cell, one_put_is_cell}
-use Rattle.composed_value.proofs.KeyedLemmas.{on_its_key, puts_on-append}
+use Rattle.composed_value.proofs.KeyedLemmas.{puts_on-append}
 use Rattle.composed_value.proofs.PlainValueLemmas.{value_has_kind}
 use Rattle.composed_value.proofs.ValidValueLemmas.{put_has_kind}
 use Rattle.merge_world.specs.Effects.{is_kind}

@@ -1,9 +1,11 @@
 -- One of several senders sends.
-use Rattle.std.proofs.Common.{◌≡◌, ◌≢◌, ℕ, ◌<◌, ◌≤◌, List, [], ◌∷◌, ◌++◌, map, length, get_or, set, sym, subst, ◌∙◌, ap, refl, Result, Ok, Err}
+use Rattle.std.proofs.Common.{◌≡◌, ◌≢◌, ℕ, zero, suc, ◌+◌, ◌<◌, ◌≤◌, List, [], ◌∷◌, ◌++◌, map, length, get_or, set, sym, subst, ◌∙◌, ap, refl, min, Some, Result, Ok, Err}
 use Rattle.std.proofs.lemmas.List.{map-set, get_or-map, get_or-set_same, get_or-set_other, length-map}
+use Rattle.std.specs.List.{slice_get}
 use Rattle.std.proofs.Math.Seq.{map-set_same}
+use Rattle.std.proofs.lemmas.Option.{get_or_from_slice_get}
 use Rattle.lattice_laws.specs.Counts.{Rose}
-use Rattle.mail_contract.specs.Sends.{Sent, OnFull, NotFull}
+use Rattle.mail_contract.specs.Sends.{Sent, OnFull, OnSent, NotFull}
 use Rattle.mail_contract.specs.declared.Refused.{Refused}
 use Rattle.mail_contract.specs.declared.Refused.TheVariants.{NoMemory, Full}
 use Rattle.worker_core.specs.Sending.{Posted, FullsAfter}
@@ -32,3 +34,41 @@ fulls_after fulls senders place before now (Err (Full back)) low at rose still =
       rw (was, is) rose.1,
       λ other differs. ap (λ list. get_or list other 0) sets ∙ get_or-set_other (map fulls senders) place other (fulls now) 0 differs,
     )
+
+-- a sender elsewhere stays as it was
+pub stays_elsewhere : {T : Type 0} (senders : List T) (place other : ℕ) (now : T)
+    → other ≢ place → slice_get (set senders place now) other ≡ slice_get senders other
+stays_elsewhere [] place other now apart = refl
+stays_elsewhere (first ∷ senders) zero zero now apart = absurd (apart refl)
+stays_elsewhere (first ∷ senders) zero (suc other) now apart = refl
+stays_elsewhere (first ∷ senders) (suc place) zero now apart = refl
+stays_elsewhere (first ∷ senders) (suc place) (suc other) now apart = stays_elsewhere senders place other now (λ same. apart (ap suc same))
+
+-- where a message came back for want of a place its sender was not clear
+pub not_clear_after : {T M U : Type 0} (clear : T → Type 0) (senders : List T) (place : ℕ) (before : T) (result : Result U (Refused M))
+    → before ≡ get_or senders place before → OnFull result (clear before → ⊥)
+    → OnFull result ((sender : T) → slice_get senders place ≡ Some sender → clear sender → ⊥)
+not_clear_after clear senders place before (Ok done) at refused = tt
+not_clear_after clear senders place before (Err (NoMemory back)) at refused = tt
+not_clear_after clear senders place before (Err (Full back)) at refused = λ sender there is_clear.
+    refused (subst clear (sym (at ∙ get_or_from_slice_get senders place sender before there)) is_clear)
+
+module _ {T M U : Type 0} (unseen : T → ℕ) (senders : List T) (place : ℕ) (before : T) (result : Result U (Refused M))
+    (low : place < length senders) (at : before ≡ get_or senders place before) where
+  -- the count of the sender at the place
+  counted_there : get_or (map unseen senders) place 0 ≡ unseen before
+  counted_there = get_or-map unseen senders place before 0 low ∙ ap unseen (sym at)
+
+  -- where one came back 64 messages or more might take up a place
+  pub no_room_after : {roomy : Type 0} → (roomy → OnFull result (64 ≤ unseen before))
+      → roomy → OnFull result (64 ≤ get_or (map unseen senders) place 0)
+  no_room_after refused is_roomy = subst (λ count. OnFull result (64 ≤ count)) (sym counted_there) (refused is_roomy)
+
+  -- once one is sent one more may
+  pub unseen_after : {roomy : Type 0} (now : T) → (roomy → OnSent result (unseen now ≡ min 64 (unseen before + 1)))
+      → roomy → OnSent result (get_or (map unseen (set senders place now)) place 0 ≡ min 64 (get_or (map unseen senders) place 0 + 1))
+  unseen_after now sent is_roomy =
+      let is : get_or (map unseen (set senders place now)) place 0 ≡ unseen now =
+      ap (λ list. get_or list place 0) (map-set unseen senders place now) ∙ get_or-set_same (map unseen senders) place (unseen now) 0 (rw length-map low)
+      in
+      subst (λ (T : Type 0). T) (λ j. OnSent result (sym is j ≡ min 64 (sym counted_there j + 1))) (sent is_roomy)

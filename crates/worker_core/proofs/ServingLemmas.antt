@@ -1,10 +1,9 @@
 -- A request is worked on.
-use Rattle.std.proofs.Common.{◌≡◌, ℕ, ◌<◌, ◌≤◌, ◌==◌, Bool, true, false, if◌then◌else◌, List, [], ◌∷◌, ◌++◌, length, get_or, append-nil, sym, ◌∙◌, ap, refl, Option, Some, None, Result, Ok, Err, OnOk}
+use Rattle.std.proofs.Common.{◌≡◌, ℕ, ◌<◌, ◌==◌, true, false, if◌then◌else◌, List, [], ◌∷◌, ◌++◌, length, get_or, append-nil, sym, ◌∙◌, ap, refl, Option, None, Result, Ok, Err, OnOk}
 use Rattle.composed_value.specs.declared.put.Put.{Put}
 use Rattle.merge_world.specs.Effects.{takes}
 use Rattle.merge_world.specs.declared.private_map.KeyCells.{KeyCells}
 use Rattle.store_msg.specs.Reply.{PlainReply}
-use Rattle.store_msg.specs.declared.request.Request.{Request}
 use Rattle.store_msg.specs.declared.request.Request.TheVariants as requests
 use Rattle.worker_core.specs.Serving.{AddsReplies, IsHeldFor, Worked}
 use Rattle.worker_core.specs.Share.{owed_to}

@@ -1,17 +1,19 @@
 -- A worker tells its mates: the batches of a mate one after the other, and the mates one after the other.
 use Rattle.std.proofs.Common.{◌≡◌, ◌≢◌, ◌||◌, ℕ, zero, suc, ◌+◌, ◌-◌, ◌*◌, ◌^◌, ◌<◌, ◌≤◌, Bool, true, false, if◌then◌else◌, min, not, List, [], ◌∷◌, ◌++◌, drop, length, map, option_map, take, Option, Some, None, Result, Ok, Err, IsTrue, refl, sym, ap, ◌∙◌, subst, arith, inl, inr, append-nil, append_assoc, length-append, length-drop, length-take}
 use Rattle.std.specs.List.{cons_option, list_any, remove_range}
-use Rattle.std.specs.Prelude.{filter, slice_index_or, slice_set, IfOk, IsErr, OnOk}
+use Rattle.std.specs.Prelude.{filter, slice_get, slice_index_or, slice_set, IfOk, IsErr, OnOk}
 use Rattle.std.proofs.Math.Bool.{or-false}
 use Rattle.std.proofs.Math.Seq.{drop-append-add, drop-drop}
-use Rattle.std.proofs.lemmas.Bool.{false≢true}
+use Rattle.std.proofs.lemmas.Bool.{cases_Bool, false≢true, true≢false}
 use Rattle.std.proofs.lemmas.Bool.Decides.{eqb_tells}
-use Rattle.std.proofs.lemmas.List.{drop_at, drop_min, get_or-set_other, get_or-set_same, get_or_past, get_or_push, length-set, map-append, take-append-drop, take_at, take_min}
+use Rattle.std.proofs.lemmas.List.{drop_at, drop_min, get_or-map, get_or-set_other, get_or-set_same, get_or_past, get_or_push, length-set, map-append, take-append-drop, take_at, take_min}
 use Rattle.std.proofs.lemmas.List.Elements.{filter-append}
 use Rattle.std.proofs.lemmas.List.Folds.{list_any-append}
 use Rattle.std.proofs.lemmas.List.Sums.{sum_by_push}
+use Rattle.std.proofs.lemmas.Option.{get_or_from_slice_get, slice_get_within}
 use Rattle.lattice_laws.specs.Counts.{Rose}
 use Rattle.composed_value.specs.Cell.{PlainCell}
+use Rattle.mail_contract.specs.Sends.{OnFull}
 use Rattle.mail_contract.specs.declared.Refused.{Refused}
 use Rattle.mail_contract.specs.declared.Refused.TheVariants.{Full, NoMemory}
 use Rattle.merge_world.specs.Effects.{cells_at, tells, told_of}
@@ -19,6 +21,7 @@ use Rattle.merge_world.specs.declared.private_map.KeyCells.{KeyCells}
 use Rattle.worker_core.specs.Changes.{PlainChanges}
 use Rattle.worker_core.specs.Sending.{FullsAfter, Posted}
 use Rattle.worker_core.specs.State.{Entries}
+use Rattle.worker_core.specs.Room.{FirstBack, RoomAt, went_first}
 use Rattle.worker_core.specs.Telling.{DifferAt, TellsAll, TellsOne}
 use Rattle.worker_core.specs.Turns.{ToldMate, batches, left_over, went_out}
 
@@ -114,6 +117,112 @@ some_or_none (suc count) none some = some (omega arith)
 rose_on : (before now after : ℕ) → before ≤ now → Rose now after → Rose before after
 rose_on before now after not_fell rose = omega (arith, not_fell, rose)
 
+-- a list with an item more is not empty
+not_none : {A : Type 0} (items : List A) (item : A) → items ++ item ∷ [] ≡ [] → ⊥
+not_none items item none = omega (arith, ap length none, length-append items (item ∷ []))
+
+-- where the first batch came back, and a last one went out, it came back before the last one
+first_back_before : (tries : List Bool) → FirstBack (tries ++ true ∷ []) → FirstBack tries
+first_back_before [] came_back = absurd (true≢false came_back)
+first_back_before (went ∷ tries) came_back = came_back
+
+-- how many went out first, where one came back
+went_first-append : (tries more : List Bool) → list_any not tries ≡ true → went_first (tries ++ more) ≡ went_first tries
+went_first-append [] more some = absurd (false≢true some)
+went_first-append (true ∷ tries) more some = ap (λ n. n + 1) (went_first-append tries more some)
+went_first-append (false ∷ tries) more some = refl
+
+-- and where none did
+went_first_all : (tries : List Bool) → list_any not tries ≡ false → went_first (tries ++ false ∷ []) ≡ length tries
+went_first_all [] none = refl
+went_first_all (true ∷ tries) none = omega (arith, went_first_all tries none)
+went_first_all (false ∷ tries) none = absurd (true≢false none)
+
+-- How a sender stands after some tries: as before where there are none, and with a message more to take up a place for each where all went out.
+pub record Stands {O : Type 0} (clear : O → Type 0) (roomy : Bool) (slot slot_now : Option O) (unseen unseen_now : ℕ) (tries : List Bool) : Type 0 where
+  pub untried : tries ≡ [] → slot_now ≡ slot
+  pub counts : IsTrue roomy → list_any not tries ≡ false → min 64 unseen_now ≡ min 64 (unseen + length tries)
+  pub first : (sender : O) → slot ≡ Some sender → FirstBack tries → clear sender → ⊥
+  pub full : IsTrue roomy → IsTrue (list_any not tries) → 64 ≤ unseen + went_first tries
+
+-- how the sender at a place of several stands
+abbrev pub StandsAt : {O : Type 0} → (O → Type 0) → Bool → (O → ℕ) → List O → List O → ℕ → List Bool → Type 0
+StandsAt clear roomy unseen senders senders_now place tries =
+    Stands clear roomy (slice_get senders place) (slice_get senders_now place)
+    (slice_index_or (map unseen senders) place 0) (slice_index_or (map unseen senders_now) place 0) tries
+
+module _ {O : Type 0} (clear : O → Type 0) (roomy : Bool) (unseen : O → ℕ) where
+  -- nothing comes back where nothing is tried
+  pub untried_roomy : (senders : List O) (place : ℕ) → RoomAt clear roomy unseen senders place []
+  untried_roomy senders place sender there = record {
+    first = λ back. absurd back;
+    full = λ is_roomy some. absurd (false≢true some);
+  }
+
+  -- a sender that stays has the room that it had
+  pub room_stays : (senders senders_now : List O) (place : ℕ) → slice_get senders_now place ≡ slice_get senders place
+      → (tries : List Bool) → RoomAt clear roomy unseen senders_now place tries → RoomAt clear roomy unseen senders place tries
+  room_stays senders senders_now place same tries room sender there = room sender (same ∙ there)
+
+  -- how it stands before the first try
+  pub stands_first : (senders : List O) (place : ℕ) → StandsAt clear roomy unseen senders senders place []
+  stands_first senders place = record {
+    untried = λ none. refl;
+    counts = λ is_roomy none. omega arith;
+    first = λ sender there back. absurd back;
+    full = λ is_roomy some. absurd (false≢true some);
+  }
+
+  module _ (senders senders_now : List O) (place : ℕ) (tries : List Bool) (stands : StandsAt clear roomy unseen senders senders_now place tries) where
+    -- what came back is bounded by its room
+    pub stands_roomy : RoomAt clear roomy unseen senders place tries
+    stands_roomy sender there = record {
+      first = stands.first sender there;
+      full =
+          let low = slice_get_within senders place sender there in
+          let is : slice_index_or (map unseen senders) place 0 ≡ unseen sender =
+          get_or-map unseen senders place sender 0 low ∙ ap unseen (get_or_from_slice_get senders place sender sender there)
+          in
+          λ is_roomy some. omega (arith, stands.full is_roomy some, is);
+    }
+
+    -- how it stands once one more went out
+    pub stands_went : (senders_then : List O)
+        → (IsTrue roomy → slice_index_or (map unseen senders_then) place 0 ≡ min 64 (slice_index_or (map unseen senders_now) place 0 + 1))
+        → StandsAt clear roomy unseen senders senders_then place (tries ++ true ∷ [])
+    stands_went senders_then more =
+        let same_any : list_any not (tries ++ true ∷ []) ≡ list_any not tries = list_any-append not tries (true ∷ []) ∙ or-false (list_any not tries) in
+        record {
+          untried = λ none. absurd (not_none tries true none);
+          counts = λ is_roomy none. omega (arith, more is_roomy, stands.counts is_roomy (sym same_any ∙ none), length-append tries (true ∷ []));
+          first = λ sender there back. stands.first sender there (first_back_before tries back);
+          full = λ is_roomy some.
+              let some_then : list_any not tries ≡ true = sym same_any ∙ some in
+              omega (arith, stands.full is_roomy some_then, went_first-append tries (true ∷ []) some_then);
+        }
+
+    -- and once one came back
+    pub stands_back : (senders_then : List O)
+        → ((sender : O) → slice_get senders_now place ≡ Some sender → clear sender → ⊥)
+        → (IsTrue roomy → 64 ≤ slice_index_or (map unseen senders_now) place 0)
+        → StandsAt clear roomy unseen senders senders_then place (tries ++ false ∷ [])
+    stands_back senders_then not_clear no_room =
+        let some_any : list_any not (tries ++ false ∷ []) ≡ true = list_any-append not tries (false ∷ []) ∙ or-true (list_any not tries) in
+        record {
+          untried = λ none. absurd (not_none tries false none);
+          counts = λ is_roomy none. absurd (true≢false (sym some_any ∙ none));
+          first = first_there tries stands;
+          full = λ is_roomy some. elim (cases_Bool (list_any not tries)) [
+            | inl some_then ↦ omega (arith, stands.full is_roomy some_then, went_first-append tries (false ∷ []) some_then)
+            | inr none ↦ omega (arith, no_room is_roomy, stands.counts is_roomy none, went_first_all tries none)
+          ];
+        }
+      where
+        first_there : (tries : List Bool) → StandsAt clear roomy unseen senders senders_now place tries
+            → (sender : O) → slice_get senders place ≡ Some sender → FirstBack (tries ++ false ∷ []) → clear sender → ⊥
+        first_there [] stands sender there back = not_clear sender (stands.untried refl ∙ there)
+        first_there (went ∷ tries) stands sender there back = stands.first sender there back
+
 -- What concerns one mate: its changed keys, the batches that it was told, what was turned back, and how often its sender wanted for a place.
 pub record OneMate : Type 0 where
   pub keys : List ℕ
@@ -151,17 +260,17 @@ abbrev pub IsToldBy : List (Option KeyCells) → ℕ → List Bool → OneMate �
 IsToldBy cells taken tries before now = ToldMate cells taken tries before.keys now.keys before.batches now.batches before.back now.back
 
 -- a mate was told, by the answer
-abbrev pub IsTold : {E : Type 0} → Result ℕ E → List (Option KeyCells) → ℕ → OneMate → OneMate → Type 0
-IsTold result cells taken before now =
-    TellsOne result cells taken before.keys now.keys before.batches now.batches before.back now.back before.fulls now.fulls
+abbrev pub IsTold : {E : Type 0} → Result ℕ E → List (Option KeyCells) → ℕ → OneMate → OneMate → (List Bool → Type 0) → Type 0
+IsTold result cells taken before now room =
+    TellsOne result cells taken before.keys now.keys before.batches now.batches before.back now.back before.fulls now.fulls room
 
 -- the mates were told, by the answer
-abbrev pub AreAllTold : {E : Type 0} → Result ℕ E → List (Option KeyCells) → ℕ → Mates → Mates → Type 0
-AreAllTold result cells taken before now =
-    TellsAll result cells taken before.changed now.changed before.told now.told before.turned now.turned before.fulls now.fulls
+abbrev pub AreAllTold : {E : Type 0} → Result ℕ E → List (Option KeyCells) → ℕ → Mates → Mates → (ℕ → List Bool → Type 0) → Type 0
+AreAllTold result cells taken before now room =
+    TellsAll result cells taken before.changed now.changed before.told now.told before.turned now.turned before.fulls now.fulls room
 
--- A mate is being told: what was tried, where the keys before a place came back and those from it on are left to try.
-pub record IsTelling (cells : List (Option KeyCells)) (taken most from sent : ℕ) (before now : OneMate) : Type 0 where
+-- A mate is being told: what was tried, where the keys before a place came back and those from it on are left to try, and how its sender stands.
+pub record IsTelling (cells : List (Option KeyCells)) (taken most from sent : ℕ) (stands : List Bool → Type 0) (before now : OneMate) : Type 0 where
   pub tries : List Bool
   pub no_empty : 16 * length tries < length before.keys + 16
   pub told : now.batches ≡ before.batches ++ map (λ keys. tells keys cells) (went_out tries before.keys)
@@ -173,6 +282,7 @@ pub record IsTelling (cells : List (Option KeyCells)) (taken most from sent : �
   pub small : 1 ≤ sent → most < 2 ^ 16
   pub full : IsTrue (list_any not tries) → Rose before.fulls now.fulls
   pub never_falls : before.fulls ≤ now.fulls
+  pub sender : stands tries
 
 -- A batch tells of the next keys, from a place up to another.
 pub record IsNext (cells : List (Option KeyCells)) (from to : ℕ) (keys : List ℕ) (batch : Entries) : Type 0 where
@@ -188,10 +298,10 @@ fewer_left {from = from} {to} {keys} next = (
   omega (arith, next.some_left, next.to_is),
 )
 
-module _ (cells : List (Option KeyCells)) (taken most : ℕ) (before : OneMate) where
+module _ (cells : List (Option KeyCells)) (taken most : ℕ) (stands : List Bool → Type 0) (before : OneMate) where
   -- what is told before the first batch
-  telling_begins : IsTelling cells taken most 0 0 before before
-  telling_begins = record {
+  telling_begins : stands [] → IsTelling cells taken most 0 0 stands before before
+  telling_begins untried = record {
     tries = [];
     no_empty = omega arith;
     told = sym (append-nil before.batches);
@@ -203,10 +313,11 @@ module _ (cells : List (Option KeyCells)) (taken most : ℕ) (before : OneMate) 
     small = λ some. absurd (omega (arith, some));
     full = λ some. absurd (false≢true some);
     never_falls = omega arith;
+    sender = untried;
   }
 
-module _ {cells : List (Option KeyCells)} {taken most from sent : ℕ} {before now : OneMate}
-    (telling : IsTelling cells taken most from sent before now) where
+module _ {cells : List (Option KeyCells)} {taken most from sent : ℕ} {stands : List Bool → Type 0} {before now : OneMate}
+    (telling : IsTelling cells taken most from sent stands before now) where
   told_so_far : IsToldBy cells taken telling.tries before now
   told_so_far = record {
     no_empty = telling.no_empty;
@@ -216,20 +327,23 @@ module _ {cells : List (Option KeyCells)} {taken most from sent : ℕ} {before n
   }
 
   -- a mate was told so far, where memory is wanting
-  pub telling_fails : {E : Type 0} (result : Result ℕ E) → IsErr result → IsTold result cells taken before now
-  telling_fails (Ok done) fails = absurd (false≢true fails)
-  telling_fails (Err error) fails = record {
+  pub telling_fails : {E : Type 0} {room : List Bool → Type 0} (result : Result ℕ E) → IsErr result → ((tries : List Bool) → stands tries → room tries)
+      → IsTold result cells taken before now room
+  telling_fails (Ok done) fails rooms = absurd (false≢true fails)
+  telling_fails (Err error) fails rooms = record {
     tries = telling.tries;
     mate = told_so_far;
     all = tt;
     sent = tt;
     full = telling.full;
     never_falls = telling.never_falls;
+    has_room = rooms telling.tries telling.sender;
   }
 
   -- a mate was told of all its keys, where none is left to try
-  pub telling_ends : {E : Type 0} → length now.keys ≤ from → IsTold {E = E} (Ok sent) cells taken before now
-  telling_ends far =
+  pub telling_ends : {E : Type 0} {room : List Bool → Type 0} → length now.keys ≤ from → ((tries : List Bool) → stands tries → room tries)
+      → IsTold {E = E} (Ok sent) cells taken before now room
+  telling_ends far rooms =
       let back : List ℕ = came_back telling.tries before.keys in
       let left : List ℕ = untried telling.tries before.keys in
       record {
@@ -241,6 +355,7 @@ module _ {cells : List (Option KeyCells)} {taken most from sent : ℕ} {before n
         sent = telling.sent_is;
         full = telling.full;
         never_falls = telling.never_falls;
+        has_room = rooms telling.tries telling.sender;
       }
 
   module _ {to : ℕ} {batch : Entries} (next : IsNext cells from to now.keys batch) where
@@ -276,14 +391,15 @@ module _ {cells : List (Option KeyCells)} {taken most from sent : ℕ} {before n
         omega (arith, next.some_left, telling.from_is, ap length telling.left, length-append back left, tries, all)
 
     -- the batch went out
-    batch_went : length now.keys ≤ most → most < 2 ^ 16
-        → IsTelling cells taken most from (sent + 1) before (record {
+    batch_went : {stands_then : List Bool → Type 0} → length now.keys ≤ most → most < 2 ^ 16
+        → ((tries : List Bool) → stands tries → stands_then (tries ++ true ∷ []))
+        → IsTelling cells taken most from (sent + 1) stands_then before (record {
           keys = remove_range now.keys from to;
           batches = now.batches ++ batch ∷ [];
           back = now.back;
           fulls = now.fulls;
         })
-    batch_went few small =
+    batch_went few small sends =
         let tries : List Bool = telling.tries ++ true ∷ [] in
         let out : List (List ℕ) = went_out telling.tries before.keys in
         let tell : List ℕ → Entries = λ keys. tells keys cells in
@@ -316,12 +432,14 @@ module _ {cells : List (Option KeyCells)} {taken most from sent : ℕ} {before n
           small = λ some_now. small;
           full = λ any. telling.full (subst IsTrue same_any any);
           never_falls = telling.never_falls;
+          sender = sends telling.tries telling.sender;
         }
 
     -- the batch came back
-    batch_came_back : (fulls : ℕ) → now.fulls ≤ fulls → Rose now.fulls fulls
-        → IsTelling cells taken most to sent before (record { keys = now.keys; batches = now.batches; back = taken; fulls = fulls })
-    batch_came_back fulls not_fell rose =
+    batch_came_back : {stands_then : List Bool → Type 0} (fulls : ℕ) → now.fulls ≤ fulls → Rose now.fulls fulls
+        → ((tries : List Bool) → stands tries → stands_then (tries ++ false ∷ []))
+        → IsTelling cells taken most to sent stands_then before (record { keys = now.keys; batches = now.batches; back = taken; fulls = fulls })
+    batch_came_back fulls not_fell rose refuses =
         let tries : List Bool = telling.tries ++ false ∷ [] in
         let out : List (List ℕ) = went_out telling.tries before.keys in
         let went : Bool → Bool = λ went. went in
@@ -350,14 +468,15 @@ module _ {cells : List (Option KeyCells)} {taken most from sent : ℕ} {before n
           small = telling.small;
           full = λ any. rose_on before.fulls now.fulls fulls telling.never_falls rose;
           never_falls = omega (arith, telling.never_falls, not_fell);
+          sender = refuses telling.tries telling.sender;
         }
 
 -- what is equal may stand for it
-telling_same : {cells : List (Option KeyCells)} {taken most from from_then sent sent_then : ℕ} {before now after : OneMate}
-    → from_then ≡ from → sent_then ≡ sent → after ≡ now → IsTelling cells taken most from sent before now
-    → IsTelling cells taken most from_then sent_then before after
-telling_same {cells} {taken} {most} {before = before} from_is sent_is is =
-    subst (λ (T : Type 0). T) (λ j. IsTelling cells taken most (sym from_is j) (sym sent_is j) before (sym is j))
+telling_same : {cells : List (Option KeyCells)} {taken most from from_then sent sent_then : ℕ} {stands : List Bool → Type 0} {before now after : OneMate}
+    → from_then ≡ from → sent_then ≡ sent → after ≡ now → IsTelling cells taken most from sent stands before now
+    → IsTelling cells taken most from_then sent_then stands before after
+telling_same {cells} {taken} {most} {stands = stands} {before = before} from_is sent_is is =
+    subst (λ (T : Type 0). T) (λ j. IsTelling cells taken most (sym from_is j) (sym sent_is j) stands before (sym is j))
 
 -- Nothing changes but at a mate.
 pub record DifferOnly (mate : ℕ) (before now : Mates) : Type 0 where
@@ -384,41 +503,43 @@ module _ {A : Type 0} {default : A} {place : ℕ} {before now after : List A} wh
   }
 
 -- A mate of several is being told.
-pub record IsTellingMate (cells : List (Option KeyCells)) (taken most mate from sent : ℕ) (before now : Mates) : Type 0 where
+pub record IsTellingMate (cells : List (Option KeyCells)) (taken most mate from sent : ℕ) (stands : List Bool → Type 0) (before now : Mates) : Type 0 where
   pub others : DifferOnly mate before now
-  pub telling : IsTelling cells taken most from sent (mate_in before mate) (mate_in now mate)
+  pub telling : IsTelling cells taken most from sent stands (mate_in before mate) (mate_in now mate)
 
 -- what is told of a mate before the first batch
-pub mate_begins : (cells : List (Option KeyCells)) (taken most mate : ℕ) (before : Mates) → IsTellingMate cells taken most mate 0 0 before before
-mate_begins cells taken most mate before = record {
+pub mate_begins : (cells : List (Option KeyCells)) (taken most mate : ℕ) (stands : List Bool → Type 0) (before : Mates) → stands []
+    → IsTellingMate cells taken most mate 0 0 stands before before
+mate_begins cells taken most mate stands before untried = record {
   others = record {
     changed = differs_nowhere;
     told = differs_nowhere;
     turned = differs_nowhere;
     fulls = differs_nowhere;
   };
-  telling = telling_begins cells taken most (mate_in before mate);
+  telling = telling_begins cells taken most stands (mate_in before mate) untried;
 }
 
-module _ {cells : List (Option KeyCells)} {taken most mate from sent : ℕ} {before now after : Mates}
-    (mate_telling : IsTellingMate cells taken most mate from sent before now) where
+module _ {cells : List (Option KeyCells)} {taken most mate from sent : ℕ} {stands : List Bool → Type 0} {before now after : Mates}
+    (mate_telling : IsTellingMate cells taken most mate from sent stands before now) where
   -- nothing more is told of a mate
   pub mate_unmoved : after.changed ≡ now.changed → after.told ≡ now.told → after.turned ≡ now.turned → after.fulls ≡ now.fulls
-      → IsTellingMate cells taken most mate from sent before after
+      → IsTellingMate cells taken most mate from sent stands before after
   mate_unmoved same_changed same_told same_turned same_fulls =
       let same : after ≡ now = λ j. record { changed = same_changed j; told = same_told j; turned = same_turned j; fulls = same_fulls j } in
-      subst (IsTellingMate cells taken most mate from sent before) (sym same) mate_telling
+      subst (IsTellingMate cells taken most mate from sent stands before) (sym same) mate_telling
 
   module _ {from_then sent_then to : ℕ} {batch : Entries}
       (next : IsNext cells from to (slice_index_or now.changed mate []) batch) where
     -- a batch to the mate went out
-    pub mate_went : from_then ≡ from → sent_then ≡ sent + 1 → mate < length before.changed → mate < length before.told
+    pub mate_went : {stands_then : List Bool → Type 0} → from_then ≡ from → sent_then ≡ sent + 1 → mate < length before.changed → mate < length before.told
         → length (slice_index_or now.changed mate []) ≤ most → most < 2 ^ 16
         → after.changed ≡ slice_set now.changed mate (remove_range (slice_index_or now.changed mate []) from to)
         → after.told ≡ slice_set now.told mate (slice_index_or now.told mate [] ++ batch ∷ [])
         → after.turned ≡ now.turned → after.fulls ≡ now.fulls
-        → IsTellingMate cells taken most mate from_then sent_then before after
-    mate_went from_is sent_is changed_low told_low few small cleared sends same_turned same_fulls =
+        → ((tries : List Bool) → stands tries → stands_then (tries ++ true ∷ []))
+        → IsTellingMate cells taken most mate from_then sent_then stands_then before after
+    mate_went from_is sent_is changed_low told_low few small cleared sends same_turned same_fulls stands_on =
         let others = mate_telling.others in
         let changed_now : mate < length now.changed = omega (arith, changed_low, others.changed.same_length) in
         let told_now : mate < length now.told = omega (arith, told_low, others.told.same_length) in
@@ -439,17 +560,18 @@ module _ {cells : List (Option KeyCells)} {taken most mate from sent : ℕ} {bef
                 back = slice_index_or (same_turned j) mate 0;
                 fulls = slice_index_or (same_fulls j) mate 0;
               })
-              (batch_went mate_telling.telling next few small);
+              (batch_went mate_telling.telling next few small stands_on);
         }
 
     -- a batch to the mate came back
-    pub mate_refused : from_then ≡ to → sent_then ≡ sent → mate < length before.turned
+    pub mate_refused : {stands_then : List Bool → Type 0} → from_then ≡ to → sent_then ≡ sent → mate < length before.turned
         → after.changed ≡ now.changed → after.told ≡ now.told → after.turned ≡ slice_set now.turned mate taken → length after.fulls ≡ length now.fulls
         → slice_index_or now.fulls mate 0 ≤ slice_index_or after.fulls mate 0
         → Rose (slice_index_or now.fulls mate 0) (slice_index_or after.fulls mate 0)
         → ((other : ℕ) → other ≢ mate → slice_index_or after.fulls other 0 ≡ slice_index_or now.fulls other 0)
-        → IsTellingMate cells taken most mate from_then sent_then before after
-    mate_refused from_is sent_is turned_low same_changed same_told turns same_length not_fell rose others_stay =
+        → ((tries : List Bool) → stands tries → stands_then (tries ++ false ∷ []))
+        → IsTellingMate cells taken most mate from_then sent_then stands_then before after
+    mate_refused from_is sent_is turned_low same_changed same_told turns same_length not_fell rose others_stay stands_on =
         let others = mate_telling.others in
         let turned_now : mate < length now.turned = omega (arith, turned_low, others.turned.same_length) in
         let back_is = ap (λ turned. slice_index_or turned mate 0) turns ∙ get_or-set_same now.turned mate taken 0 turned_now in
@@ -471,7 +593,7 @@ module _ {cells : List (Option KeyCells)} {taken most mate from sent : ℕ} {bef
                 back = back_is j;
                 fulls = slice_index_or after.fulls mate 0;
               })
-              (batch_came_back mate_telling.telling next (slice_index_or after.fulls mate 0) not_fell rose);
+              (batch_came_back mate_telling.telling next (slice_index_or after.fulls mate 0) not_fell rose stands_on);
         }
 
 module _ (U : Type 0) {M : Type 0} (refused : Refused M) (back message : M) (place : ℕ)
@@ -495,6 +617,10 @@ module _ (U : Type 0) {M : Type 0} (refused : Refused M) (back message : M) (pla
     subst (λ refused. FullsAfter {U = U} (Err refused) place fulls fulls_now) is fulls_after,
   )
 
+-- a send found no place, so what it tells then holds
+pub where_full : (U : Type 0) {M holds : Type 0} (refused : Refused M) (message : M) → refused ≡ Full message → OnFull {U = U} (Err refused) holds → holds
+where_full U {holds = holds} refused message is told = subst (λ refused. OnFull {U = U} (Err refused) holds) is told
+
 -- a place elsewhere than at the end keeps its item once there is one more
 elsewhere : {A : Type 0} (items : List A) (item default : A) (place : ℕ) → place ≢ length items
     → slice_index_or (items ++ item ∷ []) place default ≡ slice_index_or items place default
@@ -504,7 +630,7 @@ elsewhere (first ∷ items) item default zero apart = refl
 elsewhere (first ∷ items) item default (suc place) apart = elsewhere items item default place (λ same. apart (ap suc same))
 
 -- The mates were told by these tries, and are as they were where there are none.
-pub record AreToldBy (tries : List (List Bool)) (cells : List (Option KeyCells)) (taken : ℕ) (before now : Mates) : Type 0 where
+pub record AreToldBy (tries : List (List Bool)) (cells : List (Option KeyCells)) (taken : ℕ) (room : ℕ → List Bool → Type 0) (before now : Mates) : Type 0 where
   pub same_changed : length now.changed ≡ length before.changed
   pub same_told : length now.told ≡ length before.told
   pub same_turned : length now.turned ≡ length before.turned
@@ -515,19 +641,21 @@ pub record AreToldBy (tries : List (List Bool)) (cells : List (Option KeyCells))
       (place : ℕ) → place < length before.told → IsTrue (list_any not (slice_index_or tries place []))
       → Rose (slice_index_or before.fulls place 0) (slice_index_or now.fulls place 0)
   pub never_fall : (place : ℕ) → place < length before.told → slice_index_or before.fulls place 0 ≤ slice_index_or now.fulls place 0
+  pub have_room : (place : ℕ) → place < length before.told → room place (slice_index_or tries place [])
 
 -- The mates before a place were told, and the others are left to be told.
-pub record AreTold (cells : List (Option KeyCells)) (taken mate sent : ℕ) (before now : Mates) : Type 0 where
+pub record AreTold (cells : List (Option KeyCells)) (taken mate sent : ℕ) (room : ℕ → List Bool → Type 0) (before now : Mates) : Type 0 where
   pub tries : List (List Bool)
-  pub by : AreToldBy tries cells taken before now
+  pub by : AreToldBy tries cells taken room before now
   pub count : length tries ≡ mate
   pub all : (place : ℕ) → place < mate → length (slice_index_or before.changed place []) ≤ 16 * length (slice_index_or tries place [])
   pub sent_is : sent ≡ batches tries
   pub few : sent ≤ 65535 * mate
 
 -- what mates were told before the first one
-pub none_told : (cells : List (Option KeyCells)) (taken : ℕ) (before : Mates) → AreTold cells taken 0 0 before before
-none_told cells taken before = record {
+pub none_told : (cells : List (Option KeyCells)) (taken : ℕ) (room : ℕ → List Bool → Type 0) (before : Mates) → ((place : ℕ) → room place [])
+    → AreTold cells taken 0 0 room before before
+none_told cells taken room before untried = record {
   tries = [];
   by = record {
     same_changed = refl;
@@ -541,6 +669,7 @@ none_told cells taken before = record {
     };
     full = λ place low some. absurd (false≢true some);
     never_fall = λ place low. omega arith;
+    have_room = λ place low. untried place;
   };
   count = refl;
   all = λ place low. absurd (omega (arith, low));
@@ -548,10 +677,10 @@ none_told cells taken before = record {
   few = omega arith;
 }
 
-module _ {cells : List (Option KeyCells)} {taken mate sent : ℕ} {before now : Mates}
-    (are_told : AreTold cells taken mate sent before now) where
+module _ {cells : List (Option KeyCells)} {taken mate sent : ℕ} {room : ℕ → List Bool → Type 0} {before now : Mates}
+    (are_told : AreTold cells taken mate sent room before now) where
   -- all mates were told, after the last one
-  pub all_told : {E : Type 0} → length before.told ≡ mate → AreAllTold {E = E} (Ok sent) cells taken before now
+  pub all_told : {E : Type 0} → length before.told ≡ mate → AreAllTold {E = E} (Ok sent) cells taken before now room
   all_told last = record {
     tries = are_told.tries;
     mates = omega (arith, are_told.count, last);
@@ -563,10 +692,12 @@ module _ {cells : List (Option KeyCells)} {taken mate sent : ℕ} {before now : 
     sent = are_told.sent_is;
     full = are_told.by.full;
     never_fall = are_told.by.never_fall;
+    have_room = are_told.by.have_room;
   }
 
-  module _ {E : Type 0} {result : Result ℕ E} {after : Mates} (low : mate < length before.told)
-      (others : DifferOnly mate now after) (one : IsTold result cells taken (mate_in now mate) (mate_in after mate)) where
+  module _ {E : Type 0} {result : Result ℕ E} {after : Mates} {room_there : List Bool → Type 0} (low : mate < length before.told)
+      (others : DifferOnly mate now after) (one : IsTold result cells taken (mate_in now mate) (mate_in after mate) room_there)
+      (same_room : (tries : List Bool) → room_there tries → room mate tries) where
     abbrev tries : List (List Bool)
     tries = are_told.tries ++ one.tries ∷ []
 
@@ -598,7 +729,7 @@ module _ {cells : List (Option KeyCells)} {taken mate sent : ℕ} {before now : 
       fulls = sym (others.fulls.others place apart) j;
     }
 
-    told_by_more : AreToldBy tries cells taken before after
+    told_by_more : AreToldBy tries cells taken room before after
     told_by_more = record {
       same_changed = others.changed.same_length ∙ are_told.by.same_changed;
       same_told = others.told.same_length ∙ are_told.by.same_told;
@@ -631,10 +762,15 @@ module _ {cells : List (Option KeyCells)} {taken mate sent : ℕ} {before now : 
             subst (λ count. slice_index_or before.fulls place 0 ≤ count) (sym (others.fulls.others place apart.1))
             (are_told.by.never_fall place is_place)
       ];
+      have_room = λ place is_place. elim (eqb_tells place mate) [
+        | inl same ↦
+            subst (λ at. room at (slice_index_or tries at [])) (sym same.1) (subst (room mate) (sym tried_there) (same_room one.tries one.has_room))
+        | inr apart ↦ subst (room place) (sym (tried_elsewhere place apart.1)) (are_told.by.have_room place is_place)
+      ];
     }
 
     -- some mates were told, where memory is wanting at one
-    pub told_fails : {F : Type 0} (answer : Result ℕ F) → IsErr answer → AreAllTold answer cells taken before after
+    pub told_fails : {F : Type 0} (answer : Result ℕ F) → IsErr answer → AreAllTold answer cells taken before after room
     told_fails (Ok done) fails = absurd (false≢true fails)
     told_fails (Err error) fails = record {
       tries = tries;
@@ -647,10 +783,11 @@ module _ {cells : List (Option KeyCells)} {taken mate sent : ℕ} {before now : 
       sent = tt;
       full = told_by_more.full;
       never_fall = told_by_more.never_fall;
+      have_room = told_by_more.have_room;
     }
 
     -- a mate more was told
-    pub told_more : (more : ℕ) → result ≡ Ok more → more < 2 ^ 16 → AreTold cells taken (mate + 1) (sent + more) before after
+    pub told_more : (more : ℕ) → result ≡ Ok more → more < 2 ^ 16 → AreTold cells taken (mate + 1) (sent + more) room before after
     told_more more is small =
         record {
           tries = tries;

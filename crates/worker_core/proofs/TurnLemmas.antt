@@ -1,5 +1,5 @@
 -- What a turn does in which a message is worked on: one that was kept, or that is popped now.
-use Rattle.std.specs.Prelude.{◌≡◌, ◌⊎◌, ℕ, ◌+◌, ◌-◌, ◌<◌, ◌≤◌, ◌==◌, ◌||◌, ltb, if◌then◌else◌, Bool, true, false, IsTrue, List, [], ◌∷◌, ◌++◌, Vec, is_some, length, map, Option, Some, None, Result, Ok, Err}
+use Rattle.std.specs.Prelude.{◌≡◌, ◌≢◌, ◌⊎◌, ℕ, ◌-◌, ◌<◌, ◌≤◌, ◌==◌, ◌||◌, ltb, if◌then◌else◌, Bool, true, false, IsTrue, List, [], ◌∷◌, ◌++◌, Vec, filter, is_some, length, map, slice_index_or, Option, Some, None, Result, Ok, Err}
 use Rattle.std.specs.Global.{Global}
 use Rattle.std.specs.Result.{is_ok}
 use Rattle.std.proofs.Common.{refl, sym, ap, subst, ◌∙◌, inl, inr, arith}
@@ -12,13 +12,14 @@ use Rattle.store_msg.specs.Reply.{PlainReply}
 use Rattle.store_msg.specs.declared.request.Request.{Request}
 use Rattle.worker_core.specs.Serving.{Resent, RoundsIf, Served, Worked, WorksOn, did_of, rests_as}
 use Rattle.worker_core.specs.Share.{owed_to}
-use Rattle.worker_core.specs.State.{Entries, Lists, PlainWorker, State, dirty, lists_of}
-use Rattle.worker_core.specs.Turns.{Counts, Gossips, Hears, IsBlocked, IsGot, IsIdle, IsTaken, IsUnmoved, KeepsBatch, KeepsRequest, Rounds, Serves, SomeRose, Turns, batches, marked_at, reply_from, served}
+use Rattle.worker_core.specs.State.{Entries, Lists, PlainWorker, State, changed_of, dirty, lists_of}
+use Rattle.worker_core.specs.Turns.{Counts, Gossips, HaveRoom, Hears, IsBlocked, IsGot, IsIdle, IsTaken, IsUnmoved, KeepsBatch, KeepsRequest, Rounds, Serves, SomeRose, Turns, batches, marked_at, reply_from, served}
 use Rattle.worker_core.specs.declared.did.Did.{Did}
 use Rattle.worker_core.specs.declared.did.Did.TheVariants as did
 use Rattle.worker_core.specs.declared.popped.Popped.{Popped}
 use Rattle.worker_core.specs.declared.popped.Popped.TheVariants as popped
-use Rattle.worker_core.proofs.ToldLemmas.{blocked_full, gossips_nothing, nothing_sent}
+use Rattle.worker_core.proofs.ToldLemmas.{blocked_full, clean_at_each, gossips_nothing, nothing_sent}
+use Rattle.worker_core.proofs.BatchesLemmas.{none_to_each}
 
 -- a request that was taken is worked on, where what is worked on is as before
 request_serves : (session : ℕ) (request : Request) (before middle now : Lists) → IsTaken session request before now
@@ -67,14 +68,14 @@ batch_hears sender batch before start now taken unmoved is received replied told
     }
 
 -- A message was kept before the turn, and is worked on.
-pub kept_turns : {E : Type 0} (result : Result Did E) (before now : Lists) (count count_now : Counts) → WorksOn result before now
-    → length before.state.changed ≡ length before.told → Turns result before now count count_now
-kept_turns (Err error) before now count count_now works as_many = record { told = before; gossips = gossips_nothing before; kept = inl works.still }
-kept_turns {E} (Ok did) before now count count_now works as_many =
-    subst (λ (did : Did). Turns {E = E} (Ok did) before now count count_now) (sym works.did) (by_kept before.state.kept refl works.serves)
+pub kept_turns : {E : Type 0} (result : Result Did E) (before now : Lists) (count count_now : Counts) (room : ℕ → List Bool → Type 0) → WorksOn result before now
+    → length before.state.changed ≡ length before.told → Turns result before now count count_now room
+kept_turns (Err error) before now count count_now room works as_many = record { told = before; gossips = gossips_nothing before; kept = inl works.still }
+kept_turns {E} (Ok did) before now count count_now room works as_many =
+    subst (λ (did : Did). Turns {E = E} (Ok did) before now count count_now room) (sym works.did) (by_kept before.state.kept refl works.serves)
   where
     by_kept : (kept : Option Popped) → before.state.kept ≡ kept → Served kept before.state now.state before.replied now.replied
-        → Turns {E = E} (Ok (did_of kept)) before now count count_now
+        → Turns {E = E} (Ok (did_of kept)) before now count count_now room
     by_kept None is none = absurd none
     by_kept (Some (popped.Request session request)) is worked =
         inl (
@@ -87,15 +88,15 @@ kept_turns {E} (Ok did) before now count count_now works as_many =
         (sender, batch, batch_hears sender batch before before now (inl (is, works.got)) refl joined.0 works.received joined.1 works.told, inl is)
 
 -- A batch is popped in the turn, before which nothing moved but what was turned back, and is worked on.
-pub heard_turns : {E : Type 0} (result : Result Did E) (before start middle now : Lists) (count count_now : Counts) → Gossips before start
+pub heard_turns : {E : Type 0} (result : Result Did E) (before start middle now : Lists) (count count_now : Counts) (room : ℕ → List Bool → Type 0) → Gossips before start
     → IsUnmoved before start → KeepsBatch start middle → WorksOn result middle now → Rose count.gossip.somes count_now.gossip.somes
-    → Turns result before now count count_now
-heard_turns (Err error) before start middle now count count_now gossips unmoved keeps works rose = record {
+    → Turns result before now count count_now room
+heard_turns (Err error) before start middle now count count_now room gossips unmoved keeps works rose = record {
   told = start;
   gossips = gossips;
   kept = inr (inr (subst (KeepsBatch start) (sym works.still) keeps));
 }
-heard_turns {E} (Ok did) before start middle now count count_now gossips unmoved keeps works rose =
+heard_turns {E} (Ok did) before start middle now count count_now room gossips unmoved keeps works rose =
     let sender = keeps.0 in
     let batch = keeps.1 in
     let kept_is : middle.state.kept ≡ Some (popped.Batch sender batch) = ap (λ (lists : Lists). lists.state.kept) keeps.4 in
@@ -106,7 +107,7 @@ heard_turns {E} (Ok did) before start middle now count count_now gossips unmoved
     let same_got = ap (λ (lists : Lists). lists.got) unmoved in
     let added : Added sender batch before.got now.got =
     subst (λ got. Added sender batch got now.got) same_got (subst (Added sender batch start.got) (sym works.got) keeps.3) in
-    subst (λ (did : Did). Turns {E = E} (Ok did) before now count count_now) (sym (works.did ∙ ap did_of kept_is)) (
+    subst (λ (did : Did). Turns {E = E} (Ok did) before now count count_now room) (sym (works.did ∙ ap did_of kept_is)) (
       sender,
       batch,
       batch_hears sender batch before start now (inr (none_kept, added)) unmoved is_now
@@ -116,15 +117,15 @@ heard_turns {E} (Ok did) before start middle now count count_now gossips unmoved
     )
 
 -- A request is popped in the turn, before which nothing moved but what was turned back, and is worked on.
-pub served_turns : {E : Type 0} (result : Result Did E) (before start middle now : Lists) (count count_now : Counts) → Gossips before start
+pub served_turns : {E : Type 0} (result : Result Did E) (before start middle now : Lists) (count count_now : Counts) (room : ℕ → List Bool → Type 0) → Gossips before start
     → IsUnmoved before start → KeepsRequest start middle → WorksOn result middle now → length before.state.changed ≡ length before.told
-    → Turns result before now count count_now
-served_turns (Err error) before start middle now count count_now gossips unmoved keeps works as_many = record {
+    → Turns result before now count count_now room
+served_turns (Err error) before start middle now count count_now room gossips unmoved keeps works as_many = record {
   told = start;
   gossips = gossips;
   kept = inr (inl (subst (KeepsRequest start) (sym works.still) keeps));
 }
-served_turns {E} (Ok did) before start middle now count count_now gossips unmoved keeps works as_many =
+served_turns {E} (Ok did) before start middle now count count_now room gossips unmoved keeps works as_many =
     let session = keeps.0 in
     let request = keeps.1 in
     let is : middle ≡ record before {
@@ -137,7 +138,7 @@ served_turns {E} (Ok did) before start middle now count count_now gossips unmove
     let kept_is : middle.state.kept ≡ Some (popped.Request session request) = ap (λ (lists : Lists). lists.state.kept) is in
     let worked = subst (λ kept. Served kept middle.state now.state middle.replied now.replied) kept_is works.serves in
     let none_kept : before.state.kept ≡ None = sym (ap (λ (lists : Lists). lists.state.kept) unmoved) ∙ keeps.2 in
-    subst (λ (did : Did). Turns {E = E} (Ok did) before now count count_now) (sym (works.did ∙ ap did_of kept_is))
+    subst (λ (did : Did). Turns {E = E} (Ok did) before now count count_now room) (sym (works.did ∙ ap did_of kept_is))
     (inl (
       session,
       request,
@@ -149,10 +150,10 @@ served_turns {E} (Ok did) before start middle now count count_now gossips unmove
     ))
 
 -- memory was wanting
-pub lacks : (result : Result Did NoMemory) (before start now : Lists) (count count_now : Counts) → (error : NoMemory) × (result ≡ Err error)
-    → Gossips before start → now ≡ start → Turns result before now count count_now
-lacks result before start now count count_now is gossips same =
-    subst (λ result. Turns result before now count count_now) (sym is.1) (record { told = start; gossips = gossips; kept = inl same })
+pub lacks : (result : Result Did NoMemory) (before start now : Lists) (count count_now : Counts) (room : ℕ → List Bool → Type 0) → (error : NoMemory) × (result ≡ Err error)
+    → Gossips before start → now ≡ start → Turns result before now count count_now room
+lacks result before start now count count_now room is gossips same =
+    subst (λ result. Turns result before now count count_now room) (sym is.1) (record { told = start; gossips = gossips; kept = inl same })
 
 -- a count that rose, between counts that are equal
 pub rose_between : {was before then' now : ℕ} → was ≡ before → now ≡ then' → Rose before then' → Rose was now
@@ -180,18 +181,23 @@ either (inr other) left right = inr (right other)
 abbrev pub items_of : {X : Type 0} → Vec X Global → List X
 items_of vector = vector.items
 
+-- the first batch came back to each mate that is left to tell
+abbrev pub IsFirstBack : Lists → (ℕ → List Bool → Type 0) → Type 0
+IsFirstBack now room = (place : ℕ) → place < length now.told → changed_of now.state place ≢ [] → (tries : List Bool) × room place (false ∷ tries)
+
 -- a round was made in which nothing went out, or none
-pub record Started (before start : Lists) (made : Bool) (count count_start : Counts) : Type 0 where
+pub record Started (before start : Lists) (made : Bool) (count count_start : Counts) (room : ℕ → List Bool → Type 0) : Type 0 where
   pub gossips : Gossips before start
   pub unmoved : IsUnmoved before start
   pub full : IsTrue made → SomeRose count.gossip_fulls count_start.gossip_fulls
+  pub no_room : IsTrue made → IsFirstBack start room
 
 -- a round in which nothing went out leaves all as it was but for what came back
-round_starts : (sent : ℕ) (before start : Lists) (count count_start : Counts) → (0 < sent → ⊥)
-    → Rounds {E = NoMemory} (Ok sent) before start count count_start → 1 ≤ dirty before.state
+round_starts : (sent : ℕ) (before start : Lists) (count count_start : Counts) (room : ℕ → List Bool → Type 0) → (0 < sent → ⊥)
+    → Rounds {E = NoMemory} (Ok sent) before start count count_start room → 1 ≤ dirty before.state
     → length before.state.changed ≡ length before.told → length start.told ≡ length before.told → length start.state.changed ≡ length start.told
-    → length count.gossip_fulls ≡ length before.told → Started before start true count count_start
-round_starts sent before start count count_start none (gossips, back, tried, sent_is, since) some as_many long as_many_now fulls =
+    → length count.gossip_fulls ≡ length before.told → Started before start true count count_start room
+round_starts sent before start count count_start room none (gossips, back, have, tried, sent_is, since) some as_many long as_many_now fulls =
     let none_sent : batches gossips.tries ≡ 0 = omega (arith, sent_is, none_below none) in
     let same = nothing_sent before start gossips none_sent long (as_many_now ∙ long ∙ sym as_many) as_many in
     let blocked = blocked_full before start gossips tried none_sent some as_many in
@@ -202,54 +208,75 @@ round_starts sent before start count count_start none (gossips, back, tried, sen
         told = same.0 j;
       });
       full = λ made. (blocked.0, omega (arith, blocked.1, fulls), back blocked.0 blocked.1 blocked.2);
+      no_room = λ made place low left.
+          let there : place < length before.told = omega (arith, low, long) in
+          let keys : changed_of start.state place ≡ changed_of before.state place = ap (λ changed. slice_index_or changed place []) same.1 in
+          first_back place (slice_index_or gossips.tries place []) (none_to_each gossips.tries none_sent place)
+          (omega (arith, tried place there, some_keys (changed_of before.state place) (λ none. left (keys ∙ none)))) (have place there);
     }
   where
+    some_keys : (keys : List ℕ) → keys ≢ [] → 1 ≤ length keys
+    some_keys [] some = absurd (some refl)
+    some_keys (key ∷ keys) some = omega arith
+
+    first_back : (place : ℕ) (tries : List Bool) → length (filter (λ went. went) tries) ≡ 0 → 1 ≤ length tries → room place tries → (rest : List Bool) × room place (false ∷ rest)
+    first_back place [] none some has = absurd (omega (arith, some))
+    first_back place (true ∷ rest) none some has = absurd (omega (arith, none))
+    first_back place (false ∷ rest) none some has = (rest, has)
+
     none_below : (0 < sent → ⊥) → sent ≡ 0
     none_below none = elim (cases_lt 0 sent) [ inl some ↦ absurd (none some) | inr none ↦ omega (arith, none) ]
 
-pub starts : (made : Bool) (result : Result ℕ NoMemory) (sent : ℕ) (before start : Lists) (count count_start : Counts) → result ≡ Ok sent → (0 < sent → ⊥)
-    → RoundsIf made result before start count count_start → (IsTrue made → 1 ≤ dirty before.state)
+pub starts : (made : Bool) (result : Result ℕ NoMemory) (sent : ℕ) (before start : Lists) (count count_start : Counts) (room : ℕ → List Bool → Type 0) → result ≡ Ok sent → (0 < sent → ⊥)
+    → RoundsIf made result before start count count_start room → (IsTrue made → 1 ≤ dirty before.state)
     → length before.state.changed ≡ length before.told → length start.told ≡ length before.told → length start.state.changed ≡ length start.told
-    → length count.gossip_fulls ≡ length before.told → Started before start made count count_start
-starts true result sent before start count count_start is none round some as_many long as_many_now fulls =
-    round_starts sent before start count count_start none (subst (λ result. Rounds result before start count count_start) is round) (some refl) as_many long as_many_now fulls
-starts false result sent before start count count_start is none same some as_many long as_many_now fulls = record {
+    → length count.gossip_fulls ≡ length before.told → Started before start made count count_start room
+starts true result sent before start count count_start room is none round some as_many long as_many_now fulls =
+    round_starts sent before start count count_start room none (subst (λ result. Rounds result before start count count_start room) is round) (some refl) as_many long as_many_now fulls
+starts false result sent before start count count_start room is none same some as_many long as_many_now fulls = record {
   gossips = subst (Gossips before) (sym same.1) (gossips_nothing before);
   unmoved = subst (IsUnmoved before) (sym same.1) refl;
   full = λ made. absurd (false≢true made);
+  no_room = λ made. absurd (false≢true made);
 }
 
 -- none was made
-pub not_started : (made : Bool) (result : Result ℕ NoMemory) (before start : Lists) (count count_start : Counts) → RoundsIf made result before start count count_start → made ≡ false → start ≡ before
-not_started true result before start count count_start round is = absurd (true≢false is)
-not_started false result before start count count_start same is = same.1
+pub not_started : (made : Bool) (result : Result ℕ NoMemory) (before start : Lists) (count count_start : Counts) (room : ℕ → List Bool → Type 0) → RoundsIf made result before start count count_start room → made ≡ false → start ≡ before
+not_started true result before start count count_start room round is = absurd (true≢false is)
+not_started false result before start count count_start room same is = same.1
 
-pub not_counted : (made : Bool) (result : Result ℕ NoMemory) (before start : Lists) (count count_start : Counts) → RoundsIf made result before start count count_start → made ≡ false → count_start ≡ count
-not_counted true result before start count count_start round is = absurd (true≢false is)
-not_counted false result before start count count_start same is = same.2
+pub not_counted : (made : Bool) (result : Result ℕ NoMemory) (before start : Lists) (count count_start : Counts) (room : ℕ → List Bool → Type 0) → RoundsIf made result before start count count_start room → made ≡ false → count_start ≡ count
+not_counted true result before start count count_start room round is = absurd (true≢false is)
+not_counted false result before start count count_start room same is = same.2
+
+-- a round that was made where none was due, by the room that the senders had at first
+pub rounds_at_first : (due left : Bool) (result : Result ℕ NoMemory) (before now : Lists) (count count_now : Counts) (room room_first : ℕ → List Bool → Type 0)
+    → (IsTrue left → due ≡ false) → (due ≡ false → room ≡ room_first) → RoundsIf left result before now count count_now room → RoundsIf left result before now count count_now room_first
+rounds_at_first due true result before now count count_now room room_first tried same round = subst (RoundsIf true result before now count count_now) (same (tried refl)) round
+rounds_at_first due false result before now count count_now room room_first tried same round = round
 
 -- a round in which a batch went out
-pub round_turns : (made : Bool) (result : Result ℕ NoMemory) (sent : ℕ) (before now : Lists) (count count_now : Counts) → result ≡ Ok sent → 0 < sent
-    → RoundsIf made result before now count count_now → (gossips : Gossips before now) × (1 ≤ batches gossips.tries)
-round_turns true result sent before now count count_now is some round = by_sent (subst (λ result. Rounds result before now count count_now) is round)
+pub round_turns : (made : Bool) (result : Result ℕ NoMemory) (sent : ℕ) (before now : Lists) (count count_now : Counts) (room : ℕ → List Bool → Type 0) → result ≡ Ok sent → 0 < sent
+    → RoundsIf made result before now count count_now room → (gossips : Gossips before now) × (1 ≤ batches gossips.tries) × HaveRoom before gossips.tries room
+round_turns true result sent before now count count_now room is some round = by_sent (subst (λ result. Rounds result before now count count_now room) is round)
   where
-    by_sent : Rounds {E = NoMemory} (Ok sent) before now count count_now → (gossips : Gossips before now) × (1 ≤ batches gossips.tries)
-    by_sent (gossips, back, tried, sent_is, since) = (gossips, omega (arith, sent_is, some))
-round_turns false result sent before now count count_now is some same = absurd (omega (arith, ok_same sent 0 (sym is ∙ same.0), some))
+    by_sent : Rounds {E = NoMemory} (Ok sent) before now count count_now room → (gossips : Gossips before now) × (1 ≤ batches gossips.tries) × HaveRoom before gossips.tries room
+    by_sent (gossips, back, have, tried, sent_is, since) = (gossips, omega (arith, sent_is, some), have)
+round_turns false result sent before now count count_now room is some same = absurd (omega (arith, ok_same sent 0 (sym is ∙ same.0), some))
 
 -- a round that met want of memory
-pub round_lacks : (made : Bool) (result : Result ℕ NoMemory) (error : NoMemory) (before now : Lists) (count count_now : Counts) → result ≡ Err error
-    → RoundsIf made result before now count count_now → Gossips before now
-round_lacks true result error before now count count_now is round = by_error (subst (λ result. Rounds result before now count count_now) is round)
+pub round_lacks : (made : Bool) (result : Result ℕ NoMemory) (error : NoMemory) (before now : Lists) (count count_now : Counts) (room : ℕ → List Bool → Type 0) → result ≡ Err error
+    → RoundsIf made result before now count count_now room → Gossips before now
+round_lacks true result error before now count count_now room is round = by_error (subst (λ result. Rounds result before now count count_now room) is round)
   where
-    by_error : Rounds {E = NoMemory} (Err error) before now count count_now → Gossips before now
-    by_error (gossips, back, since) = gossips
-round_lacks false result error before now count count_now is same = absurd (ok_is_no_err 0 error (sym same.0 ∙ is))
+    by_error : Rounds {E = NoMemory} (Err error) before now count count_now room → Gossips before now
+    by_error (gossips, back, have, since) = gossips
+round_lacks false result error before now count count_now room is same = absurd (ok_is_no_err 0 error (sym same.0 ∙ is))
 
 -- a round was made where a batch went out, or memory was wanting
-pub was_made : (made : Bool) (result : Result ℕ NoMemory) (before now : Lists) (count count_now : Counts) → RoundsIf made result before now count count_now → (result ≡ Ok 0 → ⊥) → made ≡ true
-was_made true result before now count count_now round some = refl
-was_made false result before now count count_now same some = absurd (some same.0)
+pub was_made : (made : Bool) (result : Result ℕ NoMemory) (before now : Lists) (count count_now : Counts) (room : ℕ → List Bool → Type 0) → RoundsIf made result before now count count_now room → (result ≡ Ok 0 → ⊥) → made ≡ true
+was_made true result before now count count_now room round some = refl
+was_made false result before now count count_now room same some = absurd (some same.0)
 
 pub some_sent : (sent : ℕ) → 0 < sent → the_ok sent ≡ the_ok 0 → ⊥
 some_sent sent some is = absurd (omega (arith, ok_same sent 0 is, some))
@@ -263,17 +290,28 @@ unmoved_through before between now first then' =
     then' ∙ (λ j. record (first j) { state = record ((first j).state) { turned = now.state.turned; since = now.state.since } })
 
 -- keys are left to tell, so a batch came back: in the round that was due, or in the last one
-pub left_full : (due left : Bool) (resent told now : Lists) (count_resent count_told count_asked count_now : Counts) (result : Result ℕ NoMemory)
-    → Started resent told due count_resent count_told → Started told now left count_asked count_now → RoundsIf left result told now count_asked count_now
+pub left_full : (due left : Bool) (resent told now : Lists) (count_resent count_told count_asked count_now : Counts) (room : ℕ → List Bool → Type 0) (result : Result ℕ NoMemory)
+    → Started resent told due count_resent count_told room → Started told now left count_asked count_now room → RoundsIf left result told now count_asked count_now room
     → (IsTrue left → due ≡ false) → (left ≡ false → due ≡ false → dirty told.state ≡ 0)
     → count_asked.gossip_fulls ≡ count_told.gossip_fulls → (due ≡ false → count_told.gossip_fulls ≡ count_resent.gossip_fulls)
     → 1 ≤ dirty now.state → SomeRose count_resent.gossip_fulls count_now.gossip_fulls
-left_full true true resent told now count_resent count_told count_asked count_now result first last round tried clean same not_due some = absurd (true≢false (tried refl))
-left_full true false resent told now count_resent count_told count_asked count_now result first last round tried clean same not_due some =
+left_full true true resent told now count_resent count_told count_asked count_now room result first last round tried clean same not_due some = absurd (true≢false (tried refl))
+left_full true false resent told now count_resent count_told count_asked count_now room result first last round tried clean same not_due some =
     subst (λ fulls. SomeRose count_resent.gossip_fulls fulls) (sym same ∙ sym (ap (λ (count : Counts). count.gossip_fulls) round.2)) (first.full refl)
-left_full false true resent told now count_resent count_told count_asked count_now result first last round tried clean same not_due some =
+left_full false true resent told now count_resent count_told count_asked count_now room result first last round tried clean same not_due some =
     subst (λ fulls. SomeRose fulls count_now.gossip_fulls) (same ∙ not_due refl) (last.full refl)
-left_full false false resent told now count_resent count_told count_asked count_now result first last round tried clean same not_due some =
+left_full false false resent told now count_resent count_told count_asked count_now room result first last round tried clean same not_due some =
+    absurd (omega (arith, some, clean refl refl, ap (λ (lists : Lists). dirty lists.state) last.unmoved))
+
+-- and so the first batch to each mate that is left to tell came back
+pub left_first_back : (due left : Bool) (resent told now : Lists) (count_resent count_told count_asked count_now : Counts) (room : ℕ → List Bool → Type 0) (result : Result ℕ NoMemory)
+    → Started resent told due count_resent count_told room → Started told now left count_asked count_now room → RoundsIf left result told now count_asked count_now room
+    → (IsTrue left → due ≡ false) → (left ≡ false → due ≡ false → dirty told.state ≡ 0) → 1 ≤ dirty now.state → IsFirstBack now room
+left_first_back true true resent told now count_resent count_told count_asked count_now room result first last round tried clean some = absurd (true≢false (tried refl))
+left_first_back true false resent told now count_resent count_told count_asked count_now room result first last round tried clean some =
+    subst (λ lists. IsFirstBack lists room) (sym round.1) (first.no_room refl)
+left_first_back false true resent told now count_resent count_told count_asked count_now room result first last round tried clean some = last.no_room refl
+left_first_back false false resent told now count_resent count_told count_asked count_now room result first last round tried clean some =
     absurd (omega (arith, some, clean refl refl, ap (λ (lists : Lists). dirty lists.state) last.unmoved))
 
 -- the reply that is held came back
@@ -284,14 +322,22 @@ held_full before now replied replied_now fulls fulls_now false is (same, still, 
 held_full before now replied replied_now fulls fulls_now false is (same, still, inr (session, reply, was, low, rose)) some = (session - 1, low, rose)
 
 -- nothing was found to do
-pub rests_turns : (before now : Lists) (count count_now : Counts) → IsUnmoved before now → now.state.kept ≡ None
+pub rests_turns : (before now : Lists) (count count_now : Counts) (room : ℕ → List Bool → Type 0) → IsUnmoved before now → now.state.kept ≡ None
     → Rose count.gossip.nones count_now.gossip.nones
     → IsTrue (is_some now.state.held) ⊎ Rose count.requests.nones count_now.requests.nones
     → (1 ≤ dirty now.state → SomeRose count.gossip_fulls count_now.gossip_fulls)
     → (IsTrue (is_some now.state.held) → SomeRose count.reply_fulls count_now.reply_fulls)
-    → Turns {E = NoMemory} (Ok (rests_as now.state)) before now count count_now
-rests_turns before now count count_now unmoved none_kept no_gossip no_request back held_back = by_dirty (cases_lt 0 (dirty now.state))
+    → (1 ≤ dirty now.state → IsFirstBack now room) → length now.told ≡ length before.told
+    → Turns {E = NoMemory} (Ok (rests_as now.state)) before now count count_now room
+rests_turns before now count count_now room unmoved none_kept no_gossip no_request back held_back no_room long = by_dirty (cases_lt 0 (dirty now.state))
   where
+    -- a mate that is left to tell makes the changeset dirty
+    dirty_at : (place : ℕ) → changed_of now.state place ≢ [] → 1 ≤ dirty now.state
+    dirty_at place some = elim (cases_lt 0 (dirty now.state)) [
+      | inl dirties ↦ omega (arith, dirties)
+      | inr none ↦ absurd (some (clean_at_each now.state (omega (arith, none)) place))
+    ]
+
     someone : (held : Option (ℕ × PlainReply)) → IsTrue (is_some held) → (value : ℕ × PlainReply) × (held ≡ Some value)
     someone None is = absurd (false≢true is)
     someone (Some value) is = (value, refl)
@@ -306,17 +352,24 @@ rests_turns before now count count_now unmoved none_kept no_gossip no_request ba
     no_request_of (inr rose) = inl rose
 
     blocked : (1 ≤ dirty now.state) ⊎ ((held : ℕ × PlainReply) × (now.state.held ≡ Some held)) → SomeRose count.reply_fulls count_now.reply_fulls ⊎ SomeRose count.gossip_fulls count_now.gossip_fulls
-        → IsBlocked before now count count_now
-    blocked left full = record { unmoved = unmoved; left = left; no_gossip = no_gossip; no_request = no_request_of no_request; full = full }
+        → IsBlocked before now count count_now room
+    blocked left full = record {
+      unmoved = unmoved;
+      left = left;
+      no_gossip = no_gossip;
+      no_request = no_request_of no_request;
+      full = full;
+      no_room = λ place low some. no_room (dirty_at place some) place (omega (arith, low, long)) some;
+    }
 
-    as_blocked : rests_as now.state ≡ did.Blocked → IsBlocked before now count count_now → Turns {E = NoMemory} (Ok (rests_as now.state)) before now count count_now
-    as_blocked is blocks = subst (λ did. Turns {E = NoMemory} (Ok did) before now count count_now) (sym is) blocks
+    as_blocked : rests_as now.state ≡ did.Blocked → IsBlocked before now count count_now room → Turns {E = NoMemory} (Ok (rests_as now.state)) before now count count_now room
+    as_blocked is blocks = subst (λ did. Turns {E = NoMemory} (Ok did) before now count count_now room) (sym is) blocks
 
-    by_held : dirty now.state ≡ 0 → (is : Bool) → is_some now.state.held ≡ is → Turns {E = NoMemory} (Ok (rests_as now.state)) before now count count_now
+    by_held : dirty now.state ≡ 0 → (is : Bool) → is_some now.state.held ≡ is → Turns {E = NoMemory} (Ok (rests_as now.state)) before now count count_now room
     by_held clean true is =
         as_blocked ((λ j. if ltb 0 (clean j) || is j then did.Blocked else did.Idle)) (blocked (inr (someone now.state.held is)) (inl (held_back is)))
     by_held clean false is =
-        subst (λ did. Turns {E = NoMemory} (Ok did) before now count count_now) (sym idle) idles
+        subst (λ did. Turns {E = NoMemory} (Ok did) before now count count_now room) (sym idle) idles
       where
         idle : rests_as now.state ≡ did.Idle
         idle = λ j. if ltb 0 (clean j) || is j then did.Blocked else did.Idle
@@ -328,7 +381,7 @@ rests_turns before now count count_now unmoved none_kept no_gossip no_request ba
         idles : IsIdle before now count count_now
         idles = record { unmoved = unmoved; no_gossip = no_gossip; no_request = rose_of no_request; clean = clean; none_held = none_of now.state.held is; none_kept = none_kept }
 
-    by_dirty : (0 < dirty now.state) ⊎ (dirty now.state ≤ 0) → Turns {E = NoMemory} (Ok (rests_as now.state)) before now count count_now
+    by_dirty : (0 < dirty now.state) ⊎ (dirty now.state ≤ 0) → Turns {E = NoMemory} (Ok (rests_as now.state)) before now count count_now room
     by_dirty (inl some) = as_blocked (λ j. if is_dirty j || is_some now.state.held then did.Blocked else did.Idle) (blocked (inl (omega (arith, some))) (inr (back (omega (arith, some)))))
       where
         is_dirty : ltb 0 (dirty now.state) ≡ true

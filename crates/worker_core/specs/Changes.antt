@@ -1,5 +1,5 @@
 -- The changeset: for each mate the keys that changed since the mate was last told of them.
-use Rattle.std.specs.Prelude.{◌<◌, ◌≤◌, ◌==◌, ℕ, IsTrue, ltb, if◌then◌else◌, List, [], ◌∷◌, All}
+use Rattle.std.specs.Prelude.{◌≤◌, ◌==◌, ℕ, IsTrue, ltb, if◌then◌else◌, List, [], ◌∷◌, All}
 use Rattle.merge_world.specs.World.{is_ascending}
 
 -- keys, each one of so many, numbered from 1

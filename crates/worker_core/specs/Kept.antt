@@ -1,5 +1,5 @@
 -- What a worker keeps from call to call: its share, how far gossip lags, and beside them what the two rest on.
-use Rattle.std.specs.Prelude.{◌≡◌, ◌≢◌, ℕ, ◌+◌, ◌<◌, ◌≤◌, ◌^◌, IsTrue, List, [], All, Contains, length, Option, Some, None, ⊤}
+use Rattle.std.specs.Prelude.{◌≡◌, ◌≢◌, ℕ, ◌+◌, ◌<◌, ◌≤◌, ◌^◌, IsTrue, [], All, Contains, length, Option, Some, None, ⊤}
 use Rattle.clock_lattice.specs.Clock.{covers}
 use Rattle.composed_value.specs.Cell.{IsCell}
 use Rattle.composed_value.specs.Put.{IsPut}

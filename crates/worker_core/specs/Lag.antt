@@ -7,7 +7,7 @@ use Rattle.composed_value.specs.Kind.{kind_of}
 use Rattle.composed_value.specs.declared.put.Put.{Put}
 use Rattle.store_msg.specs.declared.request.Request.TheVariants as requests
 use Rattle.worker_core.specs.Share.{mate_lives_at, told_on, told_to}
-use Rattle.worker_core.specs.State.{Lists, State, lives_at}
+use Rattle.worker_core.specs.State.{Lists, lives_at}
 
 -- the request at a place, from 0, is a put that changes a key
 pub record IsPutAt (lists : Lists) (place key : ℕ) (put : Put) : Type 0 where

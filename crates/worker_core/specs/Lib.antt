@@ -3,6 +3,8 @@ pub mod Changes
 pub mod Lag
 pub mod Local
 pub mod Kept
+pub mod Parcels
+pub mod Room
 pub mod Sealed
 pub mod Sending
 pub mod Serving

@@ -1,5 +1,5 @@
 -- One of several senders sends.
-use Rattle.std.specs.Prelude.{◌≡◌, ◌≢◌, ◌⊎◌, ℕ, ◌≤◌, List, [], ◌∷◌, ◌++◌, length, slice_index_or, slice_set, Option, Some, None, Result, Ok, Err}
+use Rattle.std.specs.Prelude.{◌≡◌, ◌≢◌, ℕ, ◌≤◌, List, [], ◌∷◌, ◌++◌, slice_index_or, slice_set, Result, Ok, Err}
 use Rattle.lattice_laws.specs.Counts.{Rose}
 use Rattle.mail_contract.specs.declared.Refused.{Refused}
 use Rattle.mail_contract.specs.declared.Refused.TheVariants.{NoMemory, Full}

@@ -82,9 +82,9 @@ since_after since (Ok sent) = 0
 since_after since (Err error) = since
 
 -- a round, or none
-abbrev pub RoundsIf : {E : Type 0} → Bool → Result ℕ E → Lists → Lists → Counts → Counts → Type 0
-RoundsIf true result before now count count_now = Rounds result before now count count_now
-RoundsIf false result before now count count_now = (result ≡ Ok 0) × (now ≡ before) × (count_now ≡ count)
+abbrev pub RoundsIf : {E : Type 0} → Bool → Result ℕ E → Lists → Lists → Counts → Counts → (ℕ → List Bool → Type 0) → Type 0
+RoundsIf true result before now count count_now room = Rounds result before now count count_now room
+RoundsIf false result before now count count_now room = (result ≡ Ok 0) × (now ≡ before) × (count_now ≡ count)
 
 -- what a turn did that found nothing to do
 abbrev pub rests_as : State → Did

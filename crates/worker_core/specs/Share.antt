@@ -1,5 +1,5 @@
 -- A worker's share of the store: what it holds, replies and tells, by what its own boxes received. No other party is spoken of.
-use Rattle.std.specs.Prelude.{◌≡◌, ◌≢◌, ◌==◌, ◌&&◌, ◌⊎◌, ℕ, ◌+◌, ◌-◌, ◌<◌, ◌≤◌, Bool, true, false, IsTrue, leb, if◌then◌else◌, List, [], ◌∷◌, ◌++◌, All, AllPairs, Contains, filter, is_some, length, map, slice_index_or, Option, Some, None, ⊤}
+use Rattle.std.specs.Prelude.{◌≡◌, ◌≢◌, ◌==◌, ◌&&◌, ◌⊎◌, ℕ, ◌<◌, ◌≤◌, Bool, true, false, IsTrue, leb, if◌then◌else◌, List, [], ◌∷◌, ◌++◌, All, AllPairs, Contains, filter, is_some, length, map, slice_index_or, Option, Some, None, ⊤}
 use Rattle.std.specs.List.{AllZip, flat_map}
 use Rattle.lattice_laws.specs.Joins.{joined_all}
 use Rattle.clock_lattice.specs.Clock.{covers}

@@ -12,7 +12,7 @@ pub record DifferAt {A : Type 0} (default : A) (place : ℕ) (before now : List 
   pub others : (other : ℕ) → other ≢ place → slice_index_or now other default ≡ slice_index_or before other default
 
 -- A mate was told, by the answer: how many batches went out.
-pub record TellsOne {E : Type 0} (result : Result ℕ E) (cells : List (Option KeyCells)) (taken : ℕ) (keys keys_now : List ℕ) (batches batches_now : List Entries) (back back_now fulls fulls_now : ℕ) : Type 0 where
+pub record TellsOne {E : Type 0} (result : Result ℕ E) (cells : List (Option KeyCells)) (taken : ℕ) (keys keys_now : List ℕ) (batches batches_now : List Entries) (back back_now fulls fulls_now : ℕ) (room : List Bool → Type 0) : Type 0 where
   pub tries : List Bool
   pub mate : ToldMate cells taken tries keys keys_now batches batches_now back back_now
   pub all : OnOk result (length keys ≤ 16 * length tries)
@@ -20,9 +20,10 @@ pub record TellsOne {E : Type 0} (result : Result ℕ E) (cells : List (Option K
   -- a batch came back only where the count of the sender rose
   pub full : IsTrue (list_any not tries) → Rose fulls fulls_now
   pub never_falls : fulls ≤ fulls_now
+  pub has_room : room tries
 
 -- The mates were told, by the answer: how many batches went out. Where memory was wanting some were not.
-pub record TellsAll {E : Type 0} (result : Result ℕ E) (cells : List (Option KeyCells)) (taken : ℕ) (changed changed_now : List (List ℕ)) (told told_now : List (List Entries)) (turned turned_now fulls fulls_now : List ℕ) : Type 0 where
+pub record TellsAll {E : Type 0} (result : Result ℕ E) (cells : List (Option KeyCells)) (taken : ℕ) (changed changed_now : List (List ℕ)) (told told_now : List (List Entries)) (turned turned_now fulls fulls_now : List ℕ) (room : ℕ → List Bool → Type 0) : Type 0 where
   pub tries : List (List Bool)
   pub mates : length tries ≤ length told
   pub same_changed : length changed_now ≡ length changed
@@ -36,3 +37,4 @@ pub record TellsAll {E : Type 0} (result : Result ℕ E) (cells : List (Option K
   pub sent : IfOk result (λ sent. sent ≡ batches tries)
   pub full : (place : ℕ) → place < length told → IsTrue (list_any not (slice_index_or tries place [])) → Rose (slice_index_or fulls place 0) (slice_index_or fulls_now place 0)
   pub never_fall : (place : ℕ) → place < length told → slice_index_or fulls place 0 ≤ slice_index_or fulls_now place 0
+  pub have_room : (place : ℕ) → place < length told → room place (slice_index_or tries place [])

@@ -1,5 +1,5 @@
 -- What a worker does in a call, and why it answers what it answers.
-use Rattle.std.specs.Prelude.{◌≡◌, ◌⊎◌, ◌&&◌, ◌==◌, ℕ, ◌+◌, ◌-◌, ◌*◌, ◌<◌, ◌≤◌, ◌^◌, Bool, true, false, IsTrue, leb, not, min, if◌then◌else◌, List, [], ◌∷◌, ◌++◌, drop, filter, length, map, slice_index_or, slice_set, sum_by, take, Option, Some, None, Result, Ok, Err, ⊤}
+use Rattle.std.specs.Prelude.{◌≡◌, ◌≢◌, ◌⊎◌, ◌&&◌, ◌==◌, ℕ, ◌+◌, ◌-◌, ◌*◌, ◌<◌, ◌≤◌, ◌^◌, Bool, true, false, IsTrue, leb, not, min, if◌then◌else◌, List, [], ◌∷◌, ◌++◌, drop, filter, length, map, slice_index_or, slice_set, sum_by, take, Option, Some, None, Result, Ok, Err, ⊤}
 use Rattle.std.specs.List.{list_any}
 use Rattle.lattice_laws.specs.Counts.{Rose}
 use Rattle.composed_value.specs.Kind.{kind_of, kind_of_value}
@@ -162,12 +162,18 @@ BackOnlyWhereFull before tries count count_now =
     (place : ℕ) → place < length before.told → IsTrue (list_any not (slice_index_or tries place []))
     → Rose (slice_index_or count.gossip_fulls place 0) (slice_index_or count_now.gossip_fulls place 0)
 
+-- and what the room of each sender says of its tries
+abbrev pub HaveRoom : Lists → List (List Bool) → (ℕ → List Bool → Type 0) → Type 0
+HaveRoom before tries room = (place : ℕ) → place < length before.told → room place (slice_index_or tries place [])
+
 -- A round: what it answers.
-abbrev pub Rounds : {E : Type 0} → Result ℕ E → Lists → Lists → Counts → Counts → Type 0
-Rounds (Ok sent) before now count count_now =
-    (gossips : Gossips before now) × BackOnlyWhereFull before gossips.tries count count_now × AllTried before gossips.tries × (sent ≡ batches gossips.tries) × (now.state.since ≡ 0)
-Rounds (Err error) before now count count_now =
-    (gossips : Gossips before now) × BackOnlyWhereFull before gossips.tries count count_now × (now.state.since ≡ before.state.since)
+abbrev pub Rounds : {E : Type 0} → Result ℕ E → Lists → Lists → Counts → Counts → (ℕ → List Bool → Type 0) → Type 0
+Rounds (Ok sent) before now count count_now room =
+    (gossips : Gossips before now) × BackOnlyWhereFull before gossips.tries count count_now × HaveRoom before gossips.tries room
+    × AllTried before gossips.tries × (sent ≡ batches gossips.tries) × (now.state.since ≡ 0)
+Rounds (Err error) before now count count_now room =
+    (gossips : Gossips before now) × BackOnlyWhereFull before gossips.tries count count_now × HaveRoom before gossips.tries room
+    × (now.state.since ≡ before.state.since)
 
 -- at some place a count rose
 abbrev pub SomeRose : List ℕ → List ℕ → Type 0
@@ -179,12 +185,14 @@ IsUnmoved before now = now ≡ record before { state = record before.state { tur
 
 -- Nothing could be done for want of a place: no gossip was found and no request, or none was looked for since a reply is held; each send of
 -- the call came back.
-pub record IsBlocked (before now : Lists) (count count_now : Counts) : Type 0 where
+pub record IsBlocked (before now : Lists) (count count_now : Counts) (room : ℕ → List Bool → Type 0) : Type 0 where
   pub unmoved : IsUnmoved before now
   pub left : (1 ≤ dirty now.state) ⊎ ((held : ℕ × PlainReply) × (now.state.held ≡ Some held))
   pub no_gossip : Rose count.gossip.nones count_now.gossip.nones
   pub no_request : Rose count.requests.nones count_now.requests.nones ⊎ ((held : ℕ × PlainReply) × (now.state.held ≡ Some held))
   pub full : SomeRose count.reply_fulls count_now.reply_fulls ⊎ SomeRose count.gossip_fulls count_now.gossip_fulls
+  -- to each mate that is left to tell the first batch came back
+  pub no_room : (place : ℕ) → place < length before.told → changed_of now.state place ≢ [] → (tries : List Bool) × room place (false ∷ tries)
 
 -- There is nothing to do.
 pub record IsIdle (before now : Lists) (count count_now : Counts) : Type 0 where
@@ -219,13 +227,13 @@ pub record Lacks (before now : Lists) : Type 0 where
   pub kept : (now ≡ told) ⊎ (KeepsRequest told now ⊎ KeepsBatch told now)
 
 -- What a turn does, by its answer.
-abbrev pub Turns : {E : Type 0} → Result Did E → Lists → Lists → Counts → Counts → Type 0
-Turns (Ok did.Request) before now count count_now = ((session : ℕ) × (request : Request) × Serves session request before now) ⊎ HandsOver before now
-Turns (Ok did.Gossip) before now count count_now = HearsSome before now count count_now
-Turns (Ok did.Round) before now count count_now = (gossips : Gossips before now) × (1 ≤ batches gossips.tries)
-Turns (Ok did.Blocked) before now count count_now = IsBlocked before now count count_now
-Turns (Ok did.Idle) before now count count_now = IsIdle before now count count_now
-Turns (Err error) before now count count_now = Lacks before now
+abbrev pub Turns : {E : Type 0} → Result Did E → Lists → Lists → Counts → Counts → (ℕ → List Bool → Type 0) → Type 0
+Turns (Ok did.Request) before now count count_now room = ((session : ℕ) × (request : Request) × Serves session request before now) ⊎ HandsOver before now
+Turns (Ok did.Gossip) before now count count_now room = HearsSome before now count count_now
+Turns (Ok did.Round) before now count count_now room = (gossips : Gossips before now) × (1 ≤ batches gossips.tries) × HaveRoom before gossips.tries room
+Turns (Ok did.Blocked) before now count count_now room = IsBlocked before now count count_now room
+Turns (Ok did.Idle) before now count count_now room = IsIdle before now count count_now
+Turns (Err error) before now count count_now room = Lacks before now
 
 -- what was turned back changes for a mate only where the count of its sender rose
 abbrev pub TurnsOnlyWhereFull : Lists → Lists → Counts → Counts → Type 0

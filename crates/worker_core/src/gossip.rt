@@ -1,6 +1,7 @@
 //! Gossip: a worker tells its mates what changed.
-ghost use Rattle.std.specs.Prelude.{◌≡◌, ℕ, ◌<◌, ◌≤◌, ◌+◌, ◌*◌, ◌^◌, Bool, List, [], length, map, slice_index_or, slice_set, ◌++◌, ◌∷◌, IfOk, OnOk, OnErr};
+ghost use Rattle.std.specs.Prelude.{◌≡◌, ◌≢◌, ℕ, ◌<◌, ◌≤◌, ◌+◌, ◌*◌, ◌^◌, Bool, List, [], length, map, slice_get, slice_index_or, slice_set, ◌++◌, ◌∷◌, IfOk, OnOk, OnErr};
 ghost use Rattle.merge_world.specs.Effects.{tells};
+ghost use Rattle.worker_core.specs.Room.{RoomAt};
 ghost use Rattle.worker_core.specs.Telling.{DifferAt, TellsAll, TellsOne};
 
 use crate::changeset::Changeset;
@@ -63,13 +64,16 @@ fn tell_mate<O: Tx<Batch>>(
     ensures turned_others { DifferAt 0 mate turned.old.items turned.new.items }
     ensures fulls_others { DifferAt 0 mate
         (map O.fulls senders.old.items) (map O.fulls senders.new.items) }
+    ensures senders_others { (other : ℕ) → other ≢ mate
+        → slice_get senders.new.items other ≡ slice_get senders.old.items other }
     ensures tells { TellsOne result cells.now taken
         (slice_index_or changes.old.of_mates mate []) (slice_index_or changes.new.of_mates mate [])
         (slice_index_or (map O.sent senders.old.items) mate [])
         (slice_index_or (map O.sent senders.new.items) mate [])
         (slice_index_or turned.old.items mate 0) (slice_index_or turned.new.items mate 0)
         (slice_index_or (map O.fulls senders.old.items) mate 0)
-        (slice_index_or (map O.fulls senders.new.items) mate 0) }
+        (slice_index_or (map O.fulls senders.new.items) mate 0)
+        (RoomAt O.clear O.roomy O.unseen senders.old.items mate) }
     ensures few { IfOk result (λ sent. sent ≤ changes.old.most) }
     ensures small { IfOk result (λ sent. sent < 2 ^ 16) }
 {
@@ -113,7 +117,8 @@ pub(crate) fn gossip<O: Tx<Batch>>(
     ensures tells { TellsAll result cells.now taken changes.old.of_mates changes.new.of_mates
         (map O.sent senders.old.items) (map O.sent senders.new.items)
         turned.old.items turned.new.items
-        (map O.fulls senders.old.items) (map O.fulls senders.new.items) }
+        (map O.fulls senders.old.items) (map O.fulls senders.new.items)
+        (RoomAt O.clear O.roomy O.unseen senders.old.items) }
 {
     let mut sent = 0;
     for mate in 0..senders.len() {

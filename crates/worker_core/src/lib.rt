@@ -6,6 +6,8 @@ mod changeset;
 mod did;
 mod gossip;
 mod local;
+mod mates;
+mod plain;
 mod popped;
 mod sealed;
 mod serve;
@@ -15,3 +17,6 @@ pub use did::Did;
 pub use popped::Popped;
 pub use sealed::{Sealed, SealedOver};
 pub use worker::{Worker, WorkerOver};
+
+#[cfg(test)]
+mod tests;

@@ -1,6 +1,7 @@
 //! Working on what was received.
-ghost use Rattle.std.specs.Prelude.{◌≡◌, ◌&&◌, ℕ, ◌<◌, ◌≤◌, ◌+◌, ◌^◌, [], ◌∷◌, if◌then◌else◌, is_some, leb, length, map, slice_index_or, min, IsTrue, None, Some, IfOk, OnOk, OnErr};
+ghost use Rattle.std.specs.Prelude.{◌≡◌, ◌≢◌, ◌&&◌, ℕ, ◌<◌, ◌≤◌, ◌+◌, ◌^◌, [], ◌∷◌, if◌then◌else◌, is_some, leb, length, map, slice_get, slice_index_or, min, IsTrue, None, Some, IfOk, OnOk, OnErr};
 ghost use Rattle.lattice_laws.specs.Counts.{one_more};
+ghost use Rattle.mail_contract.specs.Sends.{OnFull, OnSent};
 ghost use Rattle.merge_world.specs.Effects.{cells_at, takes};
 ghost use Rattle.store_msg.specs.declared.request.Request.TheVariants as requests;
 ghost use Rattle.worker_core.specs.Changes.{with_key};
@@ -182,6 +183,15 @@ pub(crate) fn post<M, T: Tx<M>>(
         (map T.sent senders.old.items) (map T.sent senders.new.items) }
     ensures fulls { FullsAfter result place
         (map T.fulls senders.old.items) (map T.fulls senders.new.items) }
+    ensures others { (other : ℕ) → other ≢ place
+        → slice_get senders.new.items other ≡ slice_get senders.old.items other }
+    ensures not_clear { OnFull result ((sender : T)
+        → slice_get senders.old.items place ≡ Some sender → T.clear sender → ⊥) }
+    ensures no_room { IsTrue T.roomy
+        → OnFull result (64 ≤ slice_index_or (map T.unseen senders.old.items) place 0) }
+    ensures unseen { IsTrue T.roomy
+        → OnSent result (slice_index_or (map T.unseen senders.new.items) place 0
+        ≡ min 64 (slice_index_or (map T.unseen senders.old.items) place 0 + 1)) }
 {
     let sender = &mut senders[place];
     sender.send(message)

@@ -5,6 +5,7 @@ ghost use Rattle.mail_contract.specs.Standing.{AllPart, IsSettled};
 ghost use Rattle.merge_world.specs.Effects.{cells_at};
 ghost use Rattle.worker_core.specs.Boxes.{FindsNothing, FindsNothingWeak, MayHandOut, MayTake, Settles, Shows, box_of, weak_box_of};
 ghost use Rattle.worker_core.specs.Lag.{Lags};
+ghost use Rattle.worker_core.specs.Room.{RoomAt};
 ghost use Rattle.worker_core.specs.Sealed.{HoldsSealed, sealed_of};
 ghost use Rattle.worker_core.specs.Serving.{Resent, RoundsIf, TakesGossip, TakesRequest, WorksOn, rests_as};
 ghost use Rattle.worker_core.specs.Share.{Share};
@@ -122,7 +123,8 @@ impl<Q: Rx<Request>, T: Tx<Reply>, O: Tx<Batch>, G: GossipRx<Batch, From = O>> W
             (lists_of Q.received T.sent O.sent G.got self.old)
             (lists_of Q.received T.sent O.sent G.got self.new)
             (counts_of Q.answers T.fulls O.fulls G.answers self.old)
-            (counts_of Q.answers T.fulls O.fulls G.answers self.new) }
+            (counts_of Q.answers T.fulls O.fulls G.answers self.new)
+            (RoomAt O.clear O.roomy O.unseen self.old.ends.gossip_out.items) }
         ensures turned { TurnsOnlyWhereFull
             (lists_of Q.received T.sent O.sent G.got self.old)
             (lists_of Q.received T.sent O.sent G.got self.new)
@@ -159,7 +161,8 @@ impl<Q: Rx<Request>, T: Tx<Reply>, O: Tx<Batch>, G: GossipRx<Batch, From = O>> W
             (lists_of Q.received T.sent O.sent G.got self.old)
             (lists_of Q.received T.sent O.sent G.got self.new)
             (counts_of Q.answers T.fulls O.fulls G.answers self.old)
-            (counts_of Q.answers T.fulls O.fulls G.answers self.new) }
+            (counts_of Q.answers T.fulls O.fulls G.answers self.new)
+            (RoomAt O.clear O.roomy O.unseen self.old.ends.gossip_out.items) }
         ensures turned { TurnsOnlyWhereFull
             (lists_of Q.received T.sent O.sent G.got self.old)
             (lists_of Q.received T.sent O.sent G.got self.new)
@@ -336,7 +339,8 @@ impl<Q: Rx<Request>, T: Tx<Reply>, O: Tx<Batch>, G: GossipRx<Batch, From = O>> W
             (lists_of Q.received T.sent O.sent G.got self.old)
             (lists_of Q.received T.sent O.sent G.got self.new)
             (counts_of Q.answers T.fulls O.fulls G.answers self.old)
-            (counts_of Q.answers T.fulls O.fulls G.answers self.new) }
+            (counts_of Q.answers T.fulls O.fulls G.answers self.new)
+            (RoomAt O.clear O.roomy O.unseen self.old.ends.gossip_out.items) }
     {
         let sent = self.tell();
         self.attest();
@@ -350,13 +354,15 @@ impl<Q: Rx<Request>, T: Tx<Reply>, O: Tx<Batch>, G: GossipRx<Batch, From = O>> W
         ensures requests { self.new.ends.requests ≡ self.old.ends.requests }
         ensures replies { self.new.ends.replies ≡ self.old.ends.replies }
         ensures gossip_in { self.new.ends.gossip_in ≡ self.old.ends.gossip_in }
+        ensures gossip_out { made ≡ false → self.new.ends.gossip_out ≡ self.old.ends.gossip_out }
         ensures asks { OnOk result (IsTrue made → MayAsk self.new.state) }
         ensures mates { length self.new.state.changed ≡ length self.new.ends.gossip_out.items }
         ensures rounds { RoundsIf made result
             (lists_of Q.received T.sent O.sent G.got self.old)
             (lists_of Q.received T.sent O.sent G.got self.new)
             (counts_of Q.answers T.fulls O.fulls G.answers self.old)
-            (counts_of Q.answers T.fulls O.fulls G.answers self.new) }
+            (counts_of Q.answers T.fulls O.fulls G.answers self.new)
+            (RoomAt O.clear O.roomy O.unseen self.old.ends.gossip_out.items) }
     {
         let _ = &self.local;
         if made { self.tell() } else { Ok(0) }
@@ -375,7 +381,8 @@ impl<Q: Rx<Request>, T: Tx<Reply>, O: Tx<Batch>, G: GossipRx<Batch, From = O>> W
             (lists_of Q.received T.sent O.sent G.got self.old)
             (lists_of Q.received T.sent O.sent G.got self.new)
             (counts_of Q.answers T.fulls O.fulls G.answers self.old)
-            (counts_of Q.answers T.fulls O.fulls G.answers self.new) }
+            (counts_of Q.answers T.fulls O.fulls G.answers self.new)
+            (RoomAt O.clear O.roomy O.unseen self.old.ends.gossip_out.items) }
     {
         let alloc = *self.local.turned.allocator();
         let told = gossip(

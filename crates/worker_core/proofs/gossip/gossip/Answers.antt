@@ -1,6 +1,6 @@
 use Rattle.std.proofs.Common.{◌∙◌, arith, refl}
 use Rattle.std.proofs.lemmas.List.{length-map}
-use Rattle.worker_core.proofs.TellingLemmas.{all_told, none_told, told_fails, told_more}
+use Rattle.worker_core.proofs.TellingLemmas.{all_told, none_told, room_stays, told_fails, told_more, untried_roomy}
 use Rattle.worker_core.proofs.gossip.gossip.Goals as goal
 
 pub loop-mate-init : goal.loop-mate-init
@@ -8,7 +8,8 @@ loop-mate-init g c = record {
   keys = refl;
   numbers = refl;
   most = refl;
-  mates = none_told _ _ _;
+  later = λ place later. refl;
+  mates = none_told _ _ _ _ (untried_roomy g.O.Tx.clear g.O.Tx.roomy g.O.Tx.unseen c.args.senders.now.items);
 }
 
 pub returns-in_err-sent-clause-tells : goal.returns-in_err-sent-clause-tells
@@ -17,7 +18,9 @@ returns-in_err-sent-clause-tells g c =
     told_fails c.loop-mate.invariant.mates
     (omega (arith, c.loop-mate-test.true, c.len-mate-end.ensures, c.args.senders.now.ok.0, length-map c.args.senders.now.items g.O.Tx.sent))
     (record { changed = one.changed_others; told = one.told_others; turned = one.turned_others; fulls = one.fulls_others })
-    one.tells c.from_residual.result c.from_residual.ensures.0
+    one.tells
+    (room_stays g.O.Tx.clear g.O.Tx.roomy g.O.Tx.unseen _ _ c.loop-mate.mate (c.loop-mate.invariant.later c.loop-mate.mate (omega arith)))
+    c.from_residual.result c.from_residual.ensures.0
 
 pub loop-mate-preserved : goal.loop-mate-preserved
 loop-mate-preserved g c =
@@ -26,11 +29,14 @@ loop-mate-preserved g c =
       keys = one.keys ∙ c.loop-mate.invariant.keys;
       numbers = one.numbers ∙ c.loop-mate.invariant.numbers;
       most = one.most ∙ c.loop-mate.invariant.most;
+      later = λ place later. one.senders_others place (omega (arith, later)) ∙ c.loop-mate.invariant.later place (omega (arith, later));
       mates =
           told_more c.loop-mate.invariant.mates
           (omega (arith, c.loop-mate-test.true, c.len-mate-end.ensures, c.args.senders.now.ok.0, length-map c.args.senders.now.items g.O.Tx.sent))
           (record { changed = one.changed_others; told = one.told_others; turned = one.turned_others; fulls = one.fulls_others })
-          one.tells c.in_ok-sent.field-0 refl one.small;
+          one.tells
+          (room_stays g.O.Tx.clear g.O.Tx.roomy g.O.Tx.unseen _ _ c.loop-mate.mate (c.loop-mate.invariant.later c.loop-mate.mate (omega arith)))
+          c.in_ok-sent.field-0 refl one.small;
     }
 
 pub returns-clause-tells : goal.returns-clause-tells

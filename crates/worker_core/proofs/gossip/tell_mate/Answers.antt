@@ -1,7 +1,7 @@
 use Rattle.std.proofs.Common.{◌≡◌, ◌∙◌, ◌-◌, ◌<◌, ℕ, List, [], ap, arith, length, refl, slice_index_or, subst, sym, Err}
 use Rattle.std.proofs.lemmas.List.{get_or-set_same, length-map}
 use Rattle.worker_core.specs.Changes.{PlainChanges}
-use Rattle.worker_core.proofs.TellingLemmas.{IsNext, IsTellingMate, fewer_left, found_full, found_no_memory, mate_begins, mate_refused, mate_unmoved, mate_went, mates_of, telling_ends, telling_fails}
+use Rattle.worker_core.proofs.TellingLemmas.{IsNext, IsTellingMate, StandsAt, fewer_left, found_full, found_no_memory, mate_begins, mate_refused, mate_unmoved, mate_went, mates_of, stands_back, stands_first, stands_roomy, stands_went, telling_ends, telling_fails, where_full}
 use Rattle.worker_core.proofs.gossip.tell_mate.Given.{Over}
 use Rattle.worker_core.proofs.gossip.tell_mate.Goals as goal
 use Rattle.worker_core.proofs.gossip.tell_mate.Goals.{Joined-post, in-Err-Full, in-Ok}
@@ -21,6 +21,7 @@ next g c =
 after_post : (g : Over) (c : Joined-post g)
     → (c.match-post.changes.most ≡ c.args.changes.now.most)
     × IsTellingMate c.args.cells.now c.args.taken c.args.changes.now.most c.args.mate c.match-post.from c.match-post.sent
+    (StandsAt g.O.Tx.clear g.O.Tx.roomy g.O.Tx.unseen c.args.senders.now.items c.post.new.senders.items c.args.mate)
     (mates_of g.O.Tx.sent g.O.Tx.fulls c.args.changes.now c.args.turned.now.items c.args.senders.now.items)
     (mates_of g.O.Tx.sent g.O.Tx.fulls c.match-post.changes c.match-post.turned.items c.post.new.senders.items)
 after_post g c =
@@ -35,7 +36,10 @@ after_post g c =
             (ap (λ changes. changes.of_mates) w.changes-is ∙ w.clear.ensures.keys)
             w.in-Ok.ensures.sent
             (ap (λ turned. turned.items) w.turned-is)
-            w.in-Ok.ensures.fulls,
+            w.in-Ok.ensures.fulls
+            (λ tries stands.
+            stands_went g.O.Tx.clear g.O.Tx.roomy g.O.Tx.unseen c.args.senders.now.items c.loop-from.senders.items c.args.mate tries stands
+            c.post.new.senders.items w.in-Ok.ensures.unseen),
       )
       | in-Err-Full w ↦
           let refused = w.in-Err-Full in
@@ -52,7 +56,11 @@ after_post g c =
                 full.0
                 (ap (λ turned. turned.items) w.turned-is)
                 (length-map now g.O.Tx.fulls ∙ same_length ∙ sym (length-map were g.O.Tx.fulls))
-                full.1 full.2 full.3,
+                full.1 full.2 full.3
+                (λ tries stands.
+                stands_back g.O.Tx.clear g.O.Tx.roomy g.O.Tx.unseen c.args.senders.now.items were c.args.mate tries stands now
+                (where_full (Unit {0}) refused.field-0 refused.field-0-0 refused.field-0-is sends.not_clear)
+                (λ is_roomy. where_full (Unit {0}) refused.field-0 refused.field-0-0 refused.field-0-is (sends.no_room is_roomy))),
           )
     ]
 
@@ -61,11 +69,13 @@ loop-from-init g c = record {
   keys = refl;
   numbers = refl;
   most = refl;
-  mate = mate_begins _ _ _ _ _;
+  others = λ other apart. refl;
+  mate = mate_begins _ _ _ _ _ _ (stands_first g.O.Tx.clear g.O.Tx.roomy g.O.Tx.unseen c.args.senders.now.items c.args.mate);
 }
 
 pub returns-in_err-batch-clause-tells : goal.returns-in_err-batch-clause-tells
 returns-in_err-batch-clause-tells g c = telling_fails c.loop-from.invariant.mate.telling c.from_residual.result c.from_residual.ensures.0
+    (stands_roomy g.O.Tx.clear g.O.Tx.roomy g.O.Tx.unseen c.args.senders.now.items c.loop-from.senders.items c.args.mate)
 
 pub returns-in-Err-NoMemory-clause-tells : goal.returns-in-Err-NoMemory-clause-tells
 returns-in-Err-NoMemory-clause-tells g c =
@@ -73,6 +83,7 @@ returns-in-Err-NoMemory-clause-tells g c =
     let sends = refused.ensures in
     let lacks = found_no_memory (Unit {0}) refused.field-0 refused.field-0-0 _ _ _ _ _ _ refused.field-0-is sends.sent sends.fulls in
     telling_fails (mate_unmoved c.loop-from.invariant.mate refl lacks.0 refl lacks.1).telling (Err record {}) refl
+    (stands_roomy g.O.Tx.clear g.O.Tx.roomy g.O.Tx.unseen c.args.senders.now.items c.loop-from.senders.items c.args.mate)
 
 pub loop-from-preserved-after-post-2 : goal.loop-from-preserved-after-post-2
 loop-from-preserved-after-post-2 g c =
@@ -81,6 +92,7 @@ loop-from-preserved-after-post-2 g c =
       keys = c.post.ensures.keys ∙ c.loop-from.invariant.keys;
       numbers = c.post.ensures.numbers ∙ c.loop-from.invariant.numbers;
       most = after.0;
+      others = λ other apart. c.post.ensures.others other apart ∙ c.loop-from.invariant.others other apart;
       mate = after.1;
     }
 
@@ -91,6 +103,7 @@ loop-from-preserved g c =
       keys = c.post.ensures.keys ∙ c.loop-from.invariant.keys;
       numbers = c.post.ensures.numbers ∙ c.loop-from.invariant.numbers;
       most = after.0;
+      others = λ other apart. c.post.ensures.others other apart ∙ c.loop-from.invariant.others other apart;
       mate = after.1;
     }
 
@@ -116,3 +129,4 @@ loop-from-smaller g c =
 pub returns-clause-tells : goal.returns-clause-tells
 returns-clause-tells g c =
     telling_ends c.loop-from.invariant.mate.telling (omega (arith, ap length c.keys.ensures.keys, c.loop-from-test.false))
+    (stands_roomy g.O.Tx.clear g.O.Tx.roomy g.O.Tx.unseen c.args.senders.now.items c.loop-from.senders.items c.args.mate)

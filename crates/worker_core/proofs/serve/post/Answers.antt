@@ -1,6 +1,6 @@
 use Rattle.std.proofs.Common.{◌∙◌, ap}
 use Rattle.std.proofs.Math.Seq.{map-set_same}
-use Rattle.worker_core.proofs.PostsLemmas.{posted, fulls_after}
+use Rattle.worker_core.proofs.PostsLemmas.{fulls_after, no_room_after, not_clear_after, posted, stays_elsewhere, unseen_after}
 use Rattle.worker_core.proofs.serve.post.Goals as goal
 
 pub returns-clause-keys : goal.returns-clause-keys
@@ -14,3 +14,16 @@ returns-clause-sent g c = posted g.T.Tx.sent _ _ _ _ c.send.result _ c.requires 
 
 pub returns-clause-fulls : goal.returns-clause-fulls
 returns-clause-fulls g c = fulls_after g.T.Tx.fulls _ _ _ _ c.send.result c.requires c.index_mut-sender.ensures.value c.send.ensures.fulls c.send.ensures.not_full
+
+pub returns-clause-others : goal.returns-clause-others
+returns-clause-others g c = λ other apart. stays_elsewhere _ _ other _ apart
+
+pub returns-clause-not_clear : goal.returns-clause-not_clear
+returns-clause-not_clear g c =
+    not_clear_after g.T.Tx.clear c.args.senders.now.items c.args.place _ c.send.result c.index_mut-sender.ensures.value c.send.ensures.not_clear
+
+pub returns-clause-no_room : goal.returns-clause-no_room
+returns-clause-no_room g c = no_room_after g.T.Tx.unseen _ _ _ c.send.result c.requires c.index_mut-sender.ensures.value c.send.ensures.no_room
+
+pub returns-clause-unseen : goal.returns-clause-unseen
+returns-clause-unseen g c = unseen_after g.T.Tx.unseen _ _ _ c.send.result c.requires c.index_mut-sender.ensures.value _ c.send.ensures.unseen

@@ -1,4 +1,4 @@
-use Rattle.std.proofs.Common.{◌∙◌, ap, sym, subst, length, map}
+use Rattle.std.proofs.Common.{map}
 use Rattle.std.proofs.lemmas.List.{length-map}
 use Rattle.worker_core.specs.Local.{state_of}
 use Rattle.worker_core.proofs.ServingLemmas.{worked_get, worked_put}

@@ -1,4 +1,4 @@
-use Rattle.std.proofs.Common.{◌≡◌, ◌∙◌, ap, subst, sym, None, Ok}
+use Rattle.std.proofs.Common.{◌≡◌, ◌∙◌, ap, subst, None, Ok}
 use Rattle.lattice_laws.specs.declared.lattice.NoMemory.{NoMemory}
 use Rattle.mail_contract.specs.Got.{HandedOut}
 use Rattle.worker_core.specs.Kept.{AreEntries}

@@ -1,7 +1,7 @@
 use Rattle.std.proofs.Common.{subst}
 use Rattle.worker_core.specs.Lag.{Lags}
 use Rattle.worker_core.specs.Local.{state_of}
-use Rattle.worker_core.specs.State.{Lists, PlainWorker, lists_of}
+use Rattle.worker_core.specs.State.{lists_of}
 use Rattle.worker_core.proofs.LagLemmas.{lag_less}
 use Rattle.worker_core.proofs.worker.WorkerOver.attest.Goals as goal
 

@@ -1,4 +1,4 @@
-use Rattle.std.proofs.Common.{◌≡◌, ◌∙◌, [], ap, arith, length, map, replicate, sym, None}
+use Rattle.std.proofs.Common.{◌≡◌, ◌∙◌, [], ap, arith, length, replicate, None}
 use Rattle.std.proofs.lemmas.List.{length-map}
 use Rattle.std.proofs.lemmas.List.Elements.{All-map}
 use Rattle.merge_world.specs.Effects.{opening_map}

@@ -1,6 +1,5 @@
-use Rattle.std.proofs.Common.{◌≡◌, ◌∙◌, ap, sym}
+use Rattle.std.proofs.Common.{◌∙◌, ap}
 use Rattle.worker_core.specs.Local.{state_of}
-use Rattle.worker_core.specs.Sealed.{batch_kept}
 use Rattle.worker_core.specs.State.{kept_request, lists_of}
 use Rattle.worker_core.proofs.SealedLemmas.{seals}
 use Rattle.worker_core.proofs.worker.WorkerOver.seal.Goals as goal

@@ -1,5 +1,6 @@
 use Rattle.std.proofs.Common.{ℕ, map, subst, sym}
 use Rattle.worker_core.specs.Local.{state_of}
+use Rattle.worker_core.specs.Room.{RoomAt}
 use Rattle.worker_core.specs.State.{Lists, PlainWorker, lists_of}
 use Rattle.worker_core.specs.Turns.{Rounds, counts_of}
 use Rattle.worker_core.proofs.LawfulLemmas.{round_lawful, rounds}
@@ -23,6 +24,6 @@ returns-clause-rounds g c =
     let turned = c.gossip-told.new.turned.items in
     let told = map g.O.Tx.sent c.gossip-told.new.senders.items in
     let lists_now : ℕ → Lists = λ since. record (lists_are worker) { state = record (state_of was) { changed = changed; turned = turned; since = since }; told = told } in
-    subst (λ before. Rounds c.gossip-told.result (lists_are before) (lists_now c.count_again.new.since) (counts_are before) (counts_are now)) c.self.view_is
-    (subst (λ since. Rounds c.gossip-told.result (lists_are worker) (lists_now since) (counts_are worker) (counts_are now)) (sym c.count_again.ensures)
+    subst (λ before. Rounds c.gossip-told.result (lists_are before) (lists_now c.count_again.new.since) (counts_are before) (counts_are now) (RoomAt g.O.Tx.clear g.O.Tx.roomy g.O.Tx.unseen before.ends.gossip_out.items)) c.self.view_is
+    (subst (λ since. Rounds c.gossip-told.result (lists_are worker) (lists_now since) (counts_are worker) (counts_are now) (RoomAt g.O.Tx.clear g.O.Tx.roomy g.O.Tx.unseen c.self.inside.ends.gossip_out.items)) (sym c.count_again.ensures)
     (rounds (lists_are worker) was.taken was.changes.most c.self.invariant c.gossip-told.result changed told turned (counts_are worker) (counts_are now) c.gossip-told.ensures.tells))

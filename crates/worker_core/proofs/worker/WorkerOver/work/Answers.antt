@@ -1,5 +1,4 @@
-use Rattle.std.proofs.Common.{◌≡◌, ◌∙◌, ap, length, map, sym, subst}
-use Rattle.worker_core.specs.Kept.{IsLawful}
+use Rattle.std.proofs.Common.{◌≡◌, length, map}
 use Rattle.worker_core.specs.Local.{state_of}
 use Rattle.worker_core.specs.State.{lists_of}
 use Rattle.worker_core.proofs.LawfulLemmas.{as_long, served_lawful}

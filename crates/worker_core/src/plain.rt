@@ -1,0 +1,124 @@
+//! A worker over plain mail, for one thread: a driver carries its parcels.
+ghost use Rattle.std.specs.Prelude.{◌≡◌, ◌-◌, ◌<◌, ◌≤◌, length};
+ghost use Rattle.worker_core.specs.Lag.{Lags};
+ghost use Rattle.worker_core.specs.Parcels.{Delivers, GivesUp};
+ghost use Rattle.worker_core.specs.Share.{Share};
+ghost use Rattle.worker_core.specs.State.{lists_of, place_at};
+
+use crate::WorkerOver;
+use crate::mates::place_of;
+use mail_contract::{GossipRx, Message, Parcel, ParcelFault, PlainRx, PlainTx, Rx, Tx};
+use store_msg::{Batch, Reply, Request};
+
+/// Takes a parcel in to a box.
+fn deliver<M: Message>(messages: &mut PlainRx<M>, parcel: Parcel<M>) -> Result<(), ParcelFault<M>>
+    ensures delivers { Delivers ⟦<PlainRx<M> as Rx<M>>⟧.key ⟦<PlainRx<M> as Rx<M>>⟧.received
+        ⟦<PlainRx<M> as Rx<M>>⟧.answers ⟦<PlainRx<M> as Rx<M>>⟧.about
+        parcel result messages.old messages.new }
+{
+    messages.deliver(parcel)
+}
+
+/// The sender at a place, from 0, gives up what it sent since its last parcel. Takes no memory.
+fn parcel_of<M: Message>(senders: &mut Vec<PlainTx<M>>, place: usize) -> Parcel<M>
+    requires { place < length senders.old.items }
+    ensures { GivesUp ⟦<PlainTx<M> as Tx<M>>⟧.number ⟦<PlainTx<M> as Tx<M>>⟧.sent
+        ⟦<PlainTx<M> as Tx<M>>⟧.key place result senders.old.items senders.new.items }
+{
+    let sender = &mut senders[place];
+    sender.parcel()
+}
+
+impl WorkerOver<PlainRx<Request>, PlainTx<Reply>, PlainTx<Batch>, PlainRx<Batch>> {
+    /// Takes in a parcel of a session's requests. A refusal hands it back, and nothing has changed.
+    pub fn deliver_requests(&mut self, parcel: Parcel<Request>) -> Result<(), ParcelFault<Request>>
+        ensures share { Share (lists_of ⟦<PlainRx<Request> as Rx<Request>>⟧.received
+            ⟦<PlainTx<Reply> as Tx<Reply>>⟧.sent ⟦<PlainTx<Batch> as Tx<Batch>>⟧.sent
+            ⟦<PlainRx<Batch> as GossipRx<Batch>>⟧.got self.new) }
+        ensures lags { Lags (lists_of ⟦<PlainRx<Request> as Rx<Request>>⟧.received
+            ⟦<PlainTx<Reply> as Tx<Reply>>⟧.sent ⟦<PlainTx<Batch> as Tx<Batch>>⟧.sent
+            ⟦<PlainRx<Batch> as GossipRx<Batch>>⟧.got self.new) }
+        ensures delivers { Delivers ⟦<PlainRx<Request> as Rx<Request>>⟧.key
+            ⟦<PlainRx<Request> as Rx<Request>>⟧.received
+            ⟦<PlainRx<Request> as Rx<Request>>⟧.answers
+            ⟦<PlainRx<Request> as Rx<Request>>⟧.about
+            parcel result self.old.ends.requests self.new.ends.requests }
+        ensures rest { self.new ≡ record self.old {
+          ends = record self.old.ends { requests = self.new.ends.requests };
+        } }
+    {
+        let delivered = deliver(&mut self.ends.requests, parcel);
+        self.attest();
+        delivered
+    }
+
+    /// Takes in a parcel of a mate's gossip. A refusal hands it back, and nothing has changed.
+    pub fn deliver_gossip(&mut self, parcel: Parcel<Batch>) -> Result<(), ParcelFault<Batch>>
+        ensures share { Share (lists_of ⟦<PlainRx<Request> as Rx<Request>>⟧.received
+            ⟦<PlainTx<Reply> as Tx<Reply>>⟧.sent ⟦<PlainTx<Batch> as Tx<Batch>>⟧.sent
+            ⟦<PlainRx<Batch> as GossipRx<Batch>>⟧.got self.new) }
+        ensures lags { Lags (lists_of ⟦<PlainRx<Request> as Rx<Request>>⟧.received
+            ⟦<PlainTx<Reply> as Tx<Reply>>⟧.sent ⟦<PlainTx<Batch> as Tx<Batch>>⟧.sent
+            ⟦<PlainRx<Batch> as GossipRx<Batch>>⟧.got self.new) }
+        ensures delivers { Delivers ⟦<PlainRx<Batch> as GossipRx<Batch>>⟧.key
+            ⟦<PlainRx<Batch> as GossipRx<Batch>>⟧.got
+            ⟦<PlainRx<Batch> as GossipRx<Batch>>⟧.answers
+            ⟦<PlainRx<Batch> as GossipRx<Batch>>⟧.about
+            parcel result self.old.ends.gossip_in self.new.ends.gossip_in }
+        ensures rest { self.new ≡ record self.old {
+          ends = record self.old.ends { gossip_in = self.new.ends.gossip_in };
+        } }
+    {
+        let delivered = deliver(&mut self.ends.gossip_in, parcel);
+        self.attest();
+        delivered
+    }
+
+    /// Gives up the replies that were sent to a session since its last parcel. The session is there. Takes no
+    /// memory.
+    pub fn reply_parcel(&mut self, session: u16) -> Parcel<Reply>
+        requires { (1 ≤ session) × (session ≤ length self.old.ends.replies.items) }
+        ensures share { Share (lists_of ⟦<PlainRx<Request> as Rx<Request>>⟧.received
+            ⟦<PlainTx<Reply> as Tx<Reply>>⟧.sent ⟦<PlainTx<Batch> as Tx<Batch>>⟧.sent
+            ⟦<PlainRx<Batch> as GossipRx<Batch>>⟧.got self.new) }
+        ensures lags { Lags (lists_of ⟦<PlainRx<Request> as Rx<Request>>⟧.received
+            ⟦<PlainTx<Reply> as Tx<Reply>>⟧.sent ⟦<PlainTx<Batch> as Tx<Batch>>⟧.sent
+            ⟦<PlainRx<Batch> as GossipRx<Batch>>⟧.got self.new) }
+        ensures parcel { GivesUp ⟦<PlainTx<Reply> as Tx<Reply>>⟧.number
+            ⟦<PlainTx<Reply> as Tx<Reply>>⟧.sent ⟦<PlainTx<Reply> as Tx<Reply>>⟧.key
+            (session - 1) result self.old.ends.replies.items self.new.ends.replies.items }
+        ensures rest { self.new ≡ record self.old {
+          ends = record self.old.ends { replies = self.new.ends.replies };
+        } }
+    {
+        let parcel = parcel_of(&mut self.ends.replies, usize::from(session) - 1);
+        self.attest();
+        parcel
+    }
+
+    /// Gives up the gossip that was sent to a mate, by its number, since its last parcel. The mate is there.
+    /// Takes no memory.
+    pub fn gossip_parcel(&mut self, mate: u16) -> Parcel<Batch>
+        requires differs { (mate ≡ self.old.state.me) → ⊥ }
+        requires from_one { 1 ≤ mate }
+        requires place { place_at self.old.state.me mate < length self.old.ends.gossip_out.items }
+        ensures share { Share (lists_of ⟦<PlainRx<Request> as Rx<Request>>⟧.received
+            ⟦<PlainTx<Reply> as Tx<Reply>>⟧.sent ⟦<PlainTx<Batch> as Tx<Batch>>⟧.sent
+            ⟦<PlainRx<Batch> as GossipRx<Batch>>⟧.got self.new) }
+        ensures lags { Lags (lists_of ⟦<PlainRx<Request> as Rx<Request>>⟧.received
+            ⟦<PlainTx<Reply> as Tx<Reply>>⟧.sent ⟦<PlainTx<Batch> as Tx<Batch>>⟧.sent
+            ⟦<PlainRx<Batch> as GossipRx<Batch>>⟧.got self.new) }
+        ensures parcel { GivesUp ⟦<PlainTx<Batch> as Tx<Batch>>⟧.number
+            ⟦<PlainTx<Batch> as Tx<Batch>>⟧.sent ⟦<PlainTx<Batch> as Tx<Batch>>⟧.key
+            (place_at self.old.state.me mate) result
+            self.old.ends.gossip_out.items self.new.ends.gossip_out.items }
+        ensures rest { self.new ≡ record self.old {
+          ends = record self.old.ends { gossip_out = self.new.ends.gossip_out };
+        } }
+    {
+        let place = place_of(self.local.me, mate);
+        let parcel = parcel_of(&mut self.ends.gossip_out, place);
+        self.attest();
+        parcel
+    }
+}
