@@ -1,8 +1,9 @@
 -- What room a sender has, and what comes back for want of it.
-use Rattle.std.specs.Prelude.{◌≡◌, ℕ, ◌+◌, ◌≤◌, Bool, true, false, IsTrue, not, List, [], ◌∷◌, slice_get, Option, Some}
+use Rattle.std.specs.Prelude.{◌≡◌, ℕ, ◌+◌, ◌-◌, ◌≤◌, Bool, true, false, IsTrue, not, List, [], ◌∷◌, length, min, slice_get, Option, Some}
 use Rattle.std.specs.List.{list_any}
 use Rattle.mail_contract.specs.Got.{AreAll, missing}
 use Rattle.mail_contract.specs.Parts.{Parts}
+use Rattle.mail_contract.specs.Takes.{IsFront}
 
 -- the first batch came back
 abbrev pub FirstBack : List Bool → Type 0
@@ -32,3 +33,13 @@ pub record LearnsRoom {M : Type 0} (clear : Type 0) (unseen : ℕ) (keeps : Part
 -- and so the sender at a place
 abbrev pub LearnsRoomAt : {O M : Type 0} → (O → Type 0) → (O → ℕ) → List O → ℕ → Parts → (ℕ → Option M) → List M → Type 0
 LearnsRoomAt {O} {M} clear unseen senders place keeps got sent = (sender : O) → slice_get senders place ≡ Some sender → LearnsRoom (clear sender) (unseen sender) keeps got sent
+
+-- What a sender learns of its room where it is held beside a box in order, from what was received of what it sent.
+pub record LearnsRoomInOrder {M : Type 0} (clear : Type 0) (unseen : ℕ) (keeps : Parts) (received sent : List M) : Type 0 where
+  pub roomy : IsTrue keeps.roomy → unseen ≡ min 64 (length sent - length received)
+  pub freed : IsTrue keeps.freed → IsFront sent received → clear
+
+-- and so the sender at a place
+abbrev pub LearnsRoomOf : {T M : Type 0} → (T → Type 0) → (T → ℕ) → List T → ℕ → Parts → List M → List M → Type 0
+LearnsRoomOf {T} {M} clear unseen senders place keeps received sent =
+    (sender : T) → slice_get senders place ≡ Some sender → LearnsRoomInOrder (clear sender) (unseen sender) keeps received sent

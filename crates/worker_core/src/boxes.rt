@@ -1,7 +1,9 @@
 //! Asking a box.
-ghost use Rattle.std.specs.Prelude.{◌≡◌, ◌≤◌, ◌-◌, length, map, slice_get, Some};
-ghost use Rattle.mail_contract.specs.Standing.{IsSettled};
+ghost use Rattle.std.specs.Prelude.{◌≡◌, ◌≤◌, ◌-◌, [], length, map, min, slice_get, slice_index_or, IsTrue, Some};
+ghost use Rattle.mail_contract.specs.Standing.{IsSettled, Learned};
+ghost use Rattle.mail_contract.specs.Takes.{IsFront, from_sender};
 ghost use Rattle.worker_core.specs.Boxes.{HandsOut, Settles, SettlesWeak, Shows, Takes, box_of, weak_box_of};
+ghost use Rattle.worker_core.specs.Room.{LearnsRoomOf};
 
 use lattice_laws::NoMemory;
 use mail_contract::{GossipRx, Rx, Tx};
@@ -76,6 +78,19 @@ pub(crate) fn meet<Q: Rx<Request>, T: Tx<Reply>, S: Meets<Q, T>>(
     ensures number { S.number side.new ≡ S.number side.old }
     ensures asked { S.asked side.new ≡ S.asked side.old }
     ensures heard { S.heard side.new ≡ S.heard side.old }
+    ensures roomy { IsTrue Q.keeps.roomy → S.unseen side.new me
+        ≡ min 64 (length (S.asked side.old me)
+        - length (from_sender (S.number side.old me) (Q.received requests.old))) }
+    ensures freed { IsTrue Q.keeps.freed → IsFront (S.asked side.old me)
+        (from_sender (S.number side.old me) (Q.received requests.old)) → S.clear side.new me }
+    ensures learned { Learned S.keeps
+        (slice_index_or (map T.number replies.old.items) (session - 1) 0)
+        (slice_index_or (map T.sent replies.old.items) (session - 1) [])
+        (S.about side.old) (S.about side.new) }
+    ensures told { IsTrue S.keeps.complete → IsFront (S.heard side.old me)
+        (slice_index_or (map T.sent replies.old.items) (session - 1) []) }
+    ensures room { LearnsRoomOf T.clear T.unseen replies.new.items (session - 1) S.keeps
+        (S.heard side.old me) (slice_index_or (map T.sent replies.old.items) (session - 1) []) }
 {
     let sender = &mut replies[usize::from(session) - 1];
     side.meet(me, requests, sender);

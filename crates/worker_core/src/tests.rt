@@ -149,18 +149,24 @@ fn told(worker: &mut Worker<PlainPost>) -> Result<Parcel<Batch>, Fail> {
     Ok(worker.gossip_parcel(2))
 }
 
-/// What worker 1 did with a put, and then worker 2 with the gossip of it.
-fn first_tells(
-    alloc: Global,
-    first: &mut Desk,
-    second: &mut Desk,
-) -> Result<(Vec<(Did, usize)>, Vec<(Did, usize)>), Fail> {
+/// Worker 1 takes a put, and its gossip comes to worker 2: what worker 1 did.
+fn tell(alloc: Global, first: &mut Desk, second: &mut Desk) -> Result<Vec<(Did, usize)>, Fail> {
     ask(first, 1, put_max(alloc, 1, 1, 5))?;
     let did = turns(alloc, &mut first.worker)?;
     let parcel = told(&mut first.worker)?;
     if second.worker.deliver_gossip(parcel).is_err() {
         return Err(Fail::new("not delivered"));
     }
+    Ok(did)
+}
+
+/// What worker 1 did with a put, and then worker 2 with the gossip of it.
+fn first_tells(
+    alloc: Global,
+    first: &mut Desk,
+    second: &mut Desk,
+) -> Result<(Vec<(Did, usize)>, Vec<(Did, usize)>), Fail> {
+    let did = tell(alloc, first, second)?;
     Ok((did, turns(alloc, &mut second.worker)?))
 }
 
@@ -175,6 +181,52 @@ fn a_turn_works_on_one_thing(rt: HostRuntime) -> Result<(), Fail> {
     let want = [(Did::Gossip, 0), (Did::Idle, 0)];
     assert_eq!(rt; heard.as_slice(), want.as_slice());
     assert_eq!(rt; shown(&second.worker, 1), Some((1, Some(5))));
+    Ok(())
+}
+
+/// A turn, taken again where memory was wanting.
+fn turn_at_last(worker: &mut Worker<PlainPost>) -> Result<Did, Fail> {
+    for _ in 0..8 {
+        if let Ok(did) = worker.turn() {
+            return Ok(did);
+        }
+    }
+    Err(Fail::new("no memory"))
+}
+
+#[test]
+fn a_put_that_met_want_of_memory_counts_once(rt: HostRuntime) -> Result<(), Fail> {
+    let alloc = rt.alloc();
+    let mut first = new_desk(alloc, 1, 4, 1, 1, 1)?;
+    ask(&mut first, 1, put_max(alloc, 1, 1, 5))?;
+    assert_eq!(rt; turn_at_last(&mut first.worker)?, Did::Request);
+    assert_eq!(rt; shown(&first.worker, 1), Some((1, Some(5))));
+    Ok(())
+}
+
+/// What a worker hears once it is sealed, twice, and how many puts of session 1 it counts on key 1 then.
+fn seal_and_hear(desk: Desk) -> Result<(bool, bool, Option<u64>), Fail> {
+    let worker = desk.worker;
+    if worker.dirty() > 0 || worker.local.held.is_some() || worker.local.kept.is_some() {
+        return Err(Fail::new("not at rest"));
+    }
+    let mut sealed = worker.seal().0;
+    let first = sealed.hear()?;
+    let second = sealed.hear()?;
+    Ok((
+        first,
+        second,
+        sealed.cell(1).map(|cell| cell.clock().count(1)),
+    ))
+}
+
+#[test]
+fn a_sealed_worker_hears_what_it_was_told(rt: HostRuntime) -> Result<(), Fail> {
+    let alloc = rt.alloc();
+    let mut first = new_desk(alloc, 1, 4, 1, 1, 1)?;
+    let mut second = new_desk(alloc, 2, 4, 1, 1, 1)?;
+    tell(alloc, &mut first, &mut second)?;
+    assert_eq!(rt; seal_and_hear(second)?, (true, false, Some(1)));
     Ok(())
 }
 

@@ -1,11 +1,12 @@
 //! A worker.
-ghost use Rattle.std.specs.Prelude.{◌≡◌, ◌⊎◌, ℕ, ◌<◌, ◌≤◌, ◌+◌, ◌-◌, ◌^◌, All, Bool, true, false, List, [], is_some, length, map, option_map, replicate, slice_get, None, Some, Ok, IsTrue, IfOk, OnOk, OnErr, MatchResult};
+ghost use Rattle.std.specs.Prelude.{◌≡◌, ◌⊎◌, ℕ, ◌<◌, ◌≤◌, ◌+◌, ◌-◌, ◌^◌, All, Bool, true, false, List, [], is_some, length, map, option_map, min, replicate, slice_get, slice_index_or, None, Some, Ok, IsTrue, IfOk, OnOk, OnErr, MatchResult};
 ghost use Rattle.lattice_laws.specs.Counts.{Rose};
-ghost use Rattle.mail_contract.specs.Standing.{AllPart, IsSettled};
+ghost use Rattle.mail_contract.specs.Standing.{AllPart, IsSettled, Learned};
+ghost use Rattle.mail_contract.specs.Takes.{IsFront, from_sender};
 ghost use Rattle.merge_world.specs.Effects.{cells_at};
 ghost use Rattle.worker_core.specs.Boxes.{FindsNothing, FindsNothingWeak, MayHandOut, MayTake, Settles, Shows, box_of, weak_box_of};
 ghost use Rattle.worker_core.specs.Lag.{Lags};
-ghost use Rattle.worker_core.specs.Room.{RoomAt};
+ghost use Rattle.worker_core.specs.Room.{LearnsRoomOf, RoomAt};
 ghost use Rattle.worker_core.specs.Sealed.{HoldsSealed, sealed_of};
 ghost use Rattle.worker_core.specs.Serving.{Resent, RoundsIf, TakesGossip, TakesRequest, WorksOn, rests_as};
 ghost use Rattle.worker_core.specs.Share.{Share};
@@ -463,6 +464,22 @@ impl<Q: Rx<Request>, T: Tx<Reply>, O: Tx<Batch>, G: GossipRx<Batch, From = O>> W
         ensures number { S.number side.new ≡ S.number side.old }
         ensures asked { S.asked side.new ≡ S.asked side.old }
         ensures heard { S.heard side.new ≡ S.heard side.old }
+        ensures roomy { IsTrue Q.keeps.roomy → S.unseen side.new self.old.state.me
+            ≡ min 64 (length (S.asked side.old self.old.state.me)
+            - length (from_sender (S.number side.old self.old.state.me)
+            (Q.received self.old.ends.requests))) }
+        ensures freed { IsTrue Q.keeps.freed → IsFront (S.asked side.old self.old.state.me)
+            (from_sender (S.number side.old self.old.state.me) (Q.received self.old.ends.requests))
+            → S.clear side.new self.old.state.me }
+        ensures learned { Learned S.keeps
+            (slice_index_or (map T.number self.old.ends.replies.items) (session - 1) 0)
+            (slice_index_or (map T.sent self.old.ends.replies.items) (session - 1) [])
+            (S.about side.old) (S.about side.new) }
+        ensures told { IsTrue S.keeps.complete → IsFront (S.heard side.old self.old.state.me)
+            (slice_index_or (map T.sent self.old.ends.replies.items) (session - 1) []) }
+        ensures room { LearnsRoomOf T.clear T.unseen self.new.ends.replies.items (session - 1) S.keeps
+            (S.heard side.old self.old.state.me)
+            (slice_index_or (map T.sent self.old.ends.replies.items) (session - 1) []) }
     {
         let me = self.local.me;
         meet(
