@@ -3,6 +3,7 @@ pub mod Changes
 pub mod Lag
 pub mod Local
 pub mod Kept
+pub mod Mates
 pub mod Parcels
 pub mod Room
 pub mod Sealed

@@ -20,3 +20,5 @@ pub use worker::{Worker, WorkerOver};
 
 #[cfg(test)]
 mod tests;
+#[cfg(test)]
+mod thread_tests;

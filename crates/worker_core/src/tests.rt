@@ -21,7 +21,7 @@ struct Desk {
 }
 
 /// So many keys, which all live at workers 1 and 2.
-fn shared_keys(alloc: Global, keys: u16) -> Result<Placement, Fail>
+pub(crate) fn shared_keys(alloc: Global, keys: u16) -> Result<Placement, Fail>
     requires { keys ≤ 128 }
     ensures { IfOk result (λ placement. length placement ≡ keys) }
 {
@@ -75,7 +75,7 @@ fn new_desk(
 }
 
 /// A session's put.
-fn put(alloc: Global, session: u16, number: u64, payload: Payload) -> Put {
+pub(crate) fn put(alloc: Global, session: u16, number: u64, payload: Payload) -> Put {
     Put {
         session,
         number,

@@ -1,0 +1,148 @@
+//! Two workers over rings, on threads of their own and then on one.
+ghost use Rattle.std.specs.Prelude.{◌≡◌, ◌≤◌, ◌∷◌, [], map, IfOk};
+ghost use Rattle.worker_core.specs.Mates.{AreMates};
+ghost use Rattle.worker_core.specs.State.{IsFixed, KeysStay};
+
+use super::*;
+use crate::tests::{put, shared_keys};
+use composed_value::{Kind, Payload, Value};
+use lattice_laws::{Items, Maybe};
+use mail_contract::{GossipRx, Rx, Tx};
+use mail_rings::{RingRx, RingTx, rings};
+use std::alloc::Global;
+use std::test::Fail;
+use std::thread::{Threads, join_mut};
+use store_msg::{Batch, Reply, Request, WorkerEndsOver};
+
+/// A worker over rings.
+type Ringed = WorkerOver<RingRx<Request>, RingTx<Reply>, RingTx<Batch>, RingRx<Batch>>;
+
+/// A box with one request in it: the first put of a session.
+fn asked(alloc: Global, session: u16, max: u64) -> Result<RingRx<Request>, Fail>
+    ensures { IfOk result (λ rx. ⟦<RingRx<Request> as Rx<Request>>⟧.received rx ≡ []) }
+{
+    let (mut asks, requests) = rings(alloc, 1)?;
+    let Some(mut tx) = asks.pop() else {
+        return Err(Fail::new("no sender"));
+    };
+    let put = put(alloc, session, 1, Payload::Max(max));
+    if tx.send(Request::Put { key: 1, put }).is_err() {
+        return Err(Fail::new("not sent"));
+    }
+    Ok(requests)
+}
+
+/// Worker `me` of two, with one key of kind max, which its session put a number on.
+fn new_ringed(
+    alloc: Global,
+    me: u16,
+    max: u64,
+    gossip_out: Vec<RingTx<Batch>>,
+    gossip_in: RingRx<Batch>,
+) -> Result<Ringed, Fail>
+    requires me { (1 ≤ me) × (me ≤ 2) }
+    requires number { map (⟦<RingTx<Batch> as Tx<Batch>>⟧.number) gossip_out.items ≡ 1 ∷ [] }
+    requires told { map (⟦<RingTx<Batch> as Tx<Batch>>⟧.sent) gossip_out.items ≡ [] ∷ [] }
+    requires got { ⟦<RingRx<Batch> as Rx<Batch>>⟧.received gossip_in ≡ [] }
+    ensures me { IfOk result (λ worker. worker.state.me ≡ me) }
+    ensures gossip_out { IfOk result (λ worker. worker.ends.gossip_out ≡ gossip_out) }
+    ensures gossip_in { IfOk result (λ worker. worker.ends.gossip_in ≡ gossip_in) }
+{
+    let placement = shared_keys(alloc, 1)?;
+    let kinds = Items::new(vec![in alloc; Kind::Max]?);
+    let requests = asked(alloc, me, max)?;
+    let ends = WorkerEndsOver {
+        requests,
+        replies: Vec::new(alloc),
+        gossip_out,
+        gossip_in,
+    };
+    Ok(WorkerOver::new(me, 1, placement, kinds, ends)?)
+}
+
+/// Workers 1 and 2, each the only mate of the other.
+fn two_ringed(alloc: Global) -> Result<(Ringed, Ringed), Fail>
+    ensures { IfOk result (λ workers. AreMates
+        (⟦<RingTx<Batch> as Tx<Batch>>⟧.key) (⟦<RingTx<Batch> as Tx<Batch>>⟧.number)
+        (⟦<RingRx<Batch> as GossipRx<Batch>>⟧.key) workers.0 workers.1) }
+{
+    let (to_second, of_second) = rings(alloc, 1)?;
+    let (to_first, of_first) = rings(alloc, 1)?;
+    let first = new_ringed(alloc, 1, 5, to_second, of_first)?;
+    let second = new_ringed(alloc, 2, 7, to_first, of_second)?;
+    Ok((first, second))
+}
+
+/// Turns a worker until it finds nothing more to do, and tells whether nothing is left to tell.
+fn rest<Q: Rx<Request>, T: Tx<Reply>, O: Tx<Batch>, G: GossipRx<Batch, From = O>>(
+    worker: &mut WorkerOver<Q, T, O, G>,
+) -> bool
+    ensures fixed { IsFixed worker.old.state worker.new.state }
+    ensures keys { KeysStay Q.key T.key T.number O.key O.number G.key worker.old worker.new }
+{
+    for _ in 0..16 {
+        match worker.turn() {
+            Ok(Did::Idle) => return worker.dirty() == 0,
+            Ok(Did::Blocked) => return false,
+            Ok(_) => {}
+            Err(_) => return false,
+        }
+    }
+    false
+}
+
+/// Turns each of two mates on a thread of its own. They stay mates.
+fn side_by_side<R: Threads + Sync>(rt: &R, first: &mut Ringed, second: &mut Ringed) -> (bool, bool)
+    requires { AreMates
+        (⟦<RingTx<Batch> as Tx<Batch>>⟧.key) (⟦<RingTx<Batch> as Tx<Batch>>⟧.number)
+        (⟦<RingRx<Batch> as GossipRx<Batch>>⟧.key) first.old second.old }
+    ensures { AreMates
+        (⟦<RingTx<Batch> as Tx<Batch>>⟧.key) (⟦<RingTx<Batch> as Tx<Batch>>⟧.number)
+        (⟦<RingRx<Batch> as GossipRx<Batch>>⟧.key) first.new second.new }
+{
+    let mut rested = (false, false);
+    join_mut(
+        rt,
+        &mut || rested.0 = rest(first),
+        &mut || rested.1 = rest(second),
+    );
+    rested
+}
+
+/// Holds two mates beside each other, and then turns each, on this thread.
+fn beside(first: &mut Ringed, second: &mut Ringed) -> (bool, bool)
+    requires { AreMates
+        (⟦<RingTx<Batch> as Tx<Batch>>⟧.key) (⟦<RingTx<Batch> as Tx<Batch>>⟧.number)
+        (⟦<RingRx<Batch> as GossipRx<Batch>>⟧.key) first.old second.old }
+{
+    first.beside_mate(second);
+    (rest(first), rest(second))
+}
+
+/// How many puts of a session a worker counts on key 1.
+fn counted(worker: &Ringed, session: u16) -> Option<u64> {
+    Some(worker.cell(1)?.clock().count(session))
+}
+
+/// How many puts of sessions 1 and 2 a worker counts on key 1, and the greatest number put.
+fn shown(worker: &Ringed) -> Option<(u64, u64, Option<u64>)> {
+    let max = match worker.cell(1)?.value() {
+        Value::Max(Maybe::Is(max)) => Some(max.0),
+        _ => None,
+    };
+    Some((counted(worker, 1)?, counted(worker, 2)?, max))
+}
+
+#[test]
+fn workers_move_to_other_threads_and_back(rt: HostRuntime) -> Result<(), Fail> {
+    let (mut first, mut second) = two_ringed(rt.alloc())?;
+    let rested = side_by_side(&rt, &mut first, &mut second);
+    assert_eq!(rt; rested, (true, true));
+    let own = (counted(&first, 1), counted(&second, 2));
+    assert_eq!(rt; own, (Some(1), Some(1)));
+    let rested = beside(&mut first, &mut second);
+    assert_eq!(rt; rested, (true, true));
+    let both = Some((1, 1, Some(7)));
+    assert_eq!(rt; (shown(&first), shown(&second)), (both, both));
+    Ok(())
+}
