@@ -93,6 +93,13 @@ impl Cell {
     {
         &self.value
     }
+
+    /// The four parts: clock, causal dependencies, greatest Lamport number, value. Takes no memory.
+    pub fn into_parts(self) -> (Clock, Needs, u64, Value)
+        ensures { result ≡ (self.clock, self.needs, self.top, self.value) }
+    {
+        (self.clock, self.needs, self.top, self.value)
+    }
 }
 
 impl Lattice for Cell {

@@ -3,6 +3,7 @@ pub mod DealLemmas
 pub mod LanesLemmas
 pub mod MapsLemmas
 pub mod PlainLemmas
+pub mod PostsLemmas
 pub mod ScrambleLemmas
 pub mod StandsLemmas
 pub mod WeakLemmas

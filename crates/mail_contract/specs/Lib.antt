@@ -1,6 +1,8 @@
+pub mod Boxes
 pub mod Carried
 pub mod Got
 pub mod Lanes
+pub mod Parcels
 pub mod Parts
 pub mod Plain
 pub mod Scrambled

@@ -7,21 +7,25 @@
 //! whatever carries the messages.
 #![tactic(auto)]
 
+mod boxes;
 mod gathered;
 mod gossip;
 mod lane;
 mod parcels;
+mod posts;
 mod rx;
 mod scramble;
 mod tx;
 
 ghost use Rattle.std.specs.Prelude.{◌≡◌, IfOk};
 
+pub use boxes::{deliver, settle_one, settle_weak, take_one, take_weak};
 pub use gathered::Gathered;
 pub use gossip::GossipRx;
 pub use lane::Lane;
 use lattice_laws::NoMemory;
 pub use parcels::{Parcel, ParcelFault, PlainLane, PlainRx, PlainTx, plain};
+pub use posts::{parcel_of, post};
 pub use rx::Rx;
 pub use scramble::{Draws, Scramble};
 pub use tx::Tx;

@@ -125,6 +125,11 @@ knows_learned knows key clock top learned = record {
 abbrev pub shown_of : PlainCell → Shown
 shown_of cell = record { clock = cell.clock; top = cell.top; value = cell.value; needs = Some cell.needs }
 
+-- what a session of a level is shown of a cell: its needs too where it is causal
+abbrev pub shown_to : Level → PlainCell → Shown
+shown_to Causal cell = shown_of cell
+shown_to level cell = record { clock = cell.clock; top = cell.top; value = cell.value; needs = None }
+
 -- what is known once a reply has shown a cell of the key
 abbrev pub knows_shown : Client → Knowledge → ℕ → Shown → Knowledge
 knows_shown client knows key shown = record {

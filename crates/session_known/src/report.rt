@@ -1,7 +1,10 @@
 //! What is answered: a line for each command, and the final cell of every replica.
+ghost use Rattle.std.specs.Prelude.{◌≡◌};
+ghost use Rattle.session_known.specs.Session.{shown_to};
 
+use crate::Level;
 use clock_lattice::{Clock, Needs};
-use composed_value::Value;
+use composed_value::{Cell, Value};
 use lattice_laws::Items;
 
 /// The cell that a reply shows. The needs are there exactly in causal sessions.
@@ -11,6 +14,24 @@ pub struct Shown {
     pub top: u64,
     pub value: Value,
     pub needs: Option<Needs>,
+}
+
+impl Shown {
+    /// What a session of the level is shown of a cell. Takes no memory.
+    pub fn of_cell(level: Level, cell: Cell) -> Shown
+        ensures { result ≡ shown_to level cell }
+    {
+        let (clock, needs, top, value) = cell.into_parts();
+        Shown {
+            clock,
+            top,
+            value,
+            needs: match level {
+                Level::Causal => Some(needs),
+                Level::Eventual | Level::Committed => None,
+            },
+        }
+    }
 }
 
 /// The answer to a command line.

@@ -14,7 +14,7 @@ mod request;
 
 pub use batch::Batch;
 pub use ends::{Mail, PlainPost, SessionEnds, SessionEndsOver, WorkerEnds, WorkerEndsOver};
-pub use meets::Meets;
+pub use meets::{Meets, meet_ends};
 pub use reply::{Answered, Reply};
 pub use request::Request;
 

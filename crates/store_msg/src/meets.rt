@@ -1,5 +1,6 @@
 //! What a session and a worker learn of each other where their ends are held together.
-ghost use Rattle.std.specs.Prelude.{◌≡◌, ℕ, ◌-◌, IsTrue, List, length, min};
+ghost use Rattle.std.specs.Prelude.{◌≡◌, ℕ, ◌-◌, [], IsTrue, List, length, map, min, slice_index_or};
+ghost use Rattle.mail_contract.specs.Lanes.{IsLaneOf};
 ghost use Rattle.mail_contract.specs.Parts.{Parts};
 ghost use Rattle.mail_contract.specs.Standing.{About, Learned};
 ghost use Rattle.mail_contract.specs.Takes.{IsFront, from_sender};
@@ -85,6 +86,73 @@ pub trait Meets<Q: Rx<Request>, T: Tx<Reply>> {
             → IsFront (T.sent replies.old) (heard self.old worker) → T.clear replies.new };
 }
 
+/// Holds the ends of a worker, by its number, beside a session's. Takes no memory.
+pub fn meet_ends<T: Tx<Request>, R: Rx<Reply>, Q: Rx<Request, From = T>>(
+    ends: &mut SessionEndsOver<T, R>,
+    worker: u16,
+    requests: &mut Q,
+    replies: &mut R::From,
+)
+    requires asks { IsLaneOf
+        (λ tx rx. Q.pairs rx tx (slice_index_or (map T.number ends.old.requests.items) (worker - 1) 0))
+        (map T.key ends.old.requests.items) (Q.key requests.old) worker }
+    requires hears { R.pairs (R.key ends.old.replies) (R.From.key replies.old)
+        (R.From.number replies.old) }
+    requires number { R.From.number replies.old ≡ worker }
+    ensures keys { map T.key ends.new.requests.items ≡ map T.key ends.old.requests.items }
+    ensures numbers { map T.number ends.new.requests.items ≡ map T.number ends.old.requests.items }
+    ensures sent { map T.sent ends.new.requests.items ≡ map T.sent ends.old.requests.items }
+    ensures key { R.key ends.new.replies ≡ R.key ends.old.replies }
+    ensures received { R.received ends.new.replies ≡ R.received ends.old.replies }
+
+    // The box of requests.
+    ensures requests_key { Q.key requests.new ≡ Q.key requests.old }
+    ensures requests_received { Q.received requests.new ≡ Q.received requests.old }
+    ensures requests_answers { Q.answers requests.new ≡ Q.answers requests.old }
+    ensures requests_learned { Learned Q.keeps
+        (slice_index_or (map T.number ends.old.requests.items) (worker - 1) 0)
+        (slice_index_or (map T.sent ends.old.requests.items) (worker - 1) [])
+        (Q.about requests.old) (Q.about requests.new) }
+    ensures requests_told { IsTrue Q.keeps.complete
+        → IsFront (from_sender (slice_index_or (map T.number ends.old.requests.items) (worker - 1) 0)
+        (Q.received requests.old))
+        (slice_index_or (map T.sent ends.old.requests.items) (worker - 1) []) }
+
+    // The session's sender.
+    ensures roomy { IsTrue Q.keeps.roomy
+        → slice_index_or (map T.unseen ends.new.requests.items) (worker - 1) 0
+        ≡ min 64 (length (slice_index_or (map T.sent ends.old.requests.items) (worker - 1) [])
+        - length (from_sender (slice_index_or (map T.number ends.old.requests.items) (worker - 1) 0)
+        (Q.received requests.old))) }
+    ensures freed { IsTrue Q.keeps.freed
+        → IsFront (slice_index_or (map T.sent ends.old.requests.items) (worker - 1) [])
+        (from_sender (slice_index_or (map T.number ends.old.requests.items) (worker - 1) 0)
+        (Q.received requests.old))
+        → (tx : T) → slice_index_or ends.new.requests.items (worker - 1) tx ≡ tx → T.clear tx }
+
+    // The session's box.
+    ensures learned { Learned R.keeps (R.From.number replies.old) (R.From.sent replies.old)
+        (R.about ends.old.replies) (R.about ends.new.replies) }
+    ensures told { IsTrue R.keeps.complete
+        → IsFront (from_sender worker (R.received ends.old.replies)) (R.From.sent replies.old) }
+
+    // The worker's sender of replies.
+    ensures replies_key { R.From.key replies.new ≡ R.From.key replies.old }
+    ensures replies_number { R.From.number replies.new ≡ R.From.number replies.old }
+    ensures replies_sent { R.From.sent replies.new ≡ R.From.sent replies.old }
+    ensures replies_fulls { R.From.fulls replies.new ≡ R.From.fulls replies.old }
+    ensures replies_roomy { IsTrue R.keeps.roomy → R.From.unseen replies.new
+        ≡ min 64 (length (R.From.sent replies.old)
+        - length (from_sender worker (R.received ends.old.replies))) }
+    ensures replies_freed { IsTrue R.keeps.freed
+        → IsFront (R.From.sent replies.old) (from_sender worker (R.received ends.old.replies))
+        → R.From.clear replies.new }
+{
+    let sender = &mut ends.requests[worker as usize - 1];
+    requests.beside(sender);
+    ends.replies.beside(replies);
+}
+
 impl<T: Tx<Request>, R: Rx<Reply>, Q: Rx<Request, From = T>> Meets<Q, R::From>
     for SessionEndsOver<T, R> {
     ghost use Rattle.std.specs.Prelude.{◌≡◌, ◌-◌, [], map, slice_index_or};
@@ -118,8 +186,6 @@ impl<T: Tx<Request>, R: Rx<Reply>, Q: Rx<Request, From = T>> Meets<Q, R::From>
     ghost keeps = { R.keeps };
 
     fn meet(&mut self, worker: u16, requests: &mut Q, replies: &mut R::From) {
-        let sender = &mut self.requests[worker as usize - 1];
-        requests.beside(sender);
-        self.replies.beside(replies);
+        meet_ends(self, worker, requests, replies)
     }
 }

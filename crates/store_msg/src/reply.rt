@@ -100,6 +100,14 @@ impl Reply {
     }
 
     /// What the get was answered. Takes no memory.
+    pub fn answered(&self) -> &Answered
+        ensures answered { result.now ≡ self.now.answered }
+        ensures is_answer { IsAnswer self.now.required result.now }
+    {
+        &self.answered
+    }
+
+    /// What the get was answered, taken out. Takes no memory.
     pub fn into_answered(self) -> Answered
         ensures answered { result ≡ self.answered }
         ensures is_answer { IsAnswer self.required result }

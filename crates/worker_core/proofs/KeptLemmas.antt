@@ -20,8 +20,8 @@ use Rattle.store_msg.specs.Reply.{PlainReply}
 use Rattle.store_msg.specs.declared.request.Request.{Request}
 use Rattle.worker_core.specs.Kept.{AreEntries, IsBelow, IsFree, IsKept, IsRequest}
 use Rattle.worker_core.specs.Lag.{LagsBy}
-use Rattle.worker_core.specs.Serving.{AddsReplies, IsHeldFor, Served}
-use Rattle.worker_core.specs.Share.{AreThoseOf, CoversEarlier, IsAnswerCell, IsAtMost, IsHeldForSession, IsReplyTo, IsSession, IsTold, WasOwn, entries_in, own_cell, replies_to, shown_of, told_to}
+use Rattle.worker_core.specs.Serving.{AddsReplies, Served}
+use Rattle.worker_core.specs.Share.{AreThoseOf, CoversEarlier, IsAnswerCell, IsAtMost, IsHeldFor, IsReplyTo, IsSession, IsTold, WasOwn, entries_in, own_cell, replies_to, shown_of, told_to}
 use Rattle.worker_core.specs.State.{changed_of, dirty, Entries, IsFixed, kept_batch, kept_request, Lists, lives_at, opening_state, State}
 use Rattle.worker_core.specs.Telling.{TellsAll}
 use Rattle.worker_core.specs.Turns.{Gossips, HandsOver, Serves, counted, marked, reply_to, served}
@@ -98,11 +98,6 @@ free_none : (kept : Option Popped) → IsFree kept None
 free_none None = tt
 free_none (Some (popped.Request session request)) = refl
 free_none (Some (popped.Batch sender batch)) = tt
-
--- a reply is held for a session
-held_for_session : (lists : Lists) (held : Option (ℕ × PlainReply)) → IsHeldFor (length lists.replied) held → IsHeldForSession lists held
-held_for_session lists None is = tt
-held_for_session lists (Some held) is = is
 
 -- Some steps of a worker.
 module _ (before : Lists) (keeps : IsKept before) where
@@ -352,7 +347,7 @@ module _ (before : Lists) (keeps : IsKept before) where
             whole = whole_taken before.state.kinds cells worked own joined whole worked_are keeps.joined request is;
           };
           replies = answers_worked keeps.share.replies serves fixed long
-              (held_for_session now held (subst (λ sessions. IsHeldFor sessions held) (sym long) for_session)) keeps.below
+              (subst (λ sessions. IsHeldFor sessions held) (sym long) for_session) keeps.below
               (λ ask key required is. shown_made key);
           told = λ place low.
               told_later before.state now.state worked ((session, request) ∷ []) place (told_to before place) (keeps.share.told place low) fixed;

@@ -5,9 +5,7 @@ pub mod LagLemmas
 pub mod LawfulLemmas
 pub mod MapLemmas
 pub mod MarkingLemmas
-pub mod MatesLemmas
 pub mod OwnLemmas
-pub mod PostsLemmas
 pub mod RepliesLemmas
 pub mod SealedLemmas
 pub mod ServingLemmas

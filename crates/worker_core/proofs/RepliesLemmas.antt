@@ -1,5 +1,5 @@
 -- A worker's replies: they answer its gets one by one, and what a later one shows covers what an earlier one on the key shows.
-use Rattle.std.specs.Prelude.{◌≡◌, ◌==◌, ◌&&◌, ℕ, zero, suc, ◌-◌, ◌≤◌, Bool, true, false, IsTrue, if◌then◌else◌, List, [], ◌∷◌, ◌++◌, All, AllPairs, Contains, length, map, slice_index_or, slice_set, Option, Some, None}
+use Rattle.std.specs.Prelude.{◌≡◌, ◌==◌, ◌&&◌, ℕ, zero, suc, ◌-◌, ◌≤◌, Bool, true, false, IsTrue, if◌then◌else◌, List, [], ◌∷◌, ◌++◌, All, AllPairs, Contains, length, map, slice_index_or, slice_set, Some, None}
 use Rattle.std.specs.List.{AllZip}
 use Rattle.std.proofs.Common.{refl, sym, ap, subst, ◌∙◌, inl, inr, append-nil, append_assoc, arith}
 use Rattle.std.proofs.lemmas.Bool.{cases_eq, eq-eqb, ne_eqb}
@@ -19,7 +19,7 @@ use Rattle.store_msg.specs.declared.reply.Answered.TheVariants.{Found, Again}
 use Rattle.store_msg.specs.declared.request.Request.{Request}
 use Rattle.store_msg.specs.declared.request.Request.TheVariants as requests
 use Rattle.worker_core.specs.Kept.{IsBelow}
-use Rattle.worker_core.specs.Share.{AreAnswered, Asked, CoversEarlier, IsAnswerCell, IsHeldForSession, IsMadeFrom, IsReplyTo, IsSession, asked_by, cells_on, entries_in, gets_after, held_for, replies_to, shown_of}
+use Rattle.worker_core.specs.Share.{AreAnswered, Asked, CoversEarlier, IsAnswerCell, IsHeldFor, IsMadeFrom, IsReplyTo, IsSession, asked_by, cells_on, entries_in, gets_after, held_for, replies_to, shown_of}
 use Rattle.worker_core.specs.State.{Entries, IsFixed, Lists, State, lives_at}
 use Rattle.worker_core.specs.Turns.{HandsOver, Serves, reply_to}
 
@@ -105,15 +105,10 @@ module _ {A B : Type 0} where
 session_on : (before now : Lists) (session : ℕ) → length now.replied ≡ length before.replied → IsSession before session → IsSession now session
 session_on before now session long is = (is.0, omega (arith, is.1, long))
 
-held_on : (before now : Lists) (held : Option (ℕ × PlainReply)) → length now.replied ≡ length before.replied → IsHeldForSession before held
-    → IsHeldForSession now held
-held_on before now None long is = tt
-held_on before now (Some held) long is = session_on before now held.0 long is
-
 -- where the replies are the same, and what is held is held for a session, the gets stay answered
 answered_by_same : (before now : Lists) {worked : List (ℕ × Request)} {joined : List (ℕ × Entries)} → AreAnswered before worked joined
     → ((session : ℕ) → IsSession before session → replies_to now session ≡ replies_to before session)
-    → length now.replied ≡ length before.replied → IsHeldForSession now now.state.held → IsFixed before.state now.state → AreAnswered now worked joined
+    → length now.replied ≡ length before.replied → IsHeldFor (length now.replied) now.state.held → IsFixed before.state now.state → AreAnswered now worked joined
 answered_by_same before now {worked} {joined} answered same long held fixed = record {
   held = held;
   each = λ session is.
@@ -132,7 +127,7 @@ pub answered_still : (before now : Lists) {worked : List (ℕ × Request)} {join
     → length now.replied ≡ length before.replied → now.state.held ≡ before.state.held → IsFixed before.state now.state → AreAnswered now worked joined
 answered_still before now answered same long held fixed =
     answered_by_same before now answered same long
-    (subst (IsHeldForSession now) (sym held) (held_on before now before.state.held long answered.held)) fixed
+    (rw (long, held) answered.held) fixed
 
 -- and so it does where more was joined
 pub answered_on : (before now : Lists) {worked : List (ℕ × Request)} {joined : List (ℕ × Entries)} (more : List (ℕ × Entries))
@@ -187,7 +182,7 @@ reply_rises state (requests.Get ask key required) replies below rising =
 -- a request that is worked on leaves the gets answered, with its own reply
 pub answers_worked : {session : ℕ} {request : Request} {before now : Lists} {worked : List (ℕ × Request)} {joined : List (ℕ × Entries)}
     → AreAnswered before worked joined → Serves session request before now → IsFixed before.state now.state
-    → length now.replied ≡ length before.replied → IsHeldForSession now now.state.held
+    → length now.replied ≡ length before.replied → IsHeldFor (length now.replied) now.state.held
     → ((to : ℕ) → IsSession before to → All (IsBelow before.state) (replies_to before to))
     → ((ask key : ℕ) (required : List (ℕ × ℕ)) → request ≡ requests.Get ask key required → IsShownMade before.state worked joined key)
     → AreAnswered now (worked ++ (session, request) ∷ []) joined
@@ -250,10 +245,10 @@ pub handed_long : {before now : Lists} → HandsOver before now → length now.r
 handed_long {before} {now} hands = ap (λ (lists : Lists). length lists.replied) hands.sent ∙ length-set before.replied (hands.session - 1) _
 
 -- to no session it changes what is sent or held
-pub handed_over : {before now : Lists} → HandsOver before now → IsHeldForSession before before.state.held → (to : ℕ) → IsSession before to
+pub handed_over : {before now : Lists} → HandsOver before now → IsHeldFor (length before.replied) before.state.held → (to : ℕ) → IsSession before to
     → replies_to now to ≡ replies_to before to
 handed_over {before} {now} hands for_session to is =
-    let session_is : IsSession before hands.session = subst (IsHeldForSession before) hands.was_held for_session in
+    let session_is : IsSession before hands.session = subst (IsHeldFor (length before.replied)) hands.was_held for_session in
     ap (λ (lists : Lists). replies_to lists to) hands.sent
     ∙ moved before.replied hands.session hands.reply to session_is.0 session_is.1 is.0
     ∙ ap (λ held. slice_index_or ([] ∷ before.replied) to [] ++ held_for to held) (sym hands.was_held)
@@ -285,7 +280,7 @@ pub handed_answered : {before now : Lists} {worked : List (ℕ × Request)} {joi
     → AreAnswered before worked joined → AreAnswered now worked joined
 handed_answered {before} {now} {worked} {joined} hands answered =
     let none : None ≡ now.state.held = sym (ap (λ (lists : Lists). lists.state.held) hands.sent) in
-    answered_by_same before now answered (handed_over hands answered.held) (handed_long hands) (subst (IsHeldForSession now) none tt)
+    answered_by_same before now answered (handed_over hands answered.held) (handed_long hands) (subst (IsHeldFor (length now.replied)) none tt)
     (record {
       me = ap (λ (lists : Lists). lists.state.me) hands.sent;
       round = ap (λ (lists : Lists). lists.state.round) hands.sent;

@@ -5,8 +5,8 @@ use Rattle.merge_world.specs.Effects.{takes}
 use Rattle.merge_world.specs.declared.private_map.KeyCells.{KeyCells}
 use Rattle.store_msg.specs.Reply.{PlainReply}
 use Rattle.store_msg.specs.declared.request.Request.TheVariants as requests
-use Rattle.worker_core.specs.Serving.{AddsReplies, IsHeldFor, Worked}
-use Rattle.worker_core.specs.Share.{owed_to}
+use Rattle.worker_core.specs.Serving.{AddsReplies, Worked}
+use Rattle.worker_core.specs.Share.{IsHeldFor, owed_to}
 use Rattle.worker_core.specs.State.{State}
 use Rattle.worker_core.specs.Turns.{marked_at, reply_from}
 

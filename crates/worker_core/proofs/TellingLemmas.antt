@@ -13,13 +13,12 @@ use Rattle.std.proofs.lemmas.List.Sums.{sum_by_push}
 use Rattle.std.proofs.lemmas.Option.{get_or_from_slice_get, slice_get_within}
 use Rattle.lattice_laws.specs.Counts.{Rose}
 use Rattle.composed_value.specs.Cell.{PlainCell}
-use Rattle.mail_contract.specs.Sends.{OnFull}
+use Rattle.mail_contract.specs.Sends.{FullsAfter, OnFull, Posted}
 use Rattle.mail_contract.specs.declared.Refused.{Refused}
 use Rattle.mail_contract.specs.declared.Refused.TheVariants.{Full, NoMemory}
 use Rattle.merge_world.specs.Effects.{cells_at, tells, told_of}
 use Rattle.merge_world.specs.declared.private_map.KeyCells.{KeyCells}
 use Rattle.worker_core.specs.Changes.{PlainChanges}
-use Rattle.worker_core.specs.Sending.{FullsAfter, Posted}
 use Rattle.worker_core.specs.State.{Entries}
 use Rattle.worker_core.specs.Room.{FirstBack, RoomAt, went_first}
 use Rattle.worker_core.specs.Telling.{DifferAt, TellsAll, TellsOne}

@@ -8,9 +8,10 @@ use Rattle.lattice_laws.specs.Counts.{Rose}
 use Rattle.lattice_laws.specs.declared.lattice.NoMemory.{NoMemory}
 use Rattle.merge_world.specs.Effects.{hears}
 use Rattle.mail_contract.specs.Got.{Added}
+use Rattle.mail_contract.specs.Takes.{Answers}
 use Rattle.store_msg.specs.Reply.{PlainReply}
 use Rattle.store_msg.specs.declared.request.Request.{Request}
-use Rattle.worker_core.specs.Serving.{Resent, RoundsIf, Served, Worked, WorksOn, did_of, rests_as}
+use Rattle.worker_core.specs.Serving.{Resent, RoundsIf, Served, TakesGossip, TakesRequest, Worked, WorksOn, did_of, rests_as}
 use Rattle.worker_core.specs.Share.{owed_to}
 use Rattle.worker_core.specs.State.{Entries, Lists, PlainWorker, State, changed_of, dirty, lists_of}
 use Rattle.worker_core.specs.Turns.{Counts, Gossips, HaveRoom, Hears, IsBlocked, IsGot, IsIdle, IsTaken, IsUnmoved, KeepsBatch, KeepsRequest, Rounds, Serves, SomeRose, Turns, batches, marked_at, reply_from, served}
@@ -20,6 +21,7 @@ use Rattle.worker_core.specs.declared.popped.Popped.{Popped}
 use Rattle.worker_core.specs.declared.popped.Popped.TheVariants as popped
 use Rattle.worker_core.proofs.ToldLemmas.{blocked_full, clean_at_each, gossips_nothing, nothing_sent}
 use Rattle.worker_core.proofs.BatchesLemmas.{none_to_each}
+use Rattle.worker_core.proofs.LawfulLemmas.{none_held}
 
 -- a request that was taken is worked on, where what is worked on is as before
 request_serves : (session : ℕ) (request : Request) (before middle now : Lists) → IsTaken session request before now
@@ -150,7 +152,8 @@ served_turns {E} (Ok did) before start middle now count count_now room gossips u
     ))
 
 -- memory was wanting
-pub lacks : (result : Result Did NoMemory) (before start now : Lists) (count count_now : Counts) (room : ℕ → List Bool → Type 0) → (error : NoMemory) × (result ≡ Err error)
+pub lacks : {P : NoMemory → Type 0} (result : Result Did NoMemory) (before start now : Lists) (count count_now : Counts) (room : ℕ → List Bool → Type 0)
+    → (error : NoMemory) × (result ≡ Err error) × P error
     → Gossips before start → now ≡ start → Turns result before now count count_now room
 lacks result before start now count count_now room is gossips same =
     subst (λ result. Turns result before now count count_now room) (sym is.1) (record { told = start; gossips = gossips; kept = inl same })
@@ -284,35 +287,49 @@ some_sent sent some is = absurd (omega (arith, ok_same sent 0 is, some))
 pub no_ok : (error : NoMemory) → Err error ≡ the_ok 0 → ⊥
 no_ok error is = ok_is_no_err 0 error (sym is)
 
+-- by whether a batch of gossip was taken, and whether a request was
+pub batch_taken : (taken : Bool) (before now : Lists) (count count_now : Answers) (nothing : Type 0) → taken ≡ true
+    → TakesGossip {E = NoMemory} (Ok taken) before now count count_now nothing → KeepsBatch before now × Rose count.somes count_now.somes
+batch_taken true before now count count_now nothing is takes = takes
+batch_taken false before now count count_now nothing is takes = absurd (false≢true is)
+
+pub no_batch : (taken : Bool) (before now : Lists) (count count_now : Answers) (nothing : Type 0) → taken ≡ false
+    → TakesGossip {E = NoMemory} (Ok taken) before now count count_now nothing → (now ≡ before) × Rose count.nones count_now.nones
+no_batch true before now count count_now nothing is takes = absurd (true≢false is)
+no_batch false before now count count_now nothing is takes = (takes.0, takes.1)
+
+pub request_taken : (taken : Bool) (before now : Lists) (count count_now : Answers) (nothing : Type 0) → taken ≡ true
+    → TakesRequest {E = NoMemory} (Ok taken) before now count count_now nothing → KeepsRequest before now
+request_taken true before now count count_now nothing is takes = takes
+request_taken false before now count count_now nothing is takes = absurd (false≢true is)
+
+pub no_request : (taken : Bool) (before now : Lists) (count count_now : Answers) (nothing : Type 0) → taken ≡ false
+    → TakesRequest {E = NoMemory} (Ok taken) before now count count_now nothing → (now ≡ before) × (IsTrue (is_some before.state.held) ⊎ Rose count.nones count_now.nones)
+no_request true before now count count_now nothing is takes = absurd (true≢false is)
+no_request false before now count count_now nothing is (same, inl held) = (same, inl held)
+no_request false before now count count_now nothing is (same, inr found) = (same, inr found.0)
+
 -- nothing moved in the one nor in the other
 pub unmoved_through : (before between now : Lists) → IsUnmoved before between → IsUnmoved between now → IsUnmoved before now
 unmoved_through before between now first then' =
     then' ∙ (λ j. record (first j) { state = record ((first j).state) { turned = now.state.turned; since = now.state.since } })
 
--- keys are left to tell, so a batch came back: in the round that was due, or in the last one
-pub left_full : (due left : Bool) (resent told now : Lists) (count_resent count_told count_asked count_now : Counts) (room : ℕ → List Bool → Type 0) (result : Result ℕ NoMemory)
-    → Started resent told due count_resent count_told room → Started told now left count_asked count_now room → RoundsIf left result told now count_asked count_now room
+-- keys are left to tell, so a batch came back: in the round that was due, or in the last one; and so did the first batch to each mate that is left
+-- to tell
+pub left_back : (due left : Bool) (first told now : Lists) (count count_told count_asked count_now : Counts) (room : ℕ → List Bool → Type 0) (result : Result ℕ NoMemory)
+    → Started first told due count count_told room → Started told now left count_asked count_now room → RoundsIf left result told now count_asked count_now room
     → (IsTrue left → due ≡ false) → (left ≡ false → due ≡ false → dirty told.state ≡ 0)
-    → count_asked.gossip_fulls ≡ count_told.gossip_fulls → (due ≡ false → count_told.gossip_fulls ≡ count_resent.gossip_fulls)
-    → 1 ≤ dirty now.state → SomeRose count_resent.gossip_fulls count_now.gossip_fulls
-left_full true true resent told now count_resent count_told count_asked count_now room result first last round tried clean same not_due some = absurd (true≢false (tried refl))
-left_full true false resent told now count_resent count_told count_asked count_now room result first last round tried clean same not_due some =
-    subst (λ fulls. SomeRose count_resent.gossip_fulls fulls) (sym same ∙ sym (ap (λ (count : Counts). count.gossip_fulls) round.2)) (first.full refl)
-left_full false true resent told now count_resent count_told count_asked count_now room result first last round tried clean same not_due some =
-    subst (λ fulls. SomeRose fulls count_now.gossip_fulls) (same ∙ not_due refl) (last.full refl)
-left_full false false resent told now count_resent count_told count_asked count_now room result first last round tried clean same not_due some =
-    absurd (omega (arith, some, clean refl refl, ap (λ (lists : Lists). dirty lists.state) last.unmoved))
-
--- and so the first batch to each mate that is left to tell came back
-pub left_first_back : (due left : Bool) (resent told now : Lists) (count_resent count_told count_asked count_now : Counts) (room : ℕ → List Bool → Type 0) (result : Result ℕ NoMemory)
-    → Started resent told due count_resent count_told room → Started told now left count_asked count_now room → RoundsIf left result told now count_asked count_now room
-    → (IsTrue left → due ≡ false) → (left ≡ false → due ≡ false → dirty told.state ≡ 0) → 1 ≤ dirty now.state → IsFirstBack now room
-left_first_back true true resent told now count_resent count_told count_asked count_now room result first last round tried clean some = absurd (true≢false (tried refl))
-left_first_back true false resent told now count_resent count_told count_asked count_now room result first last round tried clean some =
-    subst (λ lists. IsFirstBack lists room) (sym round.1) (first.no_room refl)
-left_first_back false true resent told now count_resent count_told count_asked count_now room result first last round tried clean some = last.no_room refl
-left_first_back false false resent told now count_resent count_told count_asked count_now room result first last round tried clean some =
-    absurd (omega (arith, some, clean refl refl, ap (λ (lists : Lists). dirty lists.state) last.unmoved))
+    → count_asked.gossip_fulls ≡ count_told.gossip_fulls → (due ≡ false → count_told.gossip_fulls ≡ count.gossip_fulls)
+    → 1 ≤ dirty now.state → SomeRose count.gossip_fulls count_now.gossip_fulls × IsFirstBack now room
+left_back true true first told now count count_told count_asked count_now room result begun ended round tried clean same not_due some = absurd (true≢false (tried refl))
+left_back true false first told now count count_told count_asked count_now room result begun ended round tried clean same not_due some = (
+  subst (SomeRose count.gossip_fulls) (sym same ∙ sym (ap (λ (count : Counts). count.gossip_fulls) round.2)) (begun.full refl),
+  subst (λ lists. IsFirstBack lists room) (sym round.1) (begun.no_room refl),
+)
+left_back false true first told now count count_told count_asked count_now room result begun ended round tried clean same not_due some =
+    (subst (λ fulls. SomeRose fulls count_now.gossip_fulls) (same ∙ not_due refl) (ended.full refl), ended.no_room refl)
+left_back false false first told now count count_told count_asked count_now room result begun ended round tried clean same not_due some =
+    absurd (omega (arith, some, clean refl refl, ap (λ (lists : Lists). dirty lists.state) ended.unmoved))
 
 -- the reply that is held came back
 pub held_full : (before now : Option (ℕ × PlainReply)) (replied replied_now : List (List PlainReply)) (fulls fulls_now : List ℕ) (sent : Bool) → sent ≡ false
@@ -341,10 +358,6 @@ rests_turns before now count count_now room unmoved none_kept no_gossip no_reque
     someone : (held : Option (ℕ × PlainReply)) → IsTrue (is_some held) → (value : ℕ × PlainReply) × (held ≡ Some value)
     someone None is = absurd (false≢true is)
     someone (Some value) is = (value, refl)
-
-    none_of : (held : Option (ℕ × PlainReply)) → is_some held ≡ false → held ≡ None
-    none_of None is = refl
-    none_of (Some value) is = absurd (true≢false is)
 
     no_request_of : IsTrue (is_some now.state.held) ⊎ Rose count.requests.nones count_now.requests.nones
         → Rose count.requests.nones count_now.requests.nones ⊎ ((held : ℕ × PlainReply) × (now.state.held ≡ Some held))
@@ -379,7 +392,7 @@ rests_turns before now count count_now room unmoved none_kept no_gossip no_reque
         rose_of (inr rose) = rose
 
         idles : IsIdle before now count count_now
-        idles = record { unmoved = unmoved; no_gossip = no_gossip; no_request = rose_of no_request; clean = clean; none_held = none_of now.state.held is; none_kept = none_kept }
+        idles = record { unmoved = unmoved; no_gossip = no_gossip; no_request = rose_of no_request; clean = clean; none_held = none_held now.state.held is; none_kept = none_kept }
 
     by_dirty : (0 < dirty now.state) ⊎ (dirty now.state ≤ 0) → Turns {E = NoMemory} (Ok (rests_as now.state)) before now count count_now room
     by_dirty (inl some) = as_blocked (λ j. if is_dirty j || is_some now.state.held then did.Blocked else did.Idle) (blocked (inl (omega (arith, some))) (inr (back (omega (arith, some)))))

@@ -1,13 +1,9 @@
-pub mod Boxes
 pub mod Changes
 pub mod Lag
 pub mod Local
 pub mod Kept
-pub mod Mates
-pub mod Parcels
 pub mod Room
 pub mod Sealed
-pub mod Sending
 pub mod Serving
 pub mod Share
 pub mod State

@@ -16,7 +16,8 @@ went_first [] = 0
 went_first (true ∷ tries) = went_first tries + 1
 went_first (false ∷ tries) = 0
 
--- How a sender's room bounds what comes back: the first batch does not where the next message finds a place, and one does only where 64 messages or more may take one up.
+-- How a sender's room bounds what comes back: the first batch does not where the next message finds a place, and one does only where 64
+-- messages or more may take one up.
 pub record HasRoom (clear : Type 0) (roomy : Bool) (unseen : ℕ) (tries : List Bool) : Type 0 where
   pub first : FirstBack tries → clear → ⊥
   pub full : IsTrue roomy → IsTrue (list_any not tries) → 64 ≤ unseen + went_first tries

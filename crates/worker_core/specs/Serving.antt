@@ -1,11 +1,11 @@
 -- A worker works on the message that is kept.
-use Rattle.std.specs.Prelude.{◌≡◌, ◌⊎◌, ℕ, ◌-◌, ◌<◌, ◌≤◌, ◌==◌, ◌||◌, ltb, Bool, true, false, IsTrue, is_some, if◌then◌else◌, List, [], ◌∷◌, ◌++◌, length, slice_index_or, slice_set, Option, Some, None, Result, Ok, Err, IfOk, OnErr, OnOk, ⊤}
+use Rattle.std.specs.Prelude.{◌≡◌, ◌⊎◌, ℕ, ◌-◌, ◌<◌, ◌≤◌, ◌==◌, ◌||◌, ltb, Bool, true, false, IsTrue, is_some, if◌then◌else◌, List, [], ◌∷◌, ◌++◌, length, slice_index_or, slice_set, Option, Some, None, Result, Ok, Err, IfOk, OnErr, OnOk}
 use Rattle.lattice_laws.specs.Counts.{Rose}
 use Rattle.mail_contract.specs.Takes.{Answers}
 use Rattle.merge_world.specs.Effects.{hears}
 use Rattle.store_msg.specs.Reply.{PlainReply}
 use Rattle.store_msg.specs.declared.request.Request.{Request}
-use Rattle.worker_core.specs.Share.{owed_to}
+use Rattle.worker_core.specs.Share.{IsHeldFor, owed_to}
 use Rattle.worker_core.specs.State.{Lists, State, dirty}
 use Rattle.worker_core.specs.Turns.{Counts, KeepsBatch, KeepsRequest, Rounds, marked, reply_to, served}
 use Rattle.worker_core.specs.declared.did.Did.{Did}
@@ -17,11 +17,6 @@ use Rattle.worker_core.specs.declared.popped.Popped.TheVariants as popped
 abbrev pub AddsReplies : ℕ → List PlainReply → List (List PlainReply) → Option (ℕ × PlainReply) → List (List PlainReply) → Option (ℕ × PlainReply) → Type 0
 AddsReplies session replies before held now held_now =
     (to : ℕ) → 1 ≤ to → to ≤ length before → owed_to now held_now to ≡ owed_to before held to ++ (if session == to then replies else [])
-
--- a reply is held for one of so many sessions
-abbrev pub IsHeldFor : ℕ → Option (ℕ × PlainReply) → Type 0
-IsHeldFor sessions None = ⊤
-IsHeldFor sessions (Some held) = (1 ≤ held.0) × (held.0 ≤ sessions)
 
 -- a request is worked on, by what the worker keeps and what it replied
 pub record Worked (session : ℕ) (request : Request) (before now : State) (replied replied_now : List (List PlainReply)) : Type 0 where

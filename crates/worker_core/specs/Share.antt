@@ -128,13 +128,14 @@ replies_to lists session = owed_to lists.replied lists.state.held session
 abbrev pub IsSession : Lists → ℕ → Type 0
 IsSession lists session = (1 ≤ session) × (session ≤ length lists.replied)
 
-abbrev pub IsHeldForSession : Lists → Option (ℕ × PlainReply) → Type 0
-IsHeldForSession lists None = ⊤
-IsHeldForSession lists (Some held) = IsSession lists held.0
+-- a reply is held for one of so many sessions
+abbrev pub IsHeldFor : ℕ → Option (ℕ × PlainReply) → Type 0
+IsHeldFor sessions None = ⊤
+IsHeldFor sessions (Some held) = (1 ≤ held.0) × (held.0 ≤ sessions)
 
 -- The replies to each session answer its gets one by one, and on one key their clocks never go down.
 pub record AreAnswered (lists : Lists) (worked : List (ℕ × Request)) (joined : List (ℕ × Entries)) : Type 0 where
-  pub held : IsHeldForSession lists lists.state.held
+  pub held : IsHeldFor (length lists.replied) lists.state.held
   pub each : (session : ℕ) → IsSession lists session → AllZip (IsReplyTo lists.state joined) (gets_after session [] worked) (replies_to lists session)
   pub rising : (session : ℕ) → IsSession lists session → AllPairs CoversEarlier (replies_to lists session)
 

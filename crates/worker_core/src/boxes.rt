@@ -1,58 +1,12 @@
-//! Asking a box.
+//! Holding a session beside the boxes.
 ghost use Rattle.std.specs.Prelude.{◌≡◌, ◌≤◌, ◌-◌, [], length, map, min, slice_get, slice_index_or, IsTrue, Some};
-ghost use Rattle.mail_contract.specs.Standing.{IsSettled, Learned};
+ghost use Rattle.mail_contract.specs.Boxes.{Shows, box_of};
+ghost use Rattle.mail_contract.specs.Standing.{Learned};
 ghost use Rattle.mail_contract.specs.Takes.{IsFront, from_sender};
-ghost use Rattle.worker_core.specs.Boxes.{HandsOut, Settles, SettlesWeak, Shows, Takes, box_of, weak_box_of};
 ghost use Rattle.worker_core.specs.Room.{LearnsRoomOf};
 
-use lattice_laws::NoMemory;
-use mail_contract::{GossipRx, Rx, Tx};
+use mail_contract::{Rx, Tx};
 use store_msg::{Meets, Reply, Request};
-
-/// Takes a message out of a box, with its sender's number.
-pub(crate) fn take_one<M, Q: Rx<M>>(requests: &mut Q) -> Result<Option<(u16, M)>, NoMemory>
-    ensures key { Q.key requests.new ≡ Q.key requests.old }
-    ensures takes { Takes Q.keeps (Q.senders (Q.key requests.old)) result
-        (box_of Q.received Q.answers Q.about requests.old)
-        (box_of Q.received Q.answers Q.about requests.new) }
-{
-    requests.take()
-}
-
-/// Takes a message out of a weak box, with its sender's number.
-pub(crate) fn take_weak<M, G: GossipRx<M>>(gossip: &mut G) -> Result<Option<(u16, M)>, NoMemory>
-    ensures key { G.key gossip.new ≡ G.key gossip.old }
-    ensures hands_out { HandsOut G.keeps (G.senders (G.key gossip.old)) result
-        (weak_box_of G.got G.answers G.about G.due G.most gossip.old)
-        (weak_box_of G.got G.answers G.about G.due G.most gossip.new) }
-{
-    gossip.take()
-}
-
-/// Takes in a sender that has ended. Takes no memory.
-pub(crate) fn settle_one<M, Q: Rx<M>>(requests: &mut Q, ended: Q::From)
-    requires pair { Q.pairs (Q.key requests.old) (Q.From.key ended) (Q.From.number ended) }
-    requires once { IsSettled (Q.about requests.old (Q.From.number ended)).standing → ⊥ }
-    ensures key { Q.key requests.new ≡ Q.key requests.old }
-    ensures settles { Settles Q.keeps (Q.From.number ended) (Q.From.sent ended)
-        (box_of Q.received Q.answers Q.about requests.old)
-        (box_of Q.received Q.answers Q.about requests.new) }
-{
-    requests.settle(ended)
-}
-
-/// Takes in a sender of a weak box that has ended. Takes no memory.
-pub(crate) fn settle_weak<M, G: GossipRx<M>>(gossip: &mut G, ended: G::From)
-    requires pair { G.pairs (G.key gossip.old) (G.From.key ended) (G.From.number ended) }
-    requires once { IsSettled (G.about gossip.old (G.From.number ended)).standing → ⊥ }
-    ensures key { G.key gossip.new ≡ G.key gossip.old }
-    ensures settles { SettlesWeak G.keeps (G.senders (G.key gossip.old))
-        (G.From.number ended) (G.From.sent ended)
-        (weak_box_of G.got G.answers G.about G.due G.most gossip.old)
-        (weak_box_of G.got G.answers G.about G.due G.most gossip.new) }
-{
-    gossip.settle(ended)
-}
 
 /// Holds a worker's ends for a session beside the session's. Takes no memory.
 pub(crate) fn meet<Q: Rx<Request>, T: Tx<Reply>, S: Meets<Q, T>>(

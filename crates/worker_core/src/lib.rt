@@ -17,8 +17,3 @@ pub use did::Did;
 pub use popped::Popped;
 pub use sealed::{Sealed, SealedOver};
 pub use worker::{Worker, WorkerOver};
-
-#[cfg(test)]
-mod tests;
-#[cfg(test)]
-mod thread_tests;

@@ -1,6 +1,6 @@
 //! Two workers beside each other.
 ghost use Rattle.std.specs.Prelude.{◌≡◌, ◌<◌, [], length, map, slice_get, slice_index_or, Some};
-ghost use Rattle.worker_core.specs.Boxes.{ShowsWeak, weak_box_of};
+ghost use Rattle.mail_contract.specs.Boxes.{ShowsWeak, weak_box_of};
 ghost use Rattle.worker_core.specs.Lag.{Lags};
 ghost use Rattle.worker_core.specs.Room.{LearnsRoomAt};
 ghost use Rattle.worker_core.specs.Share.{Share};

@@ -1,33 +1,14 @@
 //! A worker over plain mail, for one thread: a driver carries its parcels.
 ghost use Rattle.std.specs.Prelude.{◌≡◌, ◌-◌, ◌<◌, ◌≤◌, length};
 ghost use Rattle.worker_core.specs.Lag.{Lags};
-ghost use Rattle.worker_core.specs.Parcels.{Delivers, GivesUp};
+ghost use Rattle.mail_contract.specs.Parcels.{Delivers, GivesUp};
 ghost use Rattle.worker_core.specs.Share.{Share};
 ghost use Rattle.worker_core.specs.State.{lists_of, place_at};
 
 use crate::WorkerOver;
 use crate::mates::place_of;
-use mail_contract::{GossipRx, Message, Parcel, ParcelFault, PlainRx, PlainTx, Rx, Tx};
+use mail_contract::{GossipRx, Parcel, ParcelFault, PlainRx, PlainTx, Rx, Tx, deliver, parcel_of};
 use store_msg::{Batch, Reply, Request};
-
-/// Takes a parcel in to a box.
-fn deliver<M: Message>(messages: &mut PlainRx<M>, parcel: Parcel<M>) -> Result<(), ParcelFault<M>>
-    ensures delivers { Delivers ⟦<PlainRx<M> as Rx<M>>⟧.key ⟦<PlainRx<M> as Rx<M>>⟧.received
-        ⟦<PlainRx<M> as Rx<M>>⟧.answers ⟦<PlainRx<M> as Rx<M>>⟧.about
-        parcel result messages.old messages.new }
-{
-    messages.deliver(parcel)
-}
-
-/// The sender at a place, from 0, gives up what it sent since its last parcel. Takes no memory.
-fn parcel_of<M: Message>(senders: &mut Vec<PlainTx<M>>, place: usize) -> Parcel<M>
-    requires { place < length senders.old.items }
-    ensures { GivesUp ⟦<PlainTx<M> as Tx<M>>⟧.number ⟦<PlainTx<M> as Tx<M>>⟧.sent
-        ⟦<PlainTx<M> as Tx<M>>⟧.key place result senders.old.items senders.new.items }
-{
-    let sender = &mut senders[place];
-    sender.parcel()
-}
 
 impl WorkerOver<PlainRx<Request>, PlainTx<Reply>, PlainTx<Batch>, PlainRx<Batch>> {
     /// Takes in a parcel of a session's requests. A refusal hands it back, and nothing has changed.

@@ -1,16 +1,15 @@
 //! A worker whose sessions have ended, and which receives gossip alone.
 ghost use Rattle.std.specs.Prelude.{◌≡◌, is_some, option_map, IfOk, IsTrue, None, Some};
+ghost use Rattle.mail_contract.specs.Boxes.{FindsNothingWeak, MayHandOut, SettlesWeak, weak_box_of};
 ghost use Rattle.mail_contract.specs.Standing.{IsSettled};
 ghost use Rattle.merge_world.specs.Effects.{cells_at};
-ghost use Rattle.worker_core.specs.Boxes.{FindsNothingWeak, MayHandOut, SettlesWeak, weak_box_of};
 ghost use Rattle.worker_core.specs.Sealed.{HearsOne, HoldsSealed, JoinsKept, TakesBatch, batch_of};
 
 use crate::Popped;
-use crate::boxes::{settle_weak, take_weak};
 use crate::serve::attest_entries;
 use composed_value::{Cell, Kind};
 use lattice_laws::{Items, NoMemory};
-use mail_contract::{GossipRx, Rx, Tx};
+use mail_contract::{GossipRx, Rx, Tx, settle_weak, take_weak};
 use merge_world::PrivateMap;
 use std::marker::Model;
 use store_msg::{Batch, Mail, Request};

@@ -1,14 +1,14 @@
 //! Working on what was received.
 ghost use Rattle.std.specs.Prelude.{◌≡◌, ◌≢◌, ◌&&◌, ℕ, ◌<◌, ◌≤◌, ◌+◌, ◌^◌, [], ◌∷◌, if◌then◌else◌, is_some, leb, length, map, slice_get, slice_index_or, min, IsTrue, None, Some, IfOk, OnOk, OnErr};
 ghost use Rattle.lattice_laws.specs.Counts.{one_more};
-ghost use Rattle.mail_contract.specs.Sends.{OnFull, OnSent};
+ghost use Rattle.mail_contract.specs.Sends.{FullsAfter, OnFull, OnSent, Posted};
 ghost use Rattle.merge_world.specs.Effects.{cells_at, takes};
 ghost use Rattle.store_msg.specs.declared.request.Request.TheVariants as requests;
 ghost use Rattle.worker_core.specs.Changes.{with_key};
 ghost use Rattle.worker_core.specs.Kept.{AreEntries, IsFree, IsRequest};
 ghost use Rattle.worker_core.specs.Local.{state_of};
-ghost use Rattle.worker_core.specs.Sending.{FullsAfter, Posted};
-ghost use Rattle.worker_core.specs.Serving.{AddsReplies, IsHeldFor, Resent, Served, Worked, did_of, since_after};
+ghost use Rattle.worker_core.specs.Serving.{AddsReplies, Resent, Served, Worked, did_of, since_after};
+ghost use Rattle.worker_core.specs.Share.{IsHeldFor};
 ghost use Rattle.worker_core.specs.State.{lives_at, mate_at};
 ghost use Rattle.worker_core.specs.Turns.{changes, is_of, marked_at, reply_from};
 
@@ -18,7 +18,7 @@ use crate::{Did, Popped};
 use clock_lattice::Clock;
 use composed_value::{Cell, Kind, Put};
 use lattice_laws::{Lattice, NoMemory};
-use mail_contract::{Refused, Tx};
+use mail_contract::{Refused, Tx, post};
 use merge_world::PrivateMap;
 use placement::Placement;
 use std::alloc::Global;
@@ -168,33 +168,6 @@ pub(crate) fn count_again(since: &mut u32, told: &Result<u32, NoMemory>)
     if told.is_ok() {
         *since = 0;
     }
-}
-
-/// Sends a message by the sender at a place of a list.
-pub(crate) fn post<M, T: Tx<M>>(
-    senders: &mut Vec<T>,
-    place: usize,
-    message: M,
-) -> Result<(), Refused<M>>
-    requires { place < length senders.old.items }
-    ensures keys { map T.key senders.new.items ≡ map T.key senders.old.items }
-    ensures numbers { map T.number senders.new.items ≡ map T.number senders.old.items }
-    ensures sent { Posted result message place
-        (map T.sent senders.old.items) (map T.sent senders.new.items) }
-    ensures fulls { FullsAfter result place
-        (map T.fulls senders.old.items) (map T.fulls senders.new.items) }
-    ensures others { (other : ℕ) → other ≢ place
-        → slice_get senders.new.items other ≡ slice_get senders.old.items other }
-    ensures not_clear { OnFull result ((sender : T)
-        → slice_get senders.old.items place ≡ Some sender → T.clear sender → ⊥) }
-    ensures no_room { IsTrue T.roomy
-        → OnFull result (64 ≤ slice_index_or (map T.unseen senders.old.items) place 0) }
-    ensures unseen { IsTrue T.roomy
-        → OnSent result (slice_index_or (map T.unseen senders.new.items) place 0
-        ≡ min 64 (slice_index_or (map T.unseen senders.old.items) place 0 + 1)) }
-{
-    let sender = &mut senders[place];
-    sender.send(message)
 }
 
 /// Sends a reply to a session, or holds it where there is no place.

@@ -1,10 +1,10 @@
 //! A worker.
 ghost use Rattle.std.specs.Prelude.{◌≡◌, ◌⊎◌, ℕ, ◌<◌, ◌≤◌, ◌+◌, ◌-◌, ◌^◌, All, Bool, true, false, List, [], is_some, length, map, option_map, min, replicate, slice_get, slice_index_or, None, Some, Ok, IsTrue, IfOk, OnOk, OnErr, MatchResult};
 ghost use Rattle.lattice_laws.specs.Counts.{Rose};
+ghost use Rattle.mail_contract.specs.Boxes.{FindsNothing, FindsNothingWeak, MayHandOut, MayTake, Settles, Shows, box_of, weak_box_of};
 ghost use Rattle.mail_contract.specs.Standing.{AllPart, IsSettled, Learned};
 ghost use Rattle.mail_contract.specs.Takes.{IsFront, from_sender};
 ghost use Rattle.merge_world.specs.Effects.{cells_at};
-ghost use Rattle.worker_core.specs.Boxes.{FindsNothing, FindsNothingWeak, MayHandOut, MayTake, Settles, Shows, box_of, weak_box_of};
 ghost use Rattle.worker_core.specs.Lag.{Lags};
 ghost use Rattle.worker_core.specs.Room.{LearnsRoomOf, RoomAt};
 ghost use Rattle.worker_core.specs.Sealed.{HoldsSealed, sealed_of};
@@ -13,7 +13,7 @@ ghost use Rattle.worker_core.specs.Share.{Share};
 ghost use Rattle.worker_core.specs.State.{IsFixed, KeysStay, dirty, kept_request, lists_of, opening_state};
 ghost use Rattle.worker_core.specs.Turns.{MayAsk, OnNothing, Rounds, Turns, TurnsOnlyWhereFull, counts_of};
 
-use crate::boxes::{meet, settle_one, take_one, take_weak};
+use crate::boxes::meet;
 use crate::changeset::Changeset;
 use crate::gossip::gossip;
 use crate::local::Local;
@@ -24,7 +24,7 @@ use crate::serve::{
 use crate::{Did, Popped, SealedOver};
 use composed_value::{Cell, Kind};
 use lattice_laws::{Items, NoMemory};
-use mail_contract::{GossipRx, Rx, Tx};
+use mail_contract::{GossipRx, Rx, Tx, settle_one, take_one, take_weak};
 use merge_world::PrivateMap;
 use placement::Placement;
 use std::marker::Model;
@@ -90,6 +90,8 @@ impl<Q: Rx<Request>, T: Tx<Reply>, O: Tx<Batch>, G: GossipRx<Batch, From = O>> W
         }) }
         ensures share { IfOk result (λ worker.
             Share (lists_of Q.received T.sent O.sent G.got worker)) }
+        ensures lags { IfOk result (λ worker.
+            Lags (lists_of Q.received T.sent O.sent G.got worker)) }
     {
         let alloc = *ends.gossip_out.allocator();
         let mates = ends.gossip_out.len();
@@ -114,7 +116,13 @@ impl<Q: Rx<Request>, T: Tx<Reply>, O: Tx<Batch>, G: GossipRx<Batch, From = O>> W
         Ok(worker)
     }
 
-    /// Does the first thing that is to do.
+    /// Does the first of these that there is to do, and tells which. It works on the message that an earlier
+    /// call kept; sends the reply that is held again; makes a round of gossip, where keys are left to tell and
+    /// `round` requests were taken since the last one; takes a batch of gossip and joins it; takes a request,
+    /// where no reply is held, and works on it; makes a round of gossip where keys are left to tell.
+    ///
+    /// A reply that finds no place is held. With `NoMemory` the cells are as before, and a message that was
+    /// taken is kept: a later call works on it.
     pub fn turn(&mut self) -> Result<Did, NoMemory>
         ensures share { Share (lists_of Q.received T.sent O.sent G.got self.new) }
         ensures lags { Lags (lists_of Q.received T.sent O.sent G.got self.new) }
@@ -327,7 +335,11 @@ impl<Q: Rx<Request>, T: Tx<Reply>, O: Tx<Batch>, G: GossipRx<Batch, From = O>> W
         }
     }
 
-    /// Makes a round of gossip.
+    /// Makes a round of gossip: tells each mate of the keys that changed since it was last told of them, in
+    /// batches of at most 16 keys in ascending order, each with its present own cell. Answers the number of
+    /// batches that went out. Keys whose batch found no place stay changed.
+    ///
+    /// With `NoMemory` some keys were told, and all others stay changed.
     pub fn round(&mut self) -> Result<u32, NoMemory>
         ensures share { Share (lists_of Q.received T.sent O.sent G.got self.new) }
         ensures lags { Lags (lists_of Q.received T.sent O.sent G.got self.new) }

@@ -1,305 +1,239 @@
-use Rattle.std.proofs.Common.{◌≡◌, ◌∙◌, ◌≤◌, ◌⊎◌, IsTrue, is_some, ap, arith, length, map, sym, subst, refl, Ok, Err}
+use Rattle.std.proofs.Common.{◌≡◌, ◌∙◌, ℕ, ◌≤◌, ◌⊎◌, Bool, List, Result, IsTrue, Vec, is_some, ap, arith, length, map, sym, subst, refl, Ok}
+use Rattle.std.specs.Global.{Global}
 use Rattle.std.proofs.lemmas.List.{length-map}
 use Rattle.std.proofs.lemmas.Result.{err_from_is_err_and}
 use Rattle.lattice_laws.specs.Counts.{Rose}
 use Rattle.lattice_laws.specs.declared.lattice.NoMemory.{NoMemory}
-use Rattle.worker_core.specs.Boxes.{FindsNothing, FindsNothingWeak, box_of, weak_box_of}
 use Rattle.worker_core.specs.Room.{RoomAt}
-use Rattle.worker_core.specs.Serving.{RoundsIf, TakesGossip, TakesRequest}
-use Rattle.worker_core.specs.State.{Lists, dirty, lists_of}
-use Rattle.worker_core.specs.Turns.{Counts, Gossips, HaveRoom, IsUnmoved, KeepsRequest, SomeRose, batches, counts_of}
+use Rattle.worker_core.specs.Serving.{RoundsIf}
+use Rattle.worker_core.specs.State.{Lists, PlainWorker, dirty, lists_of}
+use Rattle.worker_core.specs.Turns.{Counts, Gossips, HaveRoom, KeepsRequest, SomeRose, batches, counts_of}
 use Rattle.worker_core.proofs.LawfulLemmas.{as_long, none_held}
 use Rattle.worker_core.proofs.ToldLemmas.{gossips_nothing}
-use Rattle.worker_core.proofs.TurnLemmas.{Started, either, heard_turns, held_full, items_of, kept_turns, lacks, left_first_back, left_full, no_ok, not_counted, not_started, rests_turns, resent_lacks, resent_still, rose_between, round_lacks, round_turns, rounds_at_first, served_turns, some_sent, starts, unmoved_through, was_made}
+use Rattle.worker_core.proofs.TurnLemmas.{Started, batch_taken, either, heard_turns, held_full, items_of, kept_turns, lacks, left_back, no_batch, no_ok, no_request, not_counted, not_started, request_taken, rests_turns, resent_lacks, resent_still, rose_between, round_lacks, round_turns, rounds_at_first, served_turns, some_sent, starts, unmoved_through, was_made}
+use Rattle.worker_core.proofs.worker.WorkerOver.step.Given.{Over}
 use Rattle.worker_core.proofs.worker.WorkerOver.step.Goals as goal
+use Rattle.worker_core.proofs.worker.WorkerOver.step.Goals.{After-tell_if, After-take_gossip, After-take_request, After-tell_if-2}
+
+module _ (g : Over) where
+  abbrev Worker : Type 0
+  Worker = PlainWorker g.row.Q.Denot g.row.T.Denot g.row.O.Denot g.row.G.Denot
+
+  -- what went through the ends, how often they answered, and what room senders of gossip have
+  abbrev lists : Worker → Lists
+  lists = lists_of g.Q.Rx.received g.T.Tx.sent g.O.Tx.sent g.G.GossipRx.got
+
+  abbrev counts : Worker → Counts
+  counts = counts_of g.Q.Rx.answers g.T.Tx.fulls g.O.Tx.fulls g.G.GossipRx.answers
+
+  abbrev room : Vec g.row.O.Denot Global → ℕ → List Bool → Type 0
+  room senders = RoomAt g.O.Tx.clear g.O.Tx.roomy g.O.Tx.unseen senders.items
+
+  -- what a round did, if one was made, by the room that the senders had at first
+  abbrev Round : Bool → Result ℕ NoMemory → Worker → Worker → Worker → Type 0
+  Round made result first before now = RoundsIf made result (lists before) (lists now) (counts before) (counts now) (room first.ends.gossip_out)
+
+  -- there are as many lists of changed keys as there are mates
+  mates : (worker : Worker) → length worker.state.changed ≡ length worker.ends.gossip_out.items → length worker.state.changed ≡ length (lists worker).told
+  mates worker as_many = as_many ∙ sym (length-map worker.ends.gossip_out.items g.O.Tx.sent)
+
+  mates_stay : (before now : Worker) → map g.O.Tx.number now.ends.gossip_out.items ≡ map g.O.Tx.number before.ends.gossip_out.items
+      → length (lists now).told ≡ length (lists before).told
+  mates_stay before now = as_long g.O.Tx.number g.O.Tx.sent now.ends.gossip_out.items before.ends.gossip_out.items
+
+  -- nothing went out in a round, or none was made
+  begins : (made : Bool) (result : Result ℕ NoMemory) (sent : ℕ) (first before now : Worker) (start : Lists) → lists before ≡ start
+      → length start.state.changed ≡ length start.told → result ≡ Ok sent → sent ≤ 0 → Round made result first before now → (IsTrue made → 1 ≤ dirty before.state)
+      → map g.O.Tx.number now.ends.gossip_out.items ≡ map g.O.Tx.number before.ends.gossip_out.items → length now.state.changed ≡ length now.ends.gossip_out.items
+      → Started start (lists now) made (counts before) (counts now) (room first.ends.gossip_out)
+  begins made result sent first before now start same as_many is none round some numbers as_many_now =
+      let at_first = room first.ends.gossip_out in
+      let as_many_before = subst (λ (lists : Lists). length lists.state.changed ≡ length lists.told) (sym same) as_many in
+      let senders = before.ends.gossip_out.items in
+      let as_many_counts = length-map senders g.O.Tx.fulls ∙ sym (length-map senders g.O.Tx.sent) in
+      let now_lists = lists now in
+      subst (λ start. Started start now_lists made (counts before) (counts now) at_first) same
+      (starts made result sent (lists before) (lists now) (counts before) (counts now) at_first is (λ sends. omega (arith, sends, none)) round some
+      as_many_before (mates_stay before now numbers) (mates now as_many_now) as_many_counts)
+
+  -- the reply that is held came back, or there is none
+  still : (c : After-tell_if g) → lists c.resend.new.self ≡ lists c.args.self.now
+  still c =
+      resent_still g.Q.Rx.received g.T.Tx.sent g.O.Tx.sent g.G.GossipRx.got g.T.Tx.fulls c.args.self.now c.resend.new.self c.in_ok-resend.field-0 c.if-branch.false
+      c.resend.ensures.state c.in_ok-resend.ensures.resent c.resend.ensures.requests c.resend.ensures.gossip_out c.resend.ensures.gossip_in
+
+  -- the round that was due
+  round_due : (c : After-tell_if g) → Round c.is_due-due.result c.tell_if.result c.args.self.now c.resend.new.self c.tell_if.new.self
+  round_due c =
+      subst (RoundsIf c.is_due-due.result c.tell_if.result (lists c.resend.new.self) (lists c.tell_if.new.self) (counts c.resend.new.self) (counts c.tell_if.new.self))
+      (ap room c.resend.ensures.gossip_out) c.tell_if.ensures.rounds
+
+  -- nothing went out in it
+  begun : (c : After-take_gossip g) → lists c.resend.new.self ≡ lists c.args.self.now
+      → Round c.is_due-due.result c.tell_if.result c.args.self.now c.resend.new.self c.tell_if.new.self
+      → Started (lists c.args.self.now) (lists c.tell_if.new.self) c.is_due-due.result (counts c.resend.new.self) (counts c.tell_if.new.self) (room c.args.self.now.ends.gossip_out)
+  begun c same round =
+      begins c.is_due-due.result c.tell_if.result c.in_ok-tell_if.field-0 c.args.self.now c.resend.new.self c.tell_if.new.self (lists c.args.self.now) same
+      (mates c.args.self.now c.has_kept.ensures.mates) c.in_ok-tell_if.was c.if-branch-gt0.false round c.is_due-due.ensures.due c.tell_if.ensures.keys.gossip_out_numbers
+      c.tell_if.ensures.mates
+
+  -- no gossip was found
+  no_gossip : (c : After-take_request g) → (lists c.take_gossip.new.self ≡ lists c.tell_if.new.self)
+      × Rose (counts c.tell_if.new.self).gossip.nones (counts c.take_gossip.new.self).gossip.nones
+  no_gossip c = no_batch c.in_ok-take_gossip.field-0 _ _ _ _ _ c.if-branch-2.false c.in_ok-take_gossip.ensures.kept
+
+  -- and no request, or none was looked for
+  none_asked : (c : After-tell_if-2 g) → (lists c.take_request.new.self ≡ lists c.take_gossip.new.self)
+      × (IsTrue (is_some c.take_gossip.new.self.state.held) ⊎ Rose (counts c.take_gossip.new.self).requests.nones (counts c.take_request.new.self).requests.nones)
+  none_asked c = no_request c.in_ok-take_request.field-0 _ _ _ _ _ c.if-branch-3.false c.in_ok-take_request.ensures.kept
+
+  -- the last round
+  round_left : (c : After-tell_if-2 g) → Round c.is_left-left.result c.tell_if-2.result c.args.self.now c.take_request.new.self c.tell_if-2.new.self
+  round_left c =
+      rounds_at_first c.is_due-due.result c.is_left-left.result c.tell_if-2.result (lists c.take_request.new.self) (lists c.tell_if-2.new.self)
+      (counts c.take_request.new.self) (counts c.tell_if-2.new.self) (room c.take_request.new.self.ends.gossip_out) (room c.args.self.now.ends.gossip_out)
+      (λ left. (c.is_left-left.ensures.left left).0)
+      (λ not_due. ap room (c.take_request.ensures.gossip_out ∙ c.take_gossip.ensures.gossip_out ∙ c.tell_if.ensures.gossip_out not_due ∙ c.resend.ensures.gossip_out))
+      c.tell_if-2.ensures.rounds
+
+  -- it was made, so none was due, and nothing had changed before it
+  as_at_first : (c : After-tell_if-2 g) → lists c.resend.new.self ≡ lists c.args.self.now
+      → Round c.is_due-due.result c.tell_if.result c.args.self.now c.resend.new.self c.tell_if.new.self → lists c.take_gossip.new.self ≡ lists c.tell_if.new.self
+      → (c.tell_if-2.result ≡ Ok 0 → ⊥) → lists c.take_request.new.self ≡ lists c.args.self.now
+  as_at_first c same round none_taken some =
+      let made = was_made c.is_left-left.result c.tell_if-2.result _ _ _ _ _ (round_left c) some in
+      (none_asked c).0 ∙ none_taken ∙ not_started c.is_due-due.result c.tell_if.result _ _ _ _ _ round (c.is_left-left.ensures.left made).0 ∙ same
 
 pub returns-then-has_kept-clause-did : goal.returns-then-has_kept-clause-did
 returns-then-has_kept-clause-did g c =
-    let lists_are = lists_of g.Q.Rx.received g.T.Tx.sent g.O.Tx.sent g.G.GossipRx.got in
-    let counts_are = counts_of g.Q.Rx.answers g.T.Tx.fulls g.O.Tx.fulls g.G.GossipRx.answers in
-    let worker = c.args.self.now in
-    let before = lists_are worker in
-    let room = RoomAt g.O.Tx.clear g.O.Tx.roomy g.O.Tx.unseen worker.ends.gossip_out.items in
-    let mates : length worker.state.changed ≡ length before.told = c.has_kept.ensures.mates ∙ sym (length-map worker.ends.gossip_out.items g.O.Tx.sent) in
-    kept_turns c.work.result before (lists_are c.work.new.self) (counts_are worker) (counts_are c.work.new.self) room c.work.ensures.works mates
+    kept_turns c.work.result (lists g c.args.self.now) (lists g c.work.new.self) (counts g c.args.self.now) (counts g c.work.new.self) (room g c.args.self.now.ends.gossip_out)
+    c.work.ensures.works (mates g c.args.self.now c.has_kept.ensures.mates)
 
 pub returns-in_err-resend-clause-did : goal.returns-in_err-resend-clause-did
 returns-in_err-resend-clause-did g c =
-    let lists_are = lists_of g.Q.Rx.received g.T.Tx.sent g.O.Tx.sent g.G.GossipRx.got in
-    let counts_are = counts_of g.Q.Rx.answers g.T.Tx.fulls g.O.Tx.fulls g.G.GossipRx.answers in
-    let worker = c.args.self.now in
-    let before = lists_are worker in
-    let room = RoomAt g.O.Tx.clear g.O.Tx.roomy g.O.Tx.unseen worker.ends.gossip_out.items in
-    let error = err_from_is_err_and c.from_residual.result c.from_residual.ensures.1 in
-    let same = resent_lacks g.Q.Rx.received g.T.Tx.sent g.O.Tx.sent g.G.GossipRx.got g.T.Tx.fulls worker c.resend.new.self _ c.resend.ensures.state c.in_err-resend.ensures.resent c.resend.ensures.requests c.resend.ensures.gossip_out c.resend.ensures.gossip_in in
-    lacks _ before before _ _ _ room (error.0, error.1) (gossips_nothing before) same
+    let before = lists g c.args.self.now in
+    lacks _ before before _ _ _ _ (err_from_is_err_and c.from_residual.result c.from_residual.ensures.1) (gossips_nothing before)
+    (resent_lacks g.Q.Rx.received g.T.Tx.sent g.O.Tx.sent g.G.GossipRx.got g.T.Tx.fulls c.args.self.now c.resend.new.self _ c.resend.ensures.state c.in_err-resend.ensures.resent
+    c.resend.ensures.requests c.resend.ensures.gossip_out c.resend.ensures.gossip_in)
 
 pub returns-in_err-tell_if-clause-did : goal.returns-in_err-tell_if-clause-did
 returns-in_err-tell_if-clause-did g c =
-    let lists_are = lists_of g.Q.Rx.received g.T.Tx.sent g.O.Tx.sent g.G.GossipRx.got in
-    let counts_are = counts_of g.Q.Rx.answers g.T.Tx.fulls g.O.Tx.fulls g.G.GossipRx.answers in
-    let worker = c.args.self.now in
-    let before = lists_are worker in
-    let room = RoomAt g.O.Tx.clear g.O.Tx.roomy g.O.Tx.unseen worker.ends.gossip_out.items in
-    let error = err_from_is_err_and c.from_residual-in_err-tell_if.result c.from_residual-in_err-tell_if.ensures.1 in
-    let resent = lists_are c.resend.new.self in
-    let still : resent ≡ before = resent_still g.Q.Rx.received g.T.Tx.sent g.O.Tx.sent g.G.GossipRx.got g.T.Tx.fulls worker c.resend.new.self c.in_ok-resend.field-0 c.if-branch.false c.resend.ensures.state c.in_ok-resend.ensures.resent c.resend.ensures.requests c.resend.ensures.gossip_out c.resend.ensures.gossip_in in
-    let told = lists_are c.tell_if.new.self in
-    let rounds_due = subst (λ room. RoundsIf {E = NoMemory} c.is_due-due.result (Err c.in_err-tell_if.field-0.0) resent told (counts_are c.resend.new.self) (counts_are c.tell_if.new.self) room) (ap (λ out. RoomAt g.O.Tx.clear g.O.Tx.roomy g.O.Tx.unseen (items_of out)) (c.resend.ensures.gossip_out)) c.in_err-tell_if.ensures.rounds in
-    let gossips : Gossips before told = subst (λ lists. Gossips lists told) still (round_lacks c.is_due-due.result _ c.in_err-tell_if.field-0.0 resent told (counts_are c.resend.new.self) (counts_are c.tell_if.new.self) room refl rounds_due) in
-    lacks _ before told told _ _ room (error.0, error.1) gossips refl
+    let at = (goal.at.returns-in_err-tell_if-clause-did g c).After-tell_if in
+    let told = lists g c.tell_if.new.self in
+    let gossips : Gossips (lists g c.args.self.now) told = subst (λ lists. Gossips lists told) (still g at)
+    (round_lacks c.is_due-due.result c.tell_if.result c.in_err-tell_if.field-0.0 _ _ _ _ _ c.in_err-tell_if.was (round_due g at)) in
+    lacks _ _ told told _ _ _ (err_from_is_err_and c.from_residual-in_err-tell_if.result c.from_residual-in_err-tell_if.ensures.1) gossips refl
 
 pub returns-then-branch-gt0-clause-did : goal.returns-then-branch-gt0-clause-did
 returns-then-branch-gt0-clause-did g c =
-    let lists_are = lists_of g.Q.Rx.received g.T.Tx.sent g.O.Tx.sent g.G.GossipRx.got in
-    let counts_are = counts_of g.Q.Rx.answers g.T.Tx.fulls g.O.Tx.fulls g.G.GossipRx.answers in
-    let worker = c.args.self.now in
-    let before = lists_are worker in
-    let room = RoomAt g.O.Tx.clear g.O.Tx.roomy g.O.Tx.unseen worker.ends.gossip_out.items in
-    let resent = lists_are c.resend.new.self in
-    let still : resent ≡ before = resent_still g.Q.Rx.received g.T.Tx.sent g.O.Tx.sent g.G.GossipRx.got g.T.Tx.fulls worker c.resend.new.self c.in_ok-resend.field-0 c.if-branch.false c.resend.ensures.state c.in_ok-resend.ensures.resent c.resend.ensures.requests c.resend.ensures.gossip_out c.resend.ensures.gossip_in in
-    let told = lists_are c.tell_if.new.self in
-    let rounds_due = subst (λ room. RoundsIf {E = NoMemory} c.is_due-due.result (Ok c.in_ok-tell_if.field-0) resent told (counts_are c.resend.new.self) (counts_are c.tell_if.new.self) room) (ap (λ out. RoomAt g.O.Tx.clear g.O.Tx.roomy g.O.Tx.unseen (items_of out)) (c.resend.ensures.gossip_out)) c.in_ok-tell_if.ensures.rounds in
-    subst (λ lists. (gossips : Gossips lists told) × (1 ≤ batches gossips.tries) × HaveRoom lists gossips.tries room) still
-    (round_turns c.is_due-due.result _ c.in_ok-tell_if.field-0 resent told (counts_are c.resend.new.self) (counts_are c.tell_if.new.self) room refl c.if-branch-gt0.true rounds_due)
+    let at = (goal.at.returns-then-branch-gt0-clause-did g c).After-tell_if in
+    let told = lists g c.tell_if.new.self in
+    subst (λ lists. (gossips : Gossips lists told) × (1 ≤ batches gossips.tries) × HaveRoom lists gossips.tries (room g c.args.self.now.ends.gossip_out)) (still g at)
+    (round_turns c.is_due-due.result c.tell_if.result c.in_ok-tell_if.field-0 _ _ _ _ _ c.in_ok-tell_if.was c.if-branch-gt0.true (round_due g at))
 
 pub returns-in_err-take_gossip-clause-did : goal.returns-in_err-take_gossip-clause-did
 returns-in_err-take_gossip-clause-did g c =
-    let lists_are = lists_of g.Q.Rx.received g.T.Tx.sent g.O.Tx.sent g.G.GossipRx.got in
-    let counts_are = counts_of g.Q.Rx.answers g.T.Tx.fulls g.O.Tx.fulls g.G.GossipRx.answers in
-    let worker = c.args.self.now in
-    let before = lists_are worker in
-    let room = RoomAt g.O.Tx.clear g.O.Tx.roomy g.O.Tx.unseen worker.ends.gossip_out.items in
-    let error = err_from_is_err_and c.from_residual-in_err-take_gossip.result c.from_residual-in_err-take_gossip.ensures.1 in
-    let mates : length worker.state.changed ≡ length before.told = c.has_kept.ensures.mates ∙ sym (length-map worker.ends.gossip_out.items g.O.Tx.sent) in
-    let resent = lists_are c.resend.new.self in
-    let still : resent ≡ before = resent_still g.Q.Rx.received g.T.Tx.sent g.O.Tx.sent g.G.GossipRx.got g.T.Tx.fulls worker c.resend.new.self c.in_ok-resend.field-0 c.if-branch.false c.resend.ensures.state c.in_ok-resend.ensures.resent c.resend.ensures.requests c.resend.ensures.gossip_out c.resend.ensures.gossip_in in
-    let told = lists_are c.tell_if.new.self in
-    let rounds_due = subst (λ room. RoundsIf {E = NoMemory} c.is_due-due.result (Ok c.in_ok-tell_if.field-0) resent told (counts_are c.resend.new.self) (counts_are c.tell_if.new.self) room) (ap (λ out. RoomAt g.O.Tx.clear g.O.Tx.roomy g.O.Tx.unseen (items_of out)) (c.resend.ensures.gossip_out)) c.in_ok-tell_if.ensures.rounds in
-    let mates_then : length c.resend.new.self.state.changed ≡ length resent.told = subst (λ (lists : Lists). length lists.state.changed ≡ length lists.told) (sym still) mates in
-    let started : Started resent told c.is_due-due.result (counts_are c.resend.new.self) (counts_are c.tell_if.new.self) room =
-    starts c.is_due-due.result _ c.in_ok-tell_if.field-0 resent told (counts_are c.resend.new.self) (counts_are c.tell_if.new.self) room refl (λ some. omega (arith, some, c.if-branch-gt0.false)) rounds_due c.is_due-due.ensures.due
-    mates_then (as_long g.O.Tx.number g.O.Tx.sent c.tell_if.new.self.ends.gossip_out.items c.resend.new.self.ends.gossip_out.items c.tell_if.ensures.keys.gossip_out_numbers)
-    (c.tell_if.ensures.mates ∙ sym (length-map c.tell_if.new.self.ends.gossip_out.items g.O.Tx.sent))
-    (length-map c.resend.new.self.ends.gossip_out.items g.O.Tx.fulls ∙ sym (length-map c.resend.new.self.ends.gossip_out.items g.O.Tx.sent)) in
-    let gossips : Gossips before told = subst (λ lists. Gossips lists told) still started.gossips in
-    let unmoved : IsUnmoved before told = subst (λ lists. IsUnmoved lists told) still started.unmoved in
-    lacks _ before told (lists_are c.take_gossip.new.self) _ _ room (error.0, error.1) gossips c.in_err-take_gossip.ensures.kept
+    let at = goal.at.returns-in_err-take_gossip-clause-did g c in
+    let start = begun g at.After-take_gossip (still g at.After-tell_if) (round_due g at.After-tell_if) in
+    lacks _ _ _ _ _ _ _ (err_from_is_err_and c.from_residual-in_err-take_gossip.result c.from_residual-in_err-take_gossip.ensures.1) start.gossips c.in_err-take_gossip.ensures.kept
 
 pub returns-then-branch-2-clause-did : goal.returns-then-branch-2-clause-did
 returns-then-branch-2-clause-did g c =
-    let lists_are = lists_of g.Q.Rx.received g.T.Tx.sent g.O.Tx.sent g.G.GossipRx.got in
-    let counts_are = counts_of g.Q.Rx.answers g.T.Tx.fulls g.O.Tx.fulls g.G.GossipRx.answers in
-    let worker = c.args.self.now in
-    let before = lists_are worker in
-    let room = RoomAt g.O.Tx.clear g.O.Tx.roomy g.O.Tx.unseen worker.ends.gossip_out.items in
-    let mates : length worker.state.changed ≡ length before.told = c.has_kept.ensures.mates ∙ sym (length-map worker.ends.gossip_out.items g.O.Tx.sent) in
-    let resent = lists_are c.resend.new.self in
-    let still : resent ≡ before = resent_still g.Q.Rx.received g.T.Tx.sent g.O.Tx.sent g.G.GossipRx.got g.T.Tx.fulls worker c.resend.new.self c.in_ok-resend.field-0 c.if-branch.false c.resend.ensures.state c.in_ok-resend.ensures.resent c.resend.ensures.requests c.resend.ensures.gossip_out c.resend.ensures.gossip_in in
-    let told = lists_are c.tell_if.new.self in
-    let rounds_due = subst (λ room. RoundsIf {E = NoMemory} c.is_due-due.result (Ok c.in_ok-tell_if.field-0) resent told (counts_are c.resend.new.self) (counts_are c.tell_if.new.self) room) (ap (λ out. RoomAt g.O.Tx.clear g.O.Tx.roomy g.O.Tx.unseen (items_of out)) (c.resend.ensures.gossip_out)) c.in_ok-tell_if.ensures.rounds in
-    let mates_then : length c.resend.new.self.state.changed ≡ length resent.told = subst (λ (lists : Lists). length lists.state.changed ≡ length lists.told) (sym still) mates in
-    let started : Started resent told c.is_due-due.result (counts_are c.resend.new.self) (counts_are c.tell_if.new.self) room =
-    starts c.is_due-due.result _ c.in_ok-tell_if.field-0 resent told (counts_are c.resend.new.self) (counts_are c.tell_if.new.self) room refl (λ some. omega (arith, some, c.if-branch-gt0.false)) rounds_due c.is_due-due.ensures.due
-    mates_then (as_long g.O.Tx.number g.O.Tx.sent c.tell_if.new.self.ends.gossip_out.items c.resend.new.self.ends.gossip_out.items c.tell_if.ensures.keys.gossip_out_numbers)
-    (c.tell_if.ensures.mates ∙ sym (length-map c.tell_if.new.self.ends.gossip_out.items g.O.Tx.sent))
-    (length-map c.resend.new.self.ends.gossip_out.items g.O.Tx.fulls ∙ sym (length-map c.resend.new.self.ends.gossip_out.items g.O.Tx.sent)) in
-    let gossips : Gossips before told = subst (λ lists. Gossips lists told) still started.gossips in
-    let unmoved : IsUnmoved before told = subst (λ lists. IsUnmoved lists told) still started.unmoved in
-    let took = subst (λ is. TakesGossip {E = NoMemory} (Ok is) told (lists_are c.take_gossip.new.self) (g.G.GossipRx.answers c.tell_if.new.self.ends.gossip_in) (g.G.GossipRx.answers c.take_gossip.new.self.ends.gossip_in)
-    (FindsNothingWeak g.G.GossipRx.keeps (weak_box_of g.G.GossipRx.got g.G.GossipRx.answers g.G.GossipRx.about g.G.GossipRx.due g.G.GossipRx.most c.take_gossip.new.self.ends.gossip_in))) c.if-branch-2.true c.in_ok-take_gossip.ensures.kept in
-    let some : Rose (g.G.GossipRx.answers worker.ends.gossip_in).somes (g.G.GossipRx.answers c.work-then-branch-2.new.self.ends.gossip_in).somes =
-    rose_between (ap (λ box. (g.G.GossipRx.answers box).somes) (sym (c.tell_if.ensures.gossip_in ∙ c.resend.ensures.gossip_in))) (ap (λ box. (g.G.GossipRx.answers box).somes) c.work-then-branch-2.ensures.gossip_in) took.1 in
-    heard_turns c.work-then-branch-2.result before told (lists_are c.take_gossip.new.self) (lists_are c.work-then-branch-2.new.self) (counts_are worker) (counts_are c.work-then-branch-2.new.self) room gossips unmoved took.0 c.work-then-branch-2.ensures.works some
+    let at = goal.at.returns-then-branch-2-clause-did g c in
+    let start = begun g at.After-take_gossip (still g at.After-tell_if) (round_due g at.After-tell_if) in
+    let now = c.work-then-branch-2.new.self in
+    let taken = batch_taken c.in_ok-take_gossip.field-0 _ _ _ _ _ c.if-branch-2.true c.in_ok-take_gossip.ensures.kept in
+    let rose : Rose (counts g c.args.self.now).gossip.somes (counts g now).gossip.somes =
+    rose_between (ap (λ box. (g.G.GossipRx.answers box).somes) (sym (c.tell_if.ensures.gossip_in ∙ c.resend.ensures.gossip_in)))
+    (ap (λ box. (g.G.GossipRx.answers box).somes) c.work-then-branch-2.ensures.gossip_in) taken.1 in
+    heard_turns c.work-then-branch-2.result _ _ (lists g c.take_gossip.new.self) (lists g now) (counts g c.args.self.now) (counts g now) _ start.gossips start.unmoved taken.0
+    c.work-then-branch-2.ensures.works rose
 
 pub returns-in_err-take_request-clause-did : goal.returns-in_err-take_request-clause-did
 returns-in_err-take_request-clause-did g c =
-    let lists_are = lists_of g.Q.Rx.received g.T.Tx.sent g.O.Tx.sent g.G.GossipRx.got in
-    let counts_are = counts_of g.Q.Rx.answers g.T.Tx.fulls g.O.Tx.fulls g.G.GossipRx.answers in
-    let worker = c.args.self.now in
-    let before = lists_are worker in
-    let room = RoomAt g.O.Tx.clear g.O.Tx.roomy g.O.Tx.unseen worker.ends.gossip_out.items in
-    let error = err_from_is_err_and c.from_residual-in_err-take_request.result c.from_residual-in_err-take_request.ensures.1 in
-    let mates : length worker.state.changed ≡ length before.told = c.has_kept.ensures.mates ∙ sym (length-map worker.ends.gossip_out.items g.O.Tx.sent) in
-    let resent = lists_are c.resend.new.self in
-    let still : resent ≡ before = resent_still g.Q.Rx.received g.T.Tx.sent g.O.Tx.sent g.G.GossipRx.got g.T.Tx.fulls worker c.resend.new.self c.in_ok-resend.field-0 c.if-branch.false c.resend.ensures.state c.in_ok-resend.ensures.resent c.resend.ensures.requests c.resend.ensures.gossip_out c.resend.ensures.gossip_in in
-    let told = lists_are c.tell_if.new.self in
-    let rounds_due = subst (λ room. RoundsIf {E = NoMemory} c.is_due-due.result (Ok c.in_ok-tell_if.field-0) resent told (counts_are c.resend.new.self) (counts_are c.tell_if.new.self) room) (ap (λ out. RoomAt g.O.Tx.clear g.O.Tx.roomy g.O.Tx.unseen (items_of out)) (c.resend.ensures.gossip_out)) c.in_ok-tell_if.ensures.rounds in
-    let mates_then : length c.resend.new.self.state.changed ≡ length resent.told = subst (λ (lists : Lists). length lists.state.changed ≡ length lists.told) (sym still) mates in
-    let started : Started resent told c.is_due-due.result (counts_are c.resend.new.self) (counts_are c.tell_if.new.self) room =
-    starts c.is_due-due.result _ c.in_ok-tell_if.field-0 resent told (counts_are c.resend.new.self) (counts_are c.tell_if.new.self) room refl (λ some. omega (arith, some, c.if-branch-gt0.false)) rounds_due c.is_due-due.ensures.due
-    mates_then (as_long g.O.Tx.number g.O.Tx.sent c.tell_if.new.self.ends.gossip_out.items c.resend.new.self.ends.gossip_out.items c.tell_if.ensures.keys.gossip_out_numbers)
-    (c.tell_if.ensures.mates ∙ sym (length-map c.tell_if.new.self.ends.gossip_out.items g.O.Tx.sent))
-    (length-map c.resend.new.self.ends.gossip_out.items g.O.Tx.fulls ∙ sym (length-map c.resend.new.self.ends.gossip_out.items g.O.Tx.sent)) in
-    let gossips : Gossips before told = subst (λ lists. Gossips lists told) still started.gossips in
-    let unmoved : IsUnmoved before told = subst (λ lists. IsUnmoved lists told) still started.unmoved in
-    let took = subst (λ is. TakesGossip {E = NoMemory} (Ok is) told (lists_are c.take_gossip.new.self) (g.G.GossipRx.answers c.tell_if.new.self.ends.gossip_in) (g.G.GossipRx.answers c.take_gossip.new.self.ends.gossip_in)
-    (FindsNothingWeak g.G.GossipRx.keeps (weak_box_of g.G.GossipRx.got g.G.GossipRx.answers g.G.GossipRx.about g.G.GossipRx.due g.G.GossipRx.most c.take_gossip.new.self.ends.gossip_in))) c.if-branch-2.false c.in_ok-take_gossip.ensures.kept in
-    lacks _ before told (lists_are c.take_request.new.self) _ _ room (error.0, error.1) gossips (c.in_err-take_request.ensures.kept ∙ took.0)
+    let at = goal.at.returns-in_err-take_request-clause-did g c in
+    let start = begun g at.After-take_gossip (still g at.After-tell_if) (round_due g at.After-tell_if) in
+    lacks _ _ _ _ _ _ _ (err_from_is_err_and c.from_residual-in_err-take_request.result c.from_residual-in_err-take_request.ensures.1) start.gossips
+    (c.in_err-take_request.ensures.kept ∙ (no_gossip g at.After-take_request).0)
 
 pub returns-then-branch-3-clause-did : goal.returns-then-branch-3-clause-did
 returns-then-branch-3-clause-did g c =
-    let lists_are = lists_of g.Q.Rx.received g.T.Tx.sent g.O.Tx.sent g.G.GossipRx.got in
-    let counts_are = counts_of g.Q.Rx.answers g.T.Tx.fulls g.O.Tx.fulls g.G.GossipRx.answers in
-    let worker = c.args.self.now in
-    let before = lists_are worker in
-    let room = RoomAt g.O.Tx.clear g.O.Tx.roomy g.O.Tx.unseen worker.ends.gossip_out.items in
-    let mates : length worker.state.changed ≡ length before.told = c.has_kept.ensures.mates ∙ sym (length-map worker.ends.gossip_out.items g.O.Tx.sent) in
-    let resent = lists_are c.resend.new.self in
-    let still : resent ≡ before = resent_still g.Q.Rx.received g.T.Tx.sent g.O.Tx.sent g.G.GossipRx.got g.T.Tx.fulls worker c.resend.new.self c.in_ok-resend.field-0 c.if-branch.false c.resend.ensures.state c.in_ok-resend.ensures.resent c.resend.ensures.requests c.resend.ensures.gossip_out c.resend.ensures.gossip_in in
-    let told = lists_are c.tell_if.new.self in
-    let rounds_due = subst (λ room. RoundsIf {E = NoMemory} c.is_due-due.result (Ok c.in_ok-tell_if.field-0) resent told (counts_are c.resend.new.self) (counts_are c.tell_if.new.self) room) (ap (λ out. RoomAt g.O.Tx.clear g.O.Tx.roomy g.O.Tx.unseen (items_of out)) (c.resend.ensures.gossip_out)) c.in_ok-tell_if.ensures.rounds in
-    let mates_then : length c.resend.new.self.state.changed ≡ length resent.told = subst (λ (lists : Lists). length lists.state.changed ≡ length lists.told) (sym still) mates in
-    let started : Started resent told c.is_due-due.result (counts_are c.resend.new.self) (counts_are c.tell_if.new.self) room =
-    starts c.is_due-due.result _ c.in_ok-tell_if.field-0 resent told (counts_are c.resend.new.self) (counts_are c.tell_if.new.self) room refl (λ some. omega (arith, some, c.if-branch-gt0.false)) rounds_due c.is_due-due.ensures.due
-    mates_then (as_long g.O.Tx.number g.O.Tx.sent c.tell_if.new.self.ends.gossip_out.items c.resend.new.self.ends.gossip_out.items c.tell_if.ensures.keys.gossip_out_numbers)
-    (c.tell_if.ensures.mates ∙ sym (length-map c.tell_if.new.self.ends.gossip_out.items g.O.Tx.sent))
-    (length-map c.resend.new.self.ends.gossip_out.items g.O.Tx.fulls ∙ sym (length-map c.resend.new.self.ends.gossip_out.items g.O.Tx.sent)) in
-    let gossips : Gossips before told = subst (λ lists. Gossips lists told) still started.gossips in
-    let unmoved : IsUnmoved before told = subst (λ lists. IsUnmoved lists told) still started.unmoved in
-    let took = subst (λ is. TakesGossip {E = NoMemory} (Ok is) told (lists_are c.take_gossip.new.self) (g.G.GossipRx.answers c.tell_if.new.self.ends.gossip_in) (g.G.GossipRx.answers c.take_gossip.new.self.ends.gossip_in)
-    (FindsNothingWeak g.G.GossipRx.keeps (weak_box_of g.G.GossipRx.got g.G.GossipRx.answers g.G.GossipRx.about g.G.GossipRx.due g.G.GossipRx.most c.take_gossip.new.self.ends.gossip_in))) c.if-branch-2.false c.in_ok-take_gossip.ensures.kept in
-    let asked = subst (λ is. TakesRequest {E = NoMemory} (Ok is) (lists_are c.take_gossip.new.self) (lists_are c.take_request.new.self) (g.Q.Rx.answers c.take_gossip.new.self.ends.requests) (g.Q.Rx.answers c.take_request.new.self.ends.requests)
-    (FindsNothing g.Q.Rx.keeps (box_of g.Q.Rx.received g.Q.Rx.answers g.Q.Rx.about c.take_request.new.self.ends.requests))) c.if-branch-3.true c.in_ok-take_request.ensures.kept in
-    served_turns c.work-then-branch-3.result before told (lists_are c.take_request.new.self) (lists_are c.work-then-branch-3.new.self) (counts_are worker) (counts_are c.work-then-branch-3.new.self) room gossips unmoved (subst (λ lists. KeepsRequest lists (lists_are c.take_request.new.self)) took.0 asked) c.work-then-branch-3.ensures.works mates
+    let at = goal.at.returns-then-branch-3-clause-did g c in
+    let start = begun g at.After-take_gossip (still g at.After-tell_if) (round_due g at.After-tell_if) in
+    let now = c.work-then-branch-3.new.self in
+    let taken = request_taken c.in_ok-take_request.field-0 _ _ _ _ _ c.if-branch-3.true c.in_ok-take_request.ensures.kept in
+    served_turns c.work-then-branch-3.result _ _ (lists g c.take_request.new.self) (lists g now) (counts g c.args.self.now) (counts g now) _ start.gossips start.unmoved
+    (subst (λ told. KeepsRequest told (lists g c.take_request.new.self)) (no_gossip g at.After-take_request).0 taken) c.work-then-branch-3.ensures.works
+    (mates g c.args.self.now c.has_kept.ensures.mates)
 
 pub returns-in_err-tell_if-2-clause-did : goal.returns-in_err-tell_if-2-clause-did
 returns-in_err-tell_if-2-clause-did g c =
-    let lists_are = lists_of g.Q.Rx.received g.T.Tx.sent g.O.Tx.sent g.G.GossipRx.got in
-    let counts_are = counts_of g.Q.Rx.answers g.T.Tx.fulls g.O.Tx.fulls g.G.GossipRx.answers in
-    let worker = c.args.self.now in
-    let before = lists_are worker in
-    let room = RoomAt g.O.Tx.clear g.O.Tx.roomy g.O.Tx.unseen worker.ends.gossip_out.items in
-    let error = err_from_is_err_and c.from_residual-in_err-tell_if-2.result c.from_residual-in_err-tell_if-2.ensures.1 in
-    let mates : length worker.state.changed ≡ length before.told = c.has_kept.ensures.mates ∙ sym (length-map worker.ends.gossip_out.items g.O.Tx.sent) in
-    let resent = lists_are c.resend.new.self in
-    let still : resent ≡ before = resent_still g.Q.Rx.received g.T.Tx.sent g.O.Tx.sent g.G.GossipRx.got g.T.Tx.fulls worker c.resend.new.self c.in_ok-resend.field-0 c.if-branch.false c.resend.ensures.state c.in_ok-resend.ensures.resent c.resend.ensures.requests c.resend.ensures.gossip_out c.resend.ensures.gossip_in in
-    let told = lists_are c.tell_if.new.self in
-    let rounds_due = subst (λ room. RoundsIf {E = NoMemory} c.is_due-due.result (Ok c.in_ok-tell_if.field-0) resent told (counts_are c.resend.new.self) (counts_are c.tell_if.new.self) room) (ap (λ out. RoomAt g.O.Tx.clear g.O.Tx.roomy g.O.Tx.unseen (items_of out)) (c.resend.ensures.gossip_out)) c.in_ok-tell_if.ensures.rounds in
-    let mates_then : length c.resend.new.self.state.changed ≡ length resent.told = subst (λ (lists : Lists). length lists.state.changed ≡ length lists.told) (sym still) mates in
-    let started : Started resent told c.is_due-due.result (counts_are c.resend.new.self) (counts_are c.tell_if.new.self) room =
-    starts c.is_due-due.result _ c.in_ok-tell_if.field-0 resent told (counts_are c.resend.new.self) (counts_are c.tell_if.new.self) room refl (λ some. omega (arith, some, c.if-branch-gt0.false)) rounds_due c.is_due-due.ensures.due
-    mates_then (as_long g.O.Tx.number g.O.Tx.sent c.tell_if.new.self.ends.gossip_out.items c.resend.new.self.ends.gossip_out.items c.tell_if.ensures.keys.gossip_out_numbers)
-    (c.tell_if.ensures.mates ∙ sym (length-map c.tell_if.new.self.ends.gossip_out.items g.O.Tx.sent))
-    (length-map c.resend.new.self.ends.gossip_out.items g.O.Tx.fulls ∙ sym (length-map c.resend.new.self.ends.gossip_out.items g.O.Tx.sent)) in
-    let gossips : Gossips before told = subst (λ lists. Gossips lists told) still started.gossips in
-    let unmoved : IsUnmoved before told = subst (λ lists. IsUnmoved lists told) still started.unmoved in
-    let took = subst (λ is. TakesGossip {E = NoMemory} (Ok is) told (lists_are c.take_gossip.new.self) (g.G.GossipRx.answers c.tell_if.new.self.ends.gossip_in) (g.G.GossipRx.answers c.take_gossip.new.self.ends.gossip_in)
-    (FindsNothingWeak g.G.GossipRx.keeps (weak_box_of g.G.GossipRx.got g.G.GossipRx.answers g.G.GossipRx.about g.G.GossipRx.due g.G.GossipRx.most c.take_gossip.new.self.ends.gossip_in))) c.if-branch-2.false c.in_ok-take_gossip.ensures.kept in
-    let asked = subst (λ is. TakesRequest {E = NoMemory} (Ok is) (lists_are c.take_gossip.new.self) (lists_are c.take_request.new.self) (g.Q.Rx.answers c.take_gossip.new.self.ends.requests) (g.Q.Rx.answers c.take_request.new.self.ends.requests)
-    (FindsNothing g.Q.Rx.keeps (box_of g.Q.Rx.received g.Q.Rx.answers g.Q.Rx.about c.take_request.new.self.ends.requests))) c.if-branch-3.false c.in_ok-take_request.ensures.kept in
-    let asked_now = lists_are c.take_request.new.self in
-    let now = lists_are c.tell_if-2.new.self in
-    let rounds_left = rounds_at_first c.is_due-due.result c.is_left-left.result (Err c.in_err-tell_if-2.field-0.0) asked_now now (counts_are c.take_request.new.self) (counts_are c.tell_if-2.new.self) (RoomAt g.O.Tx.clear g.O.Tx.roomy g.O.Tx.unseen c.take_request.new.self.ends.gossip_out.items) room
-    (λ left. (c.is_left-left.ensures.left left).0) (λ not_due. ap (λ out. RoomAt g.O.Tx.clear g.O.Tx.roomy g.O.Tx.unseen (items_of out)) (c.take_request.ensures.gossip_out ∙ c.take_gossip.ensures.gossip_out ∙ c.tell_if.ensures.gossip_out not_due ∙ c.resend.ensures.gossip_out)) c.in_err-tell_if-2.ensures.rounds in
-    let as_told : asked_now ≡ told = asked.0 ∙ took.0 in
-    let made = was_made c.is_left-left.result _ asked_now now (counts_are c.take_request.new.self) (counts_are c.tell_if-2.new.self) room rounds_left (no_ok c.in_err-tell_if-2.field-0.0) in
-    let not_due = not_started c.is_due-due.result _ resent told (counts_are c.resend.new.self) (counts_are c.tell_if.new.self) room rounds_due (c.is_left-left.ensures.left made).0 in
-    let gossips_now : Gossips before now = subst (λ lists. Gossips lists now) (as_told ∙ not_due ∙ still) (round_lacks c.is_left-left.result _ c.in_err-tell_if-2.field-0.0 asked_now now (counts_are c.take_request.new.self) (counts_are c.tell_if-2.new.self) room refl rounds_left) in
-    lacks _ before now now _ _ room (error.0, error.1) gossips_now refl
+    let at = goal.at.returns-in_err-tell_if-2-clause-did g c in
+    let last = at.After-tell_if-2 in
+    let error = c.in_err-tell_if-2.field-0.0 in
+    let first = as_at_first g last (still g at.After-tell_if) (round_due g at.After-tell_if) (no_gossip g at.After-take_request).0 (λ is. no_ok error (sym c.in_err-tell_if-2.was ∙ is)) in
+    let now = lists g c.tell_if-2.new.self in
+    let gossips : Gossips (lists g c.args.self.now) now = subst (λ lists. Gossips lists now) first
+    (round_lacks c.is_left-left.result c.tell_if-2.result error _ _ _ _ _ c.in_err-tell_if-2.was (round_left g last)) in
+    lacks _ _ now now _ _ _ (err_from_is_err_and c.from_residual-in_err-tell_if-2.result c.from_residual-in_err-tell_if-2.ensures.1) gossips refl
 
 pub returns-then-branch-gt0-2-clause-did : goal.returns-then-branch-gt0-2-clause-did
 returns-then-branch-gt0-2-clause-did g c =
-    let lists_are = lists_of g.Q.Rx.received g.T.Tx.sent g.O.Tx.sent g.G.GossipRx.got in
-    let counts_are = counts_of g.Q.Rx.answers g.T.Tx.fulls g.O.Tx.fulls g.G.GossipRx.answers in
-    let worker = c.args.self.now in
-    let before = lists_are worker in
-    let room = RoomAt g.O.Tx.clear g.O.Tx.roomy g.O.Tx.unseen worker.ends.gossip_out.items in
-    let mates : length worker.state.changed ≡ length before.told = c.has_kept.ensures.mates ∙ sym (length-map worker.ends.gossip_out.items g.O.Tx.sent) in
-    let resent = lists_are c.resend.new.self in
-    let still : resent ≡ before = resent_still g.Q.Rx.received g.T.Tx.sent g.O.Tx.sent g.G.GossipRx.got g.T.Tx.fulls worker c.resend.new.self c.in_ok-resend.field-0 c.if-branch.false c.resend.ensures.state c.in_ok-resend.ensures.resent c.resend.ensures.requests c.resend.ensures.gossip_out c.resend.ensures.gossip_in in
-    let told = lists_are c.tell_if.new.self in
-    let rounds_due = subst (λ room. RoundsIf {E = NoMemory} c.is_due-due.result (Ok c.in_ok-tell_if.field-0) resent told (counts_are c.resend.new.self) (counts_are c.tell_if.new.self) room) (ap (λ out. RoomAt g.O.Tx.clear g.O.Tx.roomy g.O.Tx.unseen (items_of out)) (c.resend.ensures.gossip_out)) c.in_ok-tell_if.ensures.rounds in
-    let mates_then : length c.resend.new.self.state.changed ≡ length resent.told = subst (λ (lists : Lists). length lists.state.changed ≡ length lists.told) (sym still) mates in
-    let started : Started resent told c.is_due-due.result (counts_are c.resend.new.self) (counts_are c.tell_if.new.self) room =
-    starts c.is_due-due.result _ c.in_ok-tell_if.field-0 resent told (counts_are c.resend.new.self) (counts_are c.tell_if.new.self) room refl (λ some. omega (arith, some, c.if-branch-gt0.false)) rounds_due c.is_due-due.ensures.due
-    mates_then (as_long g.O.Tx.number g.O.Tx.sent c.tell_if.new.self.ends.gossip_out.items c.resend.new.self.ends.gossip_out.items c.tell_if.ensures.keys.gossip_out_numbers)
-    (c.tell_if.ensures.mates ∙ sym (length-map c.tell_if.new.self.ends.gossip_out.items g.O.Tx.sent))
-    (length-map c.resend.new.self.ends.gossip_out.items g.O.Tx.fulls ∙ sym (length-map c.resend.new.self.ends.gossip_out.items g.O.Tx.sent)) in
-    let gossips : Gossips before told = subst (λ lists. Gossips lists told) still started.gossips in
-    let unmoved : IsUnmoved before told = subst (λ lists. IsUnmoved lists told) still started.unmoved in
-    let took = subst (λ is. TakesGossip {E = NoMemory} (Ok is) told (lists_are c.take_gossip.new.self) (g.G.GossipRx.answers c.tell_if.new.self.ends.gossip_in) (g.G.GossipRx.answers c.take_gossip.new.self.ends.gossip_in)
-    (FindsNothingWeak g.G.GossipRx.keeps (weak_box_of g.G.GossipRx.got g.G.GossipRx.answers g.G.GossipRx.about g.G.GossipRx.due g.G.GossipRx.most c.take_gossip.new.self.ends.gossip_in))) c.if-branch-2.false c.in_ok-take_gossip.ensures.kept in
-    let asked = subst (λ is. TakesRequest {E = NoMemory} (Ok is) (lists_are c.take_gossip.new.self) (lists_are c.take_request.new.self) (g.Q.Rx.answers c.take_gossip.new.self.ends.requests) (g.Q.Rx.answers c.take_request.new.self.ends.requests)
-    (FindsNothing g.Q.Rx.keeps (box_of g.Q.Rx.received g.Q.Rx.answers g.Q.Rx.about c.take_request.new.self.ends.requests))) c.if-branch-3.false c.in_ok-take_request.ensures.kept in
-    let asked_now = lists_are c.take_request.new.self in
-    let now = lists_are c.tell_if-2.new.self in
-    let rounds_left = rounds_at_first c.is_due-due.result c.is_left-left.result (Ok c.in_ok-tell_if-2.field-0) asked_now now (counts_are c.take_request.new.self) (counts_are c.tell_if-2.new.self) (RoomAt g.O.Tx.clear g.O.Tx.roomy g.O.Tx.unseen c.take_request.new.self.ends.gossip_out.items) room
-    (λ left. (c.is_left-left.ensures.left left).0) (λ not_due. ap (λ out. RoomAt g.O.Tx.clear g.O.Tx.roomy g.O.Tx.unseen (items_of out)) (c.take_request.ensures.gossip_out ∙ c.take_gossip.ensures.gossip_out ∙ c.tell_if.ensures.gossip_out not_due ∙ c.resend.ensures.gossip_out)) c.in_ok-tell_if-2.ensures.rounds in
-    let as_told : asked_now ≡ told = asked.0 ∙ took.0 in
-    let made = was_made c.is_left-left.result _ asked_now now (counts_are c.take_request.new.self) (counts_are c.tell_if-2.new.self) room rounds_left (some_sent c.in_ok-tell_if-2.field-0 c.if-branch-gt0-2.true) in
-    let not_due = not_started c.is_due-due.result _ resent told (counts_are c.resend.new.self) (counts_are c.tell_if.new.self) room rounds_due (c.is_left-left.ensures.left made).0 in
-    subst (λ lists. (gossips : Gossips lists now) × (1 ≤ batches gossips.tries) × HaveRoom lists gossips.tries room) (as_told ∙ not_due ∙ still)
-    (round_turns c.is_left-left.result _ c.in_ok-tell_if-2.field-0 asked_now now (counts_are c.take_request.new.self) (counts_are c.tell_if-2.new.self) room refl c.if-branch-gt0-2.true rounds_left)
+    let at = goal.at.returns-then-branch-gt0-2-clause-did g c in
+    let last = at.After-tell_if-2 in
+    let sent = c.in_ok-tell_if-2.field-0 in
+    let first = as_at_first g last (still g at.After-tell_if) (round_due g at.After-tell_if) (no_gossip g at.After-take_request).0
+    (λ is. some_sent sent c.if-branch-gt0-2.true (sym c.in_ok-tell_if-2.was ∙ is)) in
+    let now = lists g c.tell_if-2.new.self in
+    subst (λ lists. (gossips : Gossips lists now) × (1 ≤ batches gossips.tries) × HaveRoom lists gossips.tries (room g c.args.self.now.ends.gossip_out)) first
+    (round_turns c.is_left-left.result c.tell_if-2.result sent _ _ _ _ _ c.in_ok-tell_if-2.was c.if-branch-gt0-2.true (round_left g last))
 
 pub returns-clause-did : goal.returns-clause-did
 returns-clause-did g c =
-    let lists_are = lists_of g.Q.Rx.received g.T.Tx.sent g.O.Tx.sent g.G.GossipRx.got in
-    let counts_are = counts_of g.Q.Rx.answers g.T.Tx.fulls g.O.Tx.fulls g.G.GossipRx.answers in
+    let at = goal.at.returns-clause-did g c in
+    let due = c.is_due-due.result in
+    let left = c.is_left-left.result in
     let worker = c.args.self.now in
-    let before = lists_are worker in
-    let room = RoomAt g.O.Tx.clear g.O.Tx.roomy g.O.Tx.unseen worker.ends.gossip_out.items in
-    let mates : length worker.state.changed ≡ length before.told = c.has_kept.ensures.mates ∙ sym (length-map worker.ends.gossip_out.items g.O.Tx.sent) in
-    let resent = lists_are c.resend.new.self in
-    let still : resent ≡ before = resent_still g.Q.Rx.received g.T.Tx.sent g.O.Tx.sent g.G.GossipRx.got g.T.Tx.fulls worker c.resend.new.self c.in_ok-resend.field-0 c.if-branch.false c.resend.ensures.state c.in_ok-resend.ensures.resent c.resend.ensures.requests c.resend.ensures.gossip_out c.resend.ensures.gossip_in in
-    let told = lists_are c.tell_if.new.self in
-    let rounds_due = subst (λ room. RoundsIf {E = NoMemory} c.is_due-due.result (Ok c.in_ok-tell_if.field-0) resent told (counts_are c.resend.new.self) (counts_are c.tell_if.new.self) room) (ap (λ out. RoomAt g.O.Tx.clear g.O.Tx.roomy g.O.Tx.unseen (items_of out)) (c.resend.ensures.gossip_out)) c.in_ok-tell_if.ensures.rounds in
-    let mates_then : length c.resend.new.self.state.changed ≡ length resent.told = subst (λ (lists : Lists). length lists.state.changed ≡ length lists.told) (sym still) mates in
-    let started : Started resent told c.is_due-due.result (counts_are c.resend.new.self) (counts_are c.tell_if.new.self) room =
-    starts c.is_due-due.result _ c.in_ok-tell_if.field-0 resent told (counts_are c.resend.new.self) (counts_are c.tell_if.new.self) room refl (λ some. omega (arith, some, c.if-branch-gt0.false)) rounds_due c.is_due-due.ensures.due
-    mates_then (as_long g.O.Tx.number g.O.Tx.sent c.tell_if.new.self.ends.gossip_out.items c.resend.new.self.ends.gossip_out.items c.tell_if.ensures.keys.gossip_out_numbers)
-    (c.tell_if.ensures.mates ∙ sym (length-map c.tell_if.new.self.ends.gossip_out.items g.O.Tx.sent))
-    (length-map c.resend.new.self.ends.gossip_out.items g.O.Tx.fulls ∙ sym (length-map c.resend.new.self.ends.gossip_out.items g.O.Tx.sent)) in
-    let gossips : Gossips before told = subst (λ lists. Gossips lists told) still started.gossips in
-    let unmoved : IsUnmoved before told = subst (λ lists. IsUnmoved lists told) still started.unmoved in
-    let took = subst (λ is. TakesGossip {E = NoMemory} (Ok is) told (lists_are c.take_gossip.new.self) (g.G.GossipRx.answers c.tell_if.new.self.ends.gossip_in) (g.G.GossipRx.answers c.take_gossip.new.self.ends.gossip_in)
-    (FindsNothingWeak g.G.GossipRx.keeps (weak_box_of g.G.GossipRx.got g.G.GossipRx.answers g.G.GossipRx.about g.G.GossipRx.due g.G.GossipRx.most c.take_gossip.new.self.ends.gossip_in))) c.if-branch-2.false c.in_ok-take_gossip.ensures.kept in
-    let asked = subst (λ is. TakesRequest {E = NoMemory} (Ok is) (lists_are c.take_gossip.new.self) (lists_are c.take_request.new.self) (g.Q.Rx.answers c.take_gossip.new.self.ends.requests) (g.Q.Rx.answers c.take_request.new.self.ends.requests)
-    (FindsNothing g.Q.Rx.keeps (box_of g.Q.Rx.received g.Q.Rx.answers g.Q.Rx.about c.take_request.new.self.ends.requests))) c.if-branch-3.false c.in_ok-take_request.ensures.kept in
-    let asked_now = lists_are c.take_request.new.self in
-    let now = lists_are c.tell_if-2.new.self in
-    let rounds_left = rounds_at_first c.is_due-due.result c.is_left-left.result (Ok c.in_ok-tell_if-2.field-0) asked_now now (counts_are c.take_request.new.self) (counts_are c.tell_if-2.new.self) (RoomAt g.O.Tx.clear g.O.Tx.roomy g.O.Tx.unseen c.take_request.new.self.ends.gossip_out.items) room
-    (λ left. (c.is_left-left.ensures.left left).0) (λ not_due. ap (λ out. RoomAt g.O.Tx.clear g.O.Tx.roomy g.O.Tx.unseen (items_of out)) (c.take_request.ensures.gossip_out ∙ c.take_gossip.ensures.gossip_out ∙ c.tell_if.ensures.gossip_out not_due ∙ c.resend.ensures.gossip_out)) c.in_ok-tell_if-2.ensures.rounds in
-    let as_told : asked_now ≡ told = asked.0 ∙ took.0 in
-    let counts_resent = counts_are c.resend.new.self in
-    let counts_told = counts_are c.tell_if.new.self in
-    let counts_asked = counts_are c.take_request.new.self in
-    let counts_now = counts_are c.tell_if-2.new.self in
-    let mates_asked : length c.take_request.new.self.state.changed ≡ length asked_now.told =
-    subst (λ (lists : Lists). length lists.state.changed ≡ length lists.told) (sym as_told) (c.tell_if.ensures.mates ∙ sym (length-map c.tell_if.new.self.ends.gossip_out.items g.O.Tx.sent)) in
-    let last : Started asked_now now c.is_left-left.result counts_asked counts_now room =
-    starts c.is_left-left.result _ c.in_ok-tell_if-2.field-0 asked_now now counts_asked counts_now room refl (λ some. omega (arith, some, c.if-branch-gt0-2.false)) rounds_left (λ left. (c.is_left-left.ensures.left left).1)
-    mates_asked (as_long g.O.Tx.number g.O.Tx.sent c.tell_if-2.new.self.ends.gossip_out.items c.take_request.new.self.ends.gossip_out.items c.tell_if-2.ensures.keys.gossip_out_numbers)
-    (c.tell_if-2.ensures.mates ∙ sym (length-map c.tell_if-2.new.self.ends.gossip_out.items g.O.Tx.sent))
-    (length-map c.take_request.new.self.ends.gossip_out.items g.O.Tx.fulls ∙ sym (length-map c.take_request.new.self.ends.gossip_out.items g.O.Tx.sent)) in
-    let unmoved_now : IsUnmoved before now = unmoved_through before told now unmoved (subst (λ lists. IsUnmoved lists now) as_told last.unmoved) in
-    let none_kept = ap (λ (lists : Lists). lists.state.kept) unmoved_now ∙ none_held worker.state.kept (sym c.has_kept.ensures.kept ∙ c.if-has_kept.false) in
-    let gossip_last = c.tell_if-2.ensures.gossip_in ∙ c.take_request.ensures.gossip_in in
-    let no_gossip : Rose (g.G.GossipRx.answers worker.ends.gossip_in).nones (g.G.GossipRx.answers c.tell_if-2.new.self.ends.gossip_in).nones =
-    rose_between (ap (λ box. (g.G.GossipRx.answers box).nones) (sym (c.tell_if.ensures.gossip_in ∙ c.resend.ensures.gossip_in))) (ap (λ box. (g.G.GossipRx.answers box).nones) gossip_last) took.1 in
-    let requests_first = c.take_gossip.ensures.requests ∙ c.tell_if.ensures.requests ∙ c.resend.ensures.requests in
-    let held_last : now.state.held ≡ c.take_gossip.new.self.state.held = ap (λ (lists : Lists). lists.state.held) (last.unmoved ∙ λ j. record (asked.0 j) { state = record ((asked.0 j).state) { turned = now.state.turned; since = now.state.since } }) in
-    let no_request : IsTrue (is_some now.state.held) ⊎ Rose (g.Q.Rx.answers worker.ends.requests).nones (g.Q.Rx.answers c.tell_if-2.new.self.ends.requests).nones =
-    either asked.1 (λ held. ap is_some held_last ∙ held)
-    (λ found. rose_between (ap (λ box. (g.Q.Rx.answers box).nones) (sym requests_first)) (ap (λ box. (g.Q.Rx.answers box).nones) c.tell_if-2.ensures.requests) found.0) in
-    let same_fulls : counts_asked.gossip_fulls ≡ counts_told.gossip_fulls = ap (λ out. map g.O.Tx.fulls (items_of out)) (c.take_request.ensures.gossip_out ∙ c.take_gossip.ensures.gossip_out) in
-    let fulls_resent : counts_resent.gossip_fulls ≡ (counts_are worker).gossip_fulls = ap (λ out. map g.O.Tx.fulls (items_of out)) c.resend.ensures.gossip_out in
-    let last_told = subst (λ lists. Started lists now c.is_left-left.result counts_asked counts_now room) as_told last in
-    let round_told = subst (λ lists. RoundsIf {E = NoMemory} c.is_left-left.result (Ok c.in_ok-tell_if-2.field-0) lists now counts_asked counts_now room) as_told rounds_left in
-    let first_back = left_first_back c.is_due-due.result c.is_left-left.result resent told now counts_resent counts_told counts_asked counts_now room (Ok c.in_ok-tell_if-2.field-0) started last_told round_told
-    (λ left. (c.is_left-left.ensures.left left).0) (λ none not_due. ap (λ (lists : Lists). dirty lists.state) (sym as_told) ∙ c.is_left-left.ensures.none none not_due) in
-    let long : length now.told ≡ length before.told =
-    as_long g.O.Tx.number g.O.Tx.sent c.tell_if-2.new.self.ends.gossip_out.items c.take_request.new.self.ends.gossip_out.items c.tell_if-2.ensures.keys.gossip_out_numbers
-    ∙ ap (λ (lists : Lists). length lists.told) as_told
-    ∙ as_long g.O.Tx.number g.O.Tx.sent c.tell_if.new.self.ends.gossip_out.items c.resend.new.self.ends.gossip_out.items c.tell_if.ensures.keys.gossip_out_numbers
-    ∙ ap (λ (lists : Lists). length lists.told) still in
-    let back = left_full c.is_due-due.result c.is_left-left.result resent told now counts_resent counts_told counts_asked counts_now room (Ok c.in_ok-tell_if-2.field-0) started
-    last_told round_told
-    (λ left. (c.is_left-left.ensures.left left).0) (λ none not_due. ap (λ (lists : Lists). dirty lists.state) (sym as_told) ∙ c.is_left-left.ensures.none none not_due) same_fulls
-    (λ not_due. ap (λ (count : Counts). count.gossip_fulls) (not_counted c.is_due-due.result _ resent told counts_resent counts_told room rounds_due not_due)) in
-    let back_now : 1 ≤ dirty now.state → SomeRose (counts_are worker).gossip_fulls counts_now.gossip_fulls = λ some. subst (λ fulls. SomeRose fulls counts_now.gossip_fulls) fulls_resent (back some) in
-    let replies_last = c.tell_if-2.ensures.replies ∙ c.take_request.ensures.replies ∙ c.take_gossip.ensures.replies ∙ c.tell_if.ensures.replies in
-    let held_then : now.state.held ≡ c.resend.new.self.state.held = held_last ∙ ap (λ (lists : Lists). lists.state.held) (took.0 ∙ started.unmoved) in
-    let held_back : IsTrue (is_some now.state.held) → SomeRose (counts_are worker).reply_fulls counts_now.reply_fulls = λ held. subst (λ fulls. SomeRose (map g.T.Tx.fulls worker.ends.replies.items) fulls) (ap (λ replies. map g.T.Tx.fulls (items_of replies)) (sym replies_last))
-    (held_full worker.state.held c.resend.new.self.state.held _ _ _ _ c.in_ok-resend.field-0 c.if-branch.false c.in_ok-resend.ensures.resent (ap is_some (sym held_then) ∙ held)) in
-    rw c.rests.ensures (rests_turns before now (counts_are worker) counts_now room unmoved_now none_kept no_gossip no_request back_now held_back first_back long)
+    let resent = c.resend.new.self in
+    let told = c.tell_if.new.self in
+    let asked = c.take_request.new.self in
+    let now = c.tell_if-2.new.self in
+    let first = room g worker.ends.gossip_out in
+    let as_resent = still g at.After-tell_if in
+    let round = round_due g at.After-tell_if in
+    let start = begun g at.After-take_gossip as_resent round in
+    let none_found = no_gossip g at.After-take_request in
+    let none = none_asked g at.After-tell_if-2 in
+    let as_told : lists g asked ≡ lists g told = none.0 ∙ none_found.0 in
+    let last = round_left g at.After-tell_if-2 in
+    let end : Started (lists g told) (lists g now) left (counts g asked) (counts g now) first =
+    begins g left c.tell_if-2.result c.in_ok-tell_if-2.field-0 worker asked now (lists g told) as_told (mates g told c.tell_if.ensures.mates) c.in_ok-tell_if-2.was
+    c.if-branch-gt0-2.false last (λ made. (c.is_left-left.ensures.left made).1) c.tell_if-2.ensures.keys.gossip_out_numbers c.tell_if-2.ensures.mates in
+    let unmoved = unmoved_through (lists g worker) (lists g told) (lists g now) start.unmoved end.unmoved in
+    let none_kept = ap (λ (lists : Lists). lists.state.kept) unmoved ∙ none_held worker.state.kept (sym c.has_kept.ensures.kept ∙ c.if-has_kept.false) in
+    let found_none : Rose (counts g worker).gossip.nones (counts g now).gossip.nones =
+    rose_between (ap (λ box. (g.G.GossipRx.answers box).nones) (sym (c.tell_if.ensures.gossip_in ∙ c.resend.ensures.gossip_in)))
+    (ap (λ box. (g.G.GossipRx.answers box).nones) (c.tell_if-2.ensures.gossip_in ∙ c.take_request.ensures.gossip_in)) none_found.1 in
+    let held_told : now.state.held ≡ told.state.held = ap (λ (lists : Lists). lists.state.held) end.unmoved in
+    let held_taken : now.state.held ≡ c.take_gossip.new.self.state.held = held_told ∙ sym (ap (λ (lists : Lists). lists.state.held) none_found.0) in
+    let held_resent : now.state.held ≡ resent.state.held = held_told ∙ ap (λ (lists : Lists). lists.state.held) start.unmoved ∙ sym (ap (λ (lists : Lists). lists.state.held) as_resent) in
+    let found_no_request : IsTrue (is_some now.state.held) ⊎ Rose (counts g worker).requests.nones (counts g now).requests.nones =
+    either none.1 (λ held. ap is_some held_taken ∙ held)
+    (λ found. rose_between (ap (λ box. (g.Q.Rx.answers box).nones) (sym (c.take_gossip.ensures.requests ∙ c.tell_if.ensures.requests ∙ c.resend.ensures.requests)))
+    (ap (λ box. (g.Q.Rx.answers box).nones) c.tell_if-2.ensures.requests) found) in
+    let back = left_back due left (lists g worker) (lists g told) (lists g now) (counts g resent) (counts g told) (counts g asked) (counts g now) first c.tell_if-2.result start end
+    (subst (λ told. RoundsIf left c.tell_if-2.result told (lists g now) (counts g asked) (counts g now) first) as_told last) (λ made. (c.is_left-left.ensures.left made).0)
+    (λ none not_due. ap (λ (lists : Lists). dirty lists.state) (sym as_told) ∙ c.is_left-left.ensures.none none not_due)
+    (ap (λ out. map g.O.Tx.fulls (items_of out)) (c.take_request.ensures.gossip_out ∙ c.take_gossip.ensures.gossip_out))
+    (λ not_due. ap (λ (count : Counts). count.gossip_fulls) (not_counted due c.tell_if.result _ _ _ _ _ round not_due)) in
+    let gossip_back : 1 ≤ dirty now.state → SomeRose (counts g worker).gossip_fulls (counts g now).gossip_fulls = λ some.
+    subst (λ fulls. SomeRose fulls (counts g now).gossip_fulls) (ap (λ out. map g.O.Tx.fulls (items_of out)) c.resend.ensures.gossip_out) (back some).0 in
+    let held_back : IsTrue (is_some now.state.held) → SomeRose (counts g worker).reply_fulls (counts g now).reply_fulls = λ held.
+    subst (SomeRose (counts g worker).reply_fulls)
+    (ap (λ replies. map g.T.Tx.fulls (items_of replies)) (sym (c.tell_if-2.ensures.replies ∙ c.take_request.ensures.replies ∙ c.take_gossip.ensures.replies ∙ c.tell_if.ensures.replies)))
+    (held_full worker.state.held resent.state.held _ _ _ _ c.in_ok-resend.field-0 c.if-branch.false c.in_ok-resend.ensures.resent (ap is_some (sym held_resent) ∙ held)) in
+    let long : length (lists g now).told ≡ length (lists g worker).told =
+    mates_stay g asked now c.tell_if-2.ensures.keys.gossip_out_numbers ∙ ap (λ (lists : Lists). length lists.told) as_told
+    ∙ mates_stay g resent told c.tell_if.ensures.keys.gossip_out_numbers ∙ ap (λ (lists : Lists). length lists.told) as_resent in
+    rw c.rests.ensures (rests_turns (lists g worker) (lists g now) (counts g worker) (counts g now) first unmoved none_kept found_none found_no_request gossip_back held_back
+    (λ some. (back some).1) long)

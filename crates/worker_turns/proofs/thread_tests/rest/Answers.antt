@@ -1,5 +1,5 @@
-use Rattle.worker_core.proofs.MatesLemmas.{fixed_through, keys_through}
-use Rattle.worker_core.proofs.thread_tests.rest.Goals as goal
+use Rattle.worker_turns.proofs.MatesLemmas.{fixed_through, keys_through}
+use Rattle.worker_turns.proofs.thread_tests.rest.Goals as goal
 
 pub returns-in-Ok-Idle-clause-fixed : goal.returns-in-Ok-Idle-clause-fixed
 returns-in-Ok-Idle-clause-fixed g c = fixed_through c.loop.invariant.fixed c.turn.ensures.fixed

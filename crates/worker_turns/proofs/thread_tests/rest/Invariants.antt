@@ -1,5 +1,5 @@
 use Rattle.worker_core.specs.State.{IsFixed, KeysStay}
-use Rattle.worker_core.proofs.thread_tests.rest.Given as goal
+use Rattle.worker_turns.proofs.thread_tests.rest.Given as goal
 
 abbrev pub invariant-loop : goal.invariant-loop
 invariant-loop g l = record {

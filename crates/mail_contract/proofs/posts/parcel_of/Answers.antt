@@ -2,8 +2,8 @@ use Rattle.std.proofs.Common.{◌≡◌, ◌<◌, ℕ, List, [], length, map, dr
 use Rattle.std.proofs.lemmas.List.{map-set, get_or-map}
 use Rattle.std.proofs.Math.Seq.{map-set_same}
 use Rattle.mail_contract.specs.Carried.{Carried}
-use Rattle.worker_core.specs.Parcels.{GivesUp}
-use Rattle.worker_core.proofs.plain.parcel_of.Goals as goal
+use Rattle.mail_contract.specs.Parcels.{GivesUp}
+use Rattle.mail_contract.proofs.posts.parcel_of.Goals as goal
 
 -- of several senders the one at a place gives up a parcel
 gives_up : {T M : Type 0} (number : T → ℕ) (sent given : T → List M) (senders : List T) (place : ℕ) (before now : T) (parcel : Carried M)

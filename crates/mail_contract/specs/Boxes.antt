@@ -1,4 +1,4 @@
--- What one call of a worker does to its boxes: each is asked once at most.
+-- What a call does to a box, each in one word.
 use Rattle.std.specs.Prelude.{◌≡◌, ◌⊎◌, ℕ, ◌+◌, ◌-◌, ◌*◌, ◌≤◌, length, Bool, IsTrue, IsOk, List, Option, Result}
 use Rattle.lattice_laws.specs.declared.lattice.NoMemory.{NoMemory}
 use Rattle.mail_contract.specs.Got.{HandedOut, AreIn, IsOfSent, AreAllOfSent as AreAllGot, IsOfShown as IsGotOfShown, StayDue, AreDueHandedOut, missing}
@@ -56,6 +56,7 @@ pub record HandsOut {M E : Type 0} (keeps : Parts) (senders : ℕ) (answer : Res
   pub advances : IsTrue keeps.advances → OnNone answer (AreDueHandedOut now.got now.about now.due)
   pub sure : IsTrue keeps.sure → IsOk answer
 
+-- a weak box was asked once, or not at all
 abbrev pub MayHandOut : {M : Type 0} → Parts → ℕ → WeakBox M → WeakBox M → Type 0
 MayHandOut {M} keeps senders before now = (now ≡ before) ⊎ ((answer : Result (Option (ℕ × M)) NoMemory) × HandsOut keeps senders answer before now)
 
@@ -75,7 +76,7 @@ pub record FindsNothingWeak {M : Type 0} (keeps : Parts) (box : WeakBox M) : Typ
   pub exact : IsTrue keeps.exact → IsNothingLeft box.about
   pub advances : IsTrue keeps.advances → AreDueHandedOut box.got box.about box.due
 
--- A sender that has ended is taken in.
+-- a sender that has ended is taken in
 pub record Settles {M : Type 0} (keeps : Parts) (sender : ℕ) (sent : List M) (before now : Box M) : Type 0 where
   pub received : now.received ≡ before.received
   pub answers : now.answers ≡ before.answers
@@ -95,7 +96,7 @@ pub record SettlesWeak {M : Type 0} (keeps : Parts) (senders sender : ℕ) (sent
   pub left : IsTrue keeps.finite → (now.about sender).left ≤ missing (before.got sender) sent
   pub most : IsTrue keeps.finite → now.most ≤ 2 * (left_of_all senders now.about + 8)
 
--- A sender is held beside the box.
+-- a sender is held beside the weak box
 pub record ShowsWeak {M : Type 0} (keeps : Parts) (senders sender : ℕ) (sent : List M) (before now : WeakBox M) : Type 0 where
   pub got : now.got ≡ before.got
   pub answers : now.answers ≡ before.answers
@@ -104,7 +105,7 @@ pub record ShowsWeak {M : Type 0} (keeps : Parts) (senders sender : ℕ) (sent :
   pub due : IsTrue (now.due sender)
   pub told : IsTrue keeps.complete → AreIn (before.got sender) sent
 
--- A sender is held beside the box.
+-- a sender is held beside the box
 pub record Shows {M : Type 0} (keeps : Parts) (sender : ℕ) (sent : List M) (before now : Box M) : Type 0 where
   pub received : now.received ≡ before.received
   pub answers : now.answers ≡ before.answers

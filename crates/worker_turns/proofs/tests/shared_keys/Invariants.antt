@@ -1,6 +1,6 @@
 use Rattle.std.proofs.Common.{◌≡◌, All, length}
 use Rattle.placement.specs.Config.{ArePins}
-use Rattle.worker_core.proofs.tests.shared_keys.Given as goal
+use Rattle.worker_turns.proofs.tests.shared_keys.Given as goal
 
 abbrev pub invariant-loop : goal.invariant-loop
 invariant-loop l = record {

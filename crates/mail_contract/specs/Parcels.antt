@@ -1,4 +1,4 @@
--- What plain mail's parcels do to a box, and to the senders of a worker.
+-- What plain mail's parcels do to a box, and to several senders.
 use Rattle.std.specs.Prelude.{◌≡◌, ℕ, List, [], drop, length, map, slice_index_or, slice_set, Result}
 use Rattle.mail_contract.specs.Carried.{Carried}
 use Rattle.mail_contract.specs.Plain.{Follows, IsCause, IsLeft, OnDelivered, with_parcel}

@@ -1,7 +1,7 @@
 //! What a worker does, turn by turn.
-ghost use Rattle.std.specs.Prelude.{◌≡◌, ◌≤◌, length, IfOk};
+ghost use Rattle.std.specs.Prelude.{◌≡◌, ◌≤◌, length, IfOk, OnOk};
+ghost use Rattle.worker_turns.specs.Desks.{IsAtRest, Stays};
 
-use super::*;
 use clock_lattice::{Clock, Needs};
 use composed_value::{Kind, Payload, Put, Value};
 use lattice_laws::{Items, Maybe};
@@ -10,6 +10,7 @@ use placement::{Config, KeyPlace, Name, Placement};
 use std::alloc::Global;
 use std::test::Fail;
 use store_msg::{Answered, Batch, PlainPost, Reply, Request, WorkerEndsOver};
+use worker_core::{Did, Worker, WorkerOver};
 
 /// One of two workers, over plain mail. The other ends: those of the sessions, and the box of its mate.
 #[derive(Drop)]
@@ -52,6 +53,10 @@ fn new_desk(
     requires me { (1 ≤ me) × (me ≤ 2) }
     requires round { (1 ≤ round) × (round ≤ 64) }
     requires keys { keys ≤ 128 }
+    ensures me { IfOk result (λ desk. desk.worker.state.me ≡ me) }
+    ensures mates { IfOk result (λ desk. length desk.worker.ends.gossip_out.items ≡ 1) }
+    ensures sessions { IfOk result (λ desk. length desk.worker.ends.replies.items ≡ answered) }
+    ensures rests { IfOk result (λ desk. IsAtRest desk.worker.state) }
 {
     let placement = shared_keys(alloc, keys)?;
     let kinds = Items::new(vec![in alloc; Kind::Max; keys as usize]?);
@@ -105,7 +110,9 @@ fn get(alloc: Global, key: u16) -> Request {
 }
 
 /// A session sends a request, which is carried to the worker.
-fn ask(desk: &mut Desk, session: usize, request: Request) -> Result<(), Fail> {
+fn ask(desk: &mut Desk, session: usize, request: Request) -> Result<(), Fail>
+    ensures { Stays desk.old.worker desk.new.worker }
+{
     let Some(tx) = desk.asks.get_mut(session.saturating_sub(1)) else {
         return Err(Fail::new("no such session"));
     };
@@ -120,7 +127,9 @@ fn ask(desk: &mut Desk, session: usize, request: Request) -> Result<(), Fail> {
 }
 
 /// What a worker does in each turn until it is idle, and how much is left to tell after each.
-fn turns(alloc: Global, worker: &mut Worker<PlainPost>) -> Result<Vec<(Did, usize)>, Fail> {
+fn turns(alloc: Global, worker: &mut Worker<PlainPost>) -> Result<Vec<(Did, usize)>, Fail>
+    ensures { Stays worker.old worker.new }
+{
     let mut all = Vec::new(alloc);
     for _ in 0..16 {
         let did = worker.turn()?;
@@ -142,18 +151,22 @@ fn shown(worker: &Worker<PlainPost>, key: u16) -> Option<(u64, Option<u64>)> {
 }
 
 /// What worker 1 told worker 2 since it was last asked.
-fn told(worker: &mut Worker<PlainPost>) -> Result<Parcel<Batch>, Fail> {
-    if worker.local.me != 1 || worker.ends.gossip_out.len() != 1 {
-        return Err(Fail::new("not the first of two"));
-    }
-    Ok(worker.gossip_parcel(2))
+fn told(worker: &mut Worker<PlainPost>) -> Parcel<Batch>
+    requires me { worker.old.state.me ≡ 1 }
+    requires mates { length worker.old.ends.gossip_out.items ≡ 1 }
+{
+    worker.gossip_parcel(2)
 }
 
 /// Worker 1 takes a put, and its gossip comes to worker 2: what worker 1 did.
-fn tell(alloc: Global, first: &mut Desk, second: &mut Desk) -> Result<Vec<(Did, usize)>, Fail> {
+fn tell(alloc: Global, first: &mut Desk, second: &mut Desk) -> Result<Vec<(Did, usize)>, Fail>
+    requires me { first.old.worker.state.me ≡ 1 }
+    requires mates { length first.old.worker.ends.gossip_out.items ≡ 1 }
+    ensures { second.new.worker.state ≡ second.old.worker.state }
+{
     ask(first, 1, put_max(alloc, 1, 1, 5))?;
     let did = turns(alloc, &mut first.worker)?;
-    let parcel = told(&mut first.worker)?;
+    let parcel = told(&mut first.worker);
     if second.worker.deliver_gossip(parcel).is_err() {
         return Err(Fail::new("not delivered"));
     }
@@ -165,7 +178,10 @@ fn first_tells(
     alloc: Global,
     first: &mut Desk,
     second: &mut Desk,
-) -> Result<(Vec<(Did, usize)>, Vec<(Did, usize)>), Fail> {
+) -> Result<(Vec<(Did, usize)>, Vec<(Did, usize)>), Fail>
+    requires me { first.old.worker.state.me ≡ 1 }
+    requires mates { length first.old.worker.ends.gossip_out.items ≡ 1 }
+{
     let did = tell(alloc, first, second)?;
     Ok((did, turns(alloc, &mut second.worker)?))
 }
@@ -205,12 +221,10 @@ fn a_put_that_met_want_of_memory_counts_once(rt: HostRuntime) -> Result<(), Fail
 }
 
 /// What a worker hears once it is sealed, twice, and how many puts of session 1 it counts on key 1 then.
-fn seal_and_hear(desk: Desk) -> Result<(bool, bool, Option<u64>), Fail> {
-    let worker = desk.worker;
-    if worker.dirty() > 0 || worker.local.held.is_some() || worker.local.kept.is_some() {
-        return Err(Fail::new("not at rest"));
-    }
-    let mut sealed = worker.seal().0;
+fn seal_and_hear(desk: Desk) -> Result<(bool, bool, Option<u64>), Fail>
+    requires { IsAtRest desk.worker.state }
+{
+    let mut sealed = desk.worker.seal().0;
     let first = sealed.hear()?;
     let second = sealed.hear()?;
     Ok((
@@ -231,8 +245,11 @@ fn a_sealed_worker_hears_what_it_was_told(rt: HostRuntime) -> Result<(), Fail> {
 }
 
 /// The keys of the batches that were told, each with the place of its batch.
-fn told_keys(alloc: Global, desk: &mut Desk) -> Result<Vec<(usize, u16)>, Fail> {
-    let parcel = told(&mut desk.worker)?;
+fn told_keys(alloc: Global, desk: &mut Desk) -> Result<Vec<(usize, u16)>, Fail>
+    requires me { desk.old.worker.state.me ≡ 1 }
+    requires mates { length desk.old.worker.ends.gossip_out.items ≡ 1 }
+{
+    let parcel = told(&mut desk.worker);
     if desk.told.deliver(parcel).is_err() {
         return Err(Fail::new("not delivered"));
     }
@@ -251,7 +268,9 @@ fn told_keys(alloc: Global, desk: &mut Desk) -> Result<Vec<(usize, u16)>, Fail> 
 }
 
 /// Three puts and a get, and what the worker did.
-fn four_asks(alloc: Global, first: &mut Desk) -> Result<Vec<(Did, usize)>, Fail> {
+fn four_asks(alloc: Global, first: &mut Desk) -> Result<Vec<(Did, usize)>, Fail>
+    ensures { OnOk result (Stays first.old.worker first.new.worker) }
+{
     ask(first, 1, put_max(alloc, 1, 1, 5))?;
     ask(first, 1, put_max(alloc, 2, 1, 6))?;
     ask(first, 1, put_max(alloc, 1, 2, 7))?;
@@ -280,10 +299,9 @@ fn a_round_tells_the_changed_keys_alone(rt: HostRuntime) -> Result<(), Fail> {
 }
 
 /// How many entries the clock of the cell has that each reply to session 1 shows.
-fn answers(alloc: Global, desk: &mut Desk) -> Result<Vec<usize>, Fail> {
-    if desk.worker.ends.replies.is_empty() {
-        return Err(Fail::new("no such session"));
-    }
+fn answers(alloc: Global, desk: &mut Desk) -> Result<Vec<usize>, Fail>
+    requires { 1 ≤ length desk.old.worker.ends.replies.items }
+{
     let parcel = desk.worker.reply_parcel(1);
     if desk.heard.deliver(parcel).is_err() {
         return Err(Fail::new("not delivered"));
@@ -303,7 +321,9 @@ fn answers(alloc: Global, desk: &mut Desk) -> Result<Vec<usize>, Fail> {
 
 /// Puts without a number, on a key that is not held and of another kind, and a get by a session that has no
 /// sender of replies; and what the worker did.
-fn four_idle_asks(alloc: Global, first: &mut Desk) -> Result<Vec<(Did, usize)>, Fail> {
+fn four_idle_asks(alloc: Global, first: &mut Desk) -> Result<Vec<(Did, usize)>, Fail>
+    ensures { OnOk result (Stays first.old.worker first.new.worker) }
+{
     ask(first, 1, put_max(alloc, 1, 0, 5))?;
     ask(first, 1, put_max(alloc, 2, 1, 5))?;
     let put = put(alloc, 1, 1, Payload::On);
@@ -313,7 +333,9 @@ fn four_idle_asks(alloc: Global, first: &mut Desk) -> Result<Vec<(Did, usize)>, 
 }
 
 /// A get of a key that is not held: what the worker did, and what it replied to session 1 so far.
-fn ask_for_none(alloc: Global, first: &mut Desk) -> Result<(Vec<(Did, usize)>, Vec<usize>), Fail> {
+fn ask_for_none(alloc: Global, first: &mut Desk) -> Result<(Vec<(Did, usize)>, Vec<usize>), Fail>
+    requires { 1 ≤ length first.old.worker.ends.replies.items }
+{
     ask(first, 1, get(alloc, 2))?;
     let did = turns(alloc, &mut first.worker)?;
     Ok((did, answers(alloc, first)?))

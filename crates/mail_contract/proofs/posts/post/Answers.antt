@@ -1,7 +1,7 @@
 use Rattle.std.proofs.Common.{◌∙◌, ap}
 use Rattle.std.proofs.Math.Seq.{map-set_same}
-use Rattle.worker_core.proofs.PostsLemmas.{fulls_after, no_room_after, not_clear_after, posted, stays_elsewhere, unseen_after}
-use Rattle.worker_core.proofs.serve.post.Goals as goal
+use Rattle.mail_contract.proofs.PostsLemmas.{fulls_after, no_room_after, not_clear_after, posted, stays_elsewhere, unseen_after}
+use Rattle.mail_contract.proofs.posts.post.Goals as goal
 
 pub returns-clause-keys : goal.returns-clause-keys
 returns-clause-keys g c = map-set_same g.T.Tx.key _ _ _ _ (c.send.ensures.key ∙ ap g.T.Tx.key c.index_mut-sender.ensures.value)

@@ -5,10 +5,9 @@ use Rattle.std.specs.List.{slice_get}
 use Rattle.std.proofs.Math.Seq.{map-set_same}
 use Rattle.std.proofs.lemmas.Option.{get_or_from_slice_get}
 use Rattle.lattice_laws.specs.Counts.{Rose}
-use Rattle.mail_contract.specs.Sends.{Sent, OnFull, OnSent, NotFull}
+use Rattle.mail_contract.specs.Sends.{FullsAfter, NotFull, OnFull, OnSent, Posted, Sent}
 use Rattle.mail_contract.specs.declared.Refused.{Refused}
 use Rattle.mail_contract.specs.declared.Refused.TheVariants.{NoMemory, Full}
-use Rattle.worker_core.specs.Sending.{Posted, FullsAfter}
 
 -- what each sender sent, after a send by one
 pub posted : {T M U : Type 0} (sent : T → List M) (senders : List T) (place : ℕ) (before now : T) (result : Result U (Refused M)) (message : M)

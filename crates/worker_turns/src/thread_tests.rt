@@ -1,9 +1,8 @@
 //! Two workers over rings, on threads of their own and then on one.
 ghost use Rattle.std.specs.Prelude.{◌≡◌, ◌≤◌, ◌∷◌, [], map, IfOk};
-ghost use Rattle.worker_core.specs.Mates.{AreMates};
+ghost use Rattle.worker_turns.specs.Mates.{AreMates};
 ghost use Rattle.worker_core.specs.State.{IsFixed, KeysStay};
 
-use super::*;
 use crate::tests::{put, shared_keys};
 use composed_value::{Kind, Payload, Value};
 use lattice_laws::{Items, Maybe};
@@ -13,6 +12,7 @@ use std::alloc::Global;
 use std::test::Fail;
 use std::thread::{Threads, join_mut};
 use store_msg::{Batch, Reply, Request, WorkerEndsOver};
+use worker_core::{Did, WorkerOver};
 
 /// A worker over rings.
 type Ringed = WorkerOver<RingRx<Request>, RingTx<Reply>, RingTx<Batch>, RingRx<Batch>>;

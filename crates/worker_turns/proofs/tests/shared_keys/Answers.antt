@@ -2,7 +2,7 @@ use Rattle.std.proofs.Common.{rules, ◌≡◌, ◌∷◌, [], All, length, ap, 
 use Rattle.std.proofs.lemmas.List.Elements.{All-push, All-same}
 use Rattle.placement.specs.Config.{ArePins}
 use Rattle.placement.specs.declared.config.KeyPlace.{KeyPlace}
-use Rattle.worker_core.proofs.tests.shared_keys.Goals as goal
+use Rattle.worker_turns.proofs.tests.shared_keys.Goals as goal
 
 abbrev IsShared : KeyPlace → Type 0
 IsShared place = ArePins 2 place.pins

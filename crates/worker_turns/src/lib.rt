@@ -1,0 +1,13 @@
+//! A worker's turns, over plain mail and over rings, worked as tests.
+//!
+//! Over plain mail one of two workers is asked, and what it does in each turn is compared with what it is
+//! to do, and so are its cells, its replies and the keys that it tells of. Over rings two workers go to
+//! threads of their own and back.
+//!
+//! No part of the product stands on this crate.
+#![tactic(auto)]
+
+#[cfg(test)]
+mod tests;
+#[cfg(test)]
+mod thread_tests;
