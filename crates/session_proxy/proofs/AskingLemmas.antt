@@ -1,0 +1,182 @@
+-- A line's next ask is sent.
+use Rattle.std.specs.Prelude.{◌≡◌, ℕ, ◌+◌, ◌-◌, ◌*◌, ◌<◌, ◌≤◌, ◌^◌, true, false, IsTrue, List, [], ◌∷◌, ◌++◌, All, length, map, slice_get, slice_index_or, slice_set, take, Option, Some, None, IfSome}
+use Rattle.std.proofs.Common.{◌∙◌, refl, sym, ap, subst, arith, append_assoc, true≢false}
+use Rattle.std.proofs.lemmas.Nat.{mul-le}
+use Rattle.std.proofs.lemmas.Option.{none-some, same_Some}
+use Rattle.placement.specs.Asked.{replicas_of}
+use Rattle.placement.specs.Config.{IsOneOf}
+use Rattle.session_known.specs.Lawful.{required}
+use Rattle.session_known.specs.Requests.{Sent, SentAsk, sent_from}
+use Rattle.session_known.specs.Session.{InState, start}
+use Rattle.session_known.specs.declared.script.Level.{Level}
+use Rattle.session_known.specs.declared.script.Level.TheVariants.{Causal}
+use Rattle.session_known.specs.declared.script.Line.{Line}
+use Rattle.session_known.specs.declared.script.Line.TheVariants as lines
+use Rattle.store_msg.specs.Reply.{PlainReply, is_found}
+use Rattle.store_msg.specs.declared.request.Request.{Request}
+use Rattle.store_msg.specs.declared.request.Request.TheVariants as requests
+use Rattle.session_proxy.proofs.AskLemmas.{asked_is_worker, most_is, next_is, replicas_there}
+use Rattle.session_proxy.proofs.KeepsLemmas.{may_run}
+use Rattle.session_proxy.proofs.PigeonholeLemmas.{few_replicas}
+use Rattle.session_proxy.proofs.SentLemmas.{as_many_sent, sent_one_more, take_one_more}
+use Rattle.session_proxy.specs.Kept.{Keeps}
+use Rattle.session_proxy.specs.Lines.{AreReplicas, MayRun, most_asks}
+use Rattle.session_proxy.specs.Local.{AreAsks, clock_begun, key_asked, worker_asked}
+use Rattle.session_proxy.specs.Share.{IsAsked, IsAwaited, awaited, lacks, open_most, request_of, to_worker}
+use Rattle.session_proxy.specs.State.{Course, Lists, open_line, state_now}
+use Rattle.session_proxy.specs.declared.local.Begun.{Begun}
+use Rattle.session_proxy.specs.declared.local.Begun.TheVariants as ways
+
+-- what is kept where asks were begun
+pub as_asks : {lists : Lists} {session : InState} {begun : Begun} {made : Option Request} → Keeps lists session begun made → AreAsks begun
+    → Keeps lists session (ways.Asks (clock_begun begun)) made
+as_asks {begun = ways.Asks clock} keeps asks = keeps
+as_asks {begun = begun} keeps asks = absurd asks
+
+-- and the other way round
+pub of_asks : {lists : Lists} {session : InState} {begun : Begun} {made : Option Request} → AreAsks begun → Keeps lists session (ways.Asks (clock_begun begun)) made
+    → Keeps lists session begun made
+of_asks {begun = ways.Asks clock} asks keeps = keeps
+of_asks {begun = begun} asks keeps = absurd asks
+
+-- the key that a line asks for is there
+key_known : (table : List (List ℕ)) (level : Level) (line : Line) → MayRun table level line → IsAsked line → IsOneOf (length table) (key_asked line)
+key_known table level (lines.Get key named) may asked = may.0
+key_known table level (lines.Await key session count) may asked = may.0
+key_known table level line may asked = absurd asked
+
+-- a line sends 8 asks at most for each replica
+most_few : (table : List (List ℕ)) (level : Level) (key : ℕ) → 1 ≤ length (replicas_of table key) → most_asks table level key ≤ 8 * length (replicas_of table key)
+most_few table Causal key some = omega arith
+most_few table level key some = omega (arith, some)
+
+-- so many asks of so many workers have numbers of 64 bits
+few_numbers : (asks out answers workers : ℕ) → asks ≤ answers * (8 * workers) → answers ≤ 4096 → workers < 2 ^ 16 → out ≤ 8 * workers → asks + out + 1 < 2 ^ 64
+few_numbers asks out answers workers few few_answers few_workers low =
+    let most : answers * (8 * workers) ≤ 4096 * (8 * 2 ^ 16) = mul-le answers (8 * workers) 4096 (8 * 2 ^ 16) few_answers (omega (arith, few_workers)) in
+    omega (arith, few, most, low, few_workers)
+
+-- where no reply is awaited, no ask's is
+none_awaited : (course : Course) → course.waits ≡ false → (ask : ℕ × Sent) → awaited course ≡ Some ask → ⊥
+none_awaited course waits ask is = none-some ask (rw waits at is)
+
+-- what holds only of a reply that is awaited leaves none that is kept
+none_kept : {P : PlainReply → Type 0} (kept : Option PlainReply) → ((reply : PlainReply) → P reply → ⊥) → IfSome kept P → kept ≡ None
+none_kept None not holds = refl
+none_kept (Some reply) not holds = absurd (not reply holds)
+
+-- a line lacks one reply more, once another ask is sent
+one_more_lacks : (option : Option Line) (lacking waits out : ℕ) → waits ≡ 0 → IfSome option (λ line. IsAsked line → lacking + waits ≡ out)
+    → IfSome option (λ line. IsAsked line → lacking + 1 ≡ out + 1)
+one_more_lacks None lacking waits out none before = tt
+one_more_lacks (Some line) lacking waits out none before = λ asked. let was = before asked in omega (arith, was, none)
+
+module _ {lists : Lists} {session : InState} {clock : List (ℕ × ℕ)} {made : Option Request} (keeps : Keeps lists session (ways.Asks clock) made) where
+  abbrev pub course : Course
+  course = lists.course
+
+  abbrev pub line : Line
+  line = keeps.stands.1
+
+  abbrev pub key : ℕ
+  key = key_asked line
+
+  -- the line is one that the session may have
+  line_may : MayRun course.table course.client.level line
+  line_may = may_run lists line keeps.stands.2 session (ways.Asks clock) made keeps
+
+  -- its key is there
+  pub key_there : IsOneOf (length course.table) key
+  key_there = key_known course.table course.client.level line line_may keeps.stands.3.asked
+
+  -- its replicas are workers
+  pub replicas_are : AreReplicas (length lists.sent) (replicas_of course.table key)
+  replicas_are = replicas_there (length lists.sent) course.table key keeps.placed key_there
+
+  -- so they are few
+  pub few_of_key : length (replicas_of course.table key) ≤ length lists.sent
+  few_of_key = few_replicas (length lists.sent) (replicas_of course.table key) replicas_are.are_workers replicas_are.different
+
+  -- and so are the line's asks
+  pub few_most : most_asks course.table course.client.level key ≤ 8 * length lists.sent
+  few_most = omega (arith, most_few course.table course.client.level key replicas_are.some, few_of_key)
+
+  -- no more of them were sent than may be
+  pub out_few : course.out ≤ most_asks course.table course.client.level key
+  out_few = omega (arith, keeps.share.out, most_is course line keeps.stands.2 keeps.stands.3.asked)
+
+  -- and one more may be, where no reply is awaited
+  pub out_left : course.waits ≡ false → course.out < most_asks course.table course.client.level key
+  out_left waits = omega (arith, keeps.stands.3.left waits, most_is course line keeps.stands.2 keeps.stands.3.asked)
+
+  -- the numbers of the asks are few, and of the next
+  pub few_next : (course.asks + course.out + 1 < 2 ^ 64) × (course.out + 1 < 2 ^ 32)
+  few_next =
+      let low : course.out ≤ 8 * length lists.sent = omega (arith, out_few, few_most) in (
+        few_numbers course.asks course.out (length course.answers) (length lists.sent) keeps.few_asks (omega (arith, keeps.share.few, keeps.few_lines)) keeps.few_workers low,
+        omega (arith, low, keeps.few_workers),
+      )
+
+  -- whichever line is open may be asked for, and so often
+  pub may_ask : (IsFew : ℕ → Type 0) → IsFew (most_asks course.table course.client.level key) → (its : Line) → open_line course ≡ Some its
+      → MayRun course.table course.client.level its × IsAsked its × IsFew (most_asks course.table course.client.level (key_asked its))
+  may_ask IsFew few its at =
+      subst (λ line. MayRun course.table course.client.level line × IsAsked line × IsFew (most_asks course.table course.client.level (key_asked line)))
+      (same_Some line its (sym keeps.stands.2 ∙ at)) (line_may, keeps.stands.3.asked, few)
+
+  -- the next ask goes to a worker
+  pub ask_goes : IsOneOf (length lists.sent) (worker_asked course.table course.client line course.out)
+  ask_goes = asked_is_worker (length lists.sent) course.table course.client line course.out keeps.placed line_may keeps.stands.3.asked keeps.me
+
+  -- the next ask is sent
+  pub sends_ask : course.waits ≡ false → (sent : List (List Request)) (worker : ℕ) (request : Request) → worker ≡ worker_asked course.table course.client line course.out
+      → request ≡ requests.Get (course.asks + course.out + 1) key clock → sent ≡ slice_set lists.sent (worker - 1) (slice_index_or lists.sent (worker - 1) [] ++ request ∷ [])
+      → Keeps (record { course = record course { out = course.out + 1; waits = true }; sent = sent; received = lists.received }) session (ways.Asks clock) made
+  sends_ask waits sent worker request worker_is request_is posted =
+      let asking = keeps.stands.3 in
+      let home : ℕ = worker_asked course.table course.client line course.out in
+      let item : Sent = SentAsk (course.asks + 1 + course.out) key (required course.client (state_now course).knows line) in
+      let there : slice_get (open_most course) course.out ≡ Some (home, item) = next_is course line keeps.stands.2 asking.asked (out_left waits) in
+      let number : course.asks + course.out + 1 ≡ course.asks + 1 + course.out = omega arith in
+      let request_of_item : request ≡ request_of item = request_is ∙ ap (λ ask. requests.Get ask key clock) number ∙ ap (requests.Get (course.asks + 1 + course.out) key) asking.required_is in
+      let so_far : List (ℕ × Sent) = sent_from course.table course.client start 1 (map length keeps.share.replies) course.lines course.answers in
+      let front : List (ℕ × Sent) = so_far ++ take course.out (open_most course) in
+      let its : sent ≡ slice_set lists.sent (home - 1) (slice_index_or lists.sent (home - 1) [] ++ request_of item ∷ []) =
+      posted ∙ ap (λ worker. slice_set lists.sent (worker - 1) (slice_index_or lists.sent (worker - 1) [] ++ request ∷ [])) worker_is
+      ∙ ap (λ request. slice_set lists.sent (home - 1) (slice_index_or lists.sent (home - 1) [] ++ request ∷ [])) request_of_item
+      in
+      let as_many : length sent ≡ length lists.sent = as_many_sent lists.sent sent front home item ask_goes its in
+      let none : course.kept ≡ None = none_kept course.kept (λ reply holds. none_awaited course waits holds.0.0 holds.0.1) keeps.share.kept in
+      let left = keeps.stands.3.left waits in
+      record {
+        share = record {
+          replies = keeps.share.replies;
+          lacking = keeps.share.lacking;
+          few = keeps.share.few;
+          answered = keeps.share.answered;
+          asks = keeps.share.asks;
+          lacking_are = record {
+            asked = keeps.share.lacking_are.asked;
+            lack = keeps.share.lacking_are.lack;
+            out = one_more_lacks (open_line course) (length keeps.share.lacking) (lacks course.waits) course.out (ap lacks waits) keeps.share.lacking_are.out;
+            none = keeps.share.lacking_are.none;
+          };
+          out = omega (arith, left);
+          kept = subst (λ kept. IfSome kept (λ reply. IsAwaited (record course { out = course.out + 1; waits = true }) reply × IsTrue (is_found reply.answered))) (sym none) tt;
+          sent = λ w of. sent_one_more lists.sent sent front home item ask_goes its keeps.share.sent w of
+              ∙ ap (to_worker w) (append_assoc so_far (take course.out (open_most course)) ((home, item) ∷ [])
+              ∙ ap (λ back. so_far ++ back) (sym (take_one_more (open_most course) course.out (home, item) there)));
+          received = keeps.share.received;
+        };
+        client_is = keeps.client_is;
+        me = keeps.me;
+        few_lines = keeps.few_lines;
+        valid = keeps.valid;
+        ended = keeps.ended;
+        placed = subst (λ workers. All (AreReplicas workers) course.table) (sym as_many) keeps.placed;
+        few_workers = subst (λ workers. workers < 2 ^ 16) (sym as_many) keeps.few_workers;
+        counts = keeps.counts;
+        held = keeps.held;
+        few_asks = subst (λ workers. course.asks ≤ length course.answers * (8 * workers)) (sym as_many) keeps.few_asks;
+        stands = (keeps.stands.0, line, keeps.stands.2, record { asked = asking.asked; left = λ no. absurd (true≢false no); required_is = asking.required_is }, keeps.stands.4);
+      }

@@ -1,0 +1,14 @@
+pub mod AfterLemmas
+pub mod AskLemmas
+pub mod AskingLemmas
+pub mod ClosingLemmas
+pub mod HearingLemmas
+pub mod KeepsLemmas
+pub mod OpeningLemmas
+pub mod PigeonholeLemmas
+pub mod PreparingLemmas
+pub mod PutsLemmas
+pub mod RunLemmas
+pub mod SendingLemmas
+pub mod SentLemmas
+pub mod SteppingLemmas

@@ -1,0 +1,64 @@
+-- What is sent to each worker, one request more, and places of lists.
+use Rattle.std.specs.Prelude.{◌≡◌, ◌≢◌, ℕ, suc, ◌+◌, ◌-◌, ◌<◌, ◌≤◌, List, [], ◌∷◌, ◌++◌, drop, length, map, slice_get, slice_index_or, slice_set, take, Some}
+use Rattle.std.proofs.Common.{◌∙◌, refl, sym, ap, subst, arith, append-nil, inl, inr}
+use Rattle.std.proofs.Math.Seq.{drop-cons}
+use Rattle.std.proofs.lemmas.Bool.Decides.{eqb_tells}
+use Rattle.std.proofs.lemmas.List.{get_or-set_same, get_or-set_other, length-set, map-append, take_more}
+use Rattle.std.proofs.lemmas.Option.{get_or_from_slice_get, slice_get_within}
+use Rattle.mail_contract.proofs.WovenLemmas.{from_sender-append, from_sender_here, from_sender_there}
+use Rattle.mail_contract.specs.Takes.{from_sender}
+use Rattle.placement.specs.Config.{IsOneOf}
+use Rattle.session_known.specs.Requests.{Sent}
+use Rattle.store_msg.specs.declared.request.Request.{Request}
+use Rattle.session_proxy.specs.Share.{request_of, to_worker}
+
+-- the first items of a list, one more
+pub take_one_more : {X : Type 0} (items : List X) (i : ℕ) (item : X) → slice_get items i ≡ Some item → take (i + 1) items ≡ take i items ++ item ∷ []
+take_one_more items i item at = take_more items i item (slice_get_within items i item at) ∙ ap (λ last. take i items ++ last ∷ []) (get_or_from_slice_get items i item item at)
+
+-- and the others
+pub drop_one_more : {X : Type 0} (items : List X) (i : ℕ) (item : X) → slice_get items i ≡ Some item → drop i items ≡ item ∷ drop (i + 1) items
+drop_one_more items i item at =
+    let next : suc i ≡ i + 1 = omega arith in
+    drop-cons items i item (slice_get_within items i item at) ∙ ap (λ first. first ∷ drop (suc i) items) (get_or_from_slice_get items i item item at) ∙ ap (λ n. item ∷ drop n items) next
+
+-- what goes to a worker of two lists of requests
+pub to_worker-append : (worker : ℕ) (front back : List (ℕ × Sent)) → to_worker worker (front ++ back) ≡ to_worker worker front ++ to_worker worker back
+to_worker-append worker front back = ap (map request_of) (from_sender-append worker front back) ∙ map-append request_of (from_sender worker front) (from_sender worker back)
+
+-- a request goes to its worker
+goes_here : (worker : ℕ) (item : Sent) → to_worker worker ((worker, item) ∷ []) ≡ request_of item ∷ []
+goes_here worker item = ap (map request_of) (from_sender_here worker (worker, item) [] refl)
+
+goes_elsewhere : (worker its : ℕ) (item : Sent) → its ≢ worker → to_worker worker ((its, item) ∷ []) ≡ []
+goes_elsewhere worker its item apart = ap (map request_of) (from_sender_there worker (its, item) [] apart)
+
+-- places of different workers are different
+places_apart : (one other : ℕ) → 1 ≤ one → 1 ≤ other → one ≢ other → one - 1 ≢ other - 1
+places_apart one other some others apart same = apart (omega (arith, some, others, same))
+
+module _ (sent sent_now : List (List Request)) (all : List (ℕ × Sent)) (worker : ℕ) (item : Sent) (here : IsOneOf (length sent) worker)
+    (posted : sent_now ≡ slice_set sent (worker - 1) (slice_index_or sent (worker - 1) [] ++ request_of item ∷ [])) where
+  -- there are as many workers as before
+  pub as_many_sent : length sent_now ≡ length sent
+  as_many_sent = ap length posted ∙ length-set sent (worker - 1) (slice_index_or sent (worker - 1) [] ++ request_of item ∷ [])
+
+  -- what was sent to each
+  pub sent_one_more : ((w : ℕ) → IsOneOf (length sent) w → slice_index_or sent (w - 1) [] ≡ to_worker w all)
+      → (w : ℕ) → IsOneOf (length sent_now) w → slice_index_or sent_now (w - 1) [] ≡ to_worker w (all ++ (worker, item) ∷ [])
+  sent_one_more was w of_now =
+      let of : IsOneOf (length sent) w = subst (λ n. IsOneOf n w) as_many_sent of_now in
+      let low : worker - 1 < length sent = omega (arith, here.0, here.1) in
+      let more : List Request = slice_index_or sent (worker - 1) [] ++ request_of item ∷ [] in
+      ap (λ list. slice_index_or list (w - 1) []) posted ∙ (
+      elim (eqb_tells w worker) [
+        | inl same ↦
+            let is : w ≡ worker = same.1 in
+            ap (λ w. slice_index_or (slice_set sent (worker - 1) more) (w - 1) []) is ∙ get_or-set_same sent (worker - 1) more [] low
+            ∙ ap (λ front. front ++ request_of item ∷ []) (was worker here) ∙ ap (λ back. to_worker worker all ++ back) (sym (goes_here worker item))
+            ∙ sym (to_worker-append worker all ((worker, item) ∷ [])) ∙ ap (λ w. to_worker w (all ++ (worker, item) ∷ [])) (sym is)
+        | inr differs ↦
+            let other : w ≢ worker = differs.1 in
+            get_or-set_other sent (worker - 1) (w - 1) more [] (places_apart w worker of.0 here.0 other)
+            ∙ was w of ∙ sym (append-nil (to_worker w all)) ∙ ap (λ back. to_worker w all ++ back) (sym (goes_elsewhere w worker item (λ same. other (sym same)))) ∙ sym (to_worker-append w all ((worker, item) ∷ []))
+      ])

@@ -1,0 +1,9 @@
+pub mod Beginning
+pub mod Kept
+pub mod Lines
+pub mod Local
+pub mod Polls
+pub mod Run
+pub mod Share
+pub mod State
+pub mod Steps

@@ -1,0 +1,304 @@
+//! Asking for what a get or an await wants.
+ghost use Rattle.std.specs.Prelude.{◌≡◌, ◌↔◌, ◌≤◌, ◌<◌, ◌+◌, ◌-◌, ◌^◌, false, length, map, IsTrue, IfOk, Some, None};
+ghost use Rattle.std.specs.Vec.{vec_capacity};
+ghost use Rattle.mail_contract.specs.Boxes.{FindsNothing, MayTake, box_of};
+ghost use Rattle.placement.specs.Asked.{replicas_of};
+ghost use Rattle.placement.specs.Config.{IsOneOf};
+ghost use Rattle.session_known.specs.Requests.{SentAsk};
+ghost use Rattle.session_known.specs.declared.script.Line.{Line};
+ghost use Rattle.session_proxy.specs.Lines.{MayRun, most_asks};
+ghost use Rattle.session_proxy.specs.Kept.{KeepsAt};
+ghost use Rattle.session_proxy.specs.Local.{AreAsks, Hears, TellsNothing, Works, clock_begun, course_of, key_asked, lists_at, worker_asked};
+ghost use Rattle.session_proxy.specs.Polls.{Polls, WantsRoom, counts_at};
+ghost use Rattle.session_proxy.specs.Run.{IsReplyTo, answer_by};
+ghost use Rattle.session_proxy.specs.Share.{IsAsked};
+ghost use Rattle.session_proxy.specs.State.{IsFixed, open_line};
+ghost use Rattle.store_msg.specs.Reply.{IsAnswer};
+ghost use Rattle.store_msg.specs.declared.request.Request.TheVariants as requests;
+
+use crate::Progress;
+use crate::answering::{close, reserve_one};
+use crate::local::{Begun, Local};
+use lattice_laws::{Lattice, NoMemory};
+use mail_contract::{Refused, Rx, Tx, post, take_one};
+use placement::Placement;
+use session_known::{Answer, Known, Level, Line, Shown};
+use store_msg::{Answered, Reply, Request, SessionEndsOver};
+
+/// The key of a get or an await.
+fn key_asked(line: &Line) -> u16
+    ensures { result ≡ key_asked line.now }
+{
+    match line {
+        Line::Get { key, .. } | Line::Await { key, .. } => *key,
+        Line::Put { .. } | Line::Begin | Line::Commit | Line::Abort => 0,
+    }
+}
+
+/// How many asks a get or an await of the key sends at most.
+fn most_asks(placement: &Placement, level: Level, key: u16) -> u32
+    requires key { IsOneOf (length placement.now) key }
+    requires few { length (replicas_of placement.now key) < 2 ^ 16 }
+    ensures { result ≡ most_asks placement.now level key }
+{
+    match level {
+        Level::Causal => 8 * placement.replicas(key).len() as u32,
+        Level::Eventual | Level::Committed => 1,
+    }
+}
+
+/// The worker that an ask of a line goes to, by its place from 0: of a causal session the replicas in turn,
+/// else the named one or the home.
+fn worker_asked(placement: &Placement, known: &Known, line: &Line, place: u32) -> u16
+    requires line { MayRun placement.now known.now.client.level line.now }
+    requires asked { IsAsked line.now }
+    requires session { 1 ≤ known.now.client.session }
+    requires few { place + 1 < 2 ^ 32 }
+    requires once { place < most_asks placement.now known.now.client.level (key_asked line.now) }
+    ensures { result ≡ worker_asked placement.now known.now.client line.now place }
+{
+    match line {
+        Line::Get {
+            worker: Some(worker),
+            ..
+        } => *worker,
+        Line::Get { key, worker: None } if known.level() != Level::Causal => {
+            placement.home(known.session(), *key)
+        }
+        Line::Get { key, .. } | Line::Await { key, .. } => {
+            placement.asked(known.session(), *key, place + 1)
+        }
+        Line::Put { .. } | Line::Begin | Line::Commit | Line::Abort => unreachable!(),
+    }
+}
+
+/// What was found of the reply that is awaited.
+#[derive(Drop)]
+pub(crate) enum Heard {
+    /// No reply was there.
+    Nothing,
+    /// One was there that is another's.
+    Other,
+    /// It is there.
+    Awaited(Reply),
+}
+
+/// The answer of a line by the reply to its last ask, after so many.
+fn answer_by(level: Level, asks: u32, reply: Reply) -> Answer
+    ensures { result ≡ answer_by level asks reply }
+{
+    let worker = reply.worker();
+    match reply.into_answered() {
+        Answered::Found(cell) => Answer::Got {
+            worker,
+            shown: Shown::of_cell(level, cell),
+        },
+        Answered::Again(clock) => Answer::Again {
+            asks,
+            worker,
+            clock,
+        },
+    }
+}
+
+/// Works on the reply that is awaited: a cell answers the line, and so does the clock in place of one after
+/// the last ask; else another ask is to be made. After `NoMemory` the reply is kept, and all else as before.
+fn work(local: &mut Local, reply: Reply) -> Result<Progress, NoMemory>
+    requires key { IsOneOf (length local.old.placement) reply.key }
+    requires few { length (replicas_of local.old.placement reply.key) < 2 ^ 16 }
+    requires most { local.old.out ≤ most_asks local.old.placement local.old.session.client.level reply.key }
+    requires asks { local.old.asks + local.old.out < 2 ^ 64 }
+    requires room { length local.old.answers.items + 1 ≤ vec_capacity local.old.answers }
+    requires none_kept { local.old.kept ≡ None }
+    ensures works { Works result reply local.old local.new }
+    ensures fits { IsAnswer reply.required reply.answered }
+{
+    let level = local.session.known().level();
+    let key = reply.key();
+    match reply.answered() {
+        Answered::Found(cell) => {
+            if local.session.note_reply(key, cell).is_err() {
+                local.kept = Some(reply);
+                return Err(NoMemory);
+            }
+        }
+        Answered::Again(_) => {
+            if local.out < most_asks(&local.placement, level, key) {
+                local.waits = false;
+                return Ok(Progress::Rest);
+            }
+        }
+    }
+    let answer = answer_by(level, local.out, reply);
+    local.asks += u64::from(local.out);
+    close(local, answer);
+    Ok(Progress::Moved)
+}
+
+/// The next ask of the open line.
+fn next_ask(local: &Local) -> Result<Request, NoMemory>
+    requires asks { AreAsks local.now.begun }
+    requires open { length local.now.answers.items < length local.now.lines }
+    requires few { local.now.asks + local.now.out + 1 < 2 ^ 64 }
+    ensures { IfOk result (λ request. (line : Line) → open_line (course_of local.now) ≡ Some line
+        → request ≡ requests.Get (local.now.asks + local.now.out + 1) (key_asked line)
+        (clock_begun local.now.begun)) }
+{
+    let Begun::Asks(required) = &local.begun else {
+        unreachable!()
+    };
+    let line = &local.lines.as_slice()[local.answers.len()];
+    Ok(Request::Get {
+        ask: local.asks + u64::from(local.out) + 1,
+        key: key_asked(line),
+        required: required.copy()?,
+    })
+}
+
+/// The worker that the ask of the open line at a place, from 0, goes to.
+fn asked_at(local: &Local, place: u32) -> u16
+    requires open { length local.now.answers.items < length local.now.lines }
+    requires line { (line : Line) → open_line (course_of local.now) ≡ Some line
+        → MayRun local.now.placement local.now.session.client.level line × IsAsked line
+        × (place < most_asks local.now.placement local.now.session.client.level (key_asked line)) }
+    requires session { 1 ≤ local.now.session.client.session }
+    requires few { place + 1 < 2 ^ 32 }
+    ensures { (line : Line) → open_line (course_of local.now) ≡ Some line
+        → result ≡ worker_asked local.now.placement local.now.session.client line place }
+{
+    let line = &local.lines.as_slice()[local.answers.len()];
+    worker_asked(&local.placement, local.session.known(), line, place)
+}
+
+/// Sends the next ask of the open line.
+pub(crate) fn ask<T: Tx<Request>, R: Rx<Reply>>(
+    local: &mut Local,
+    ends: &mut SessionEndsOver<T, R>,
+) -> Result<Progress, NoMemory>
+    requires keeps { KeepsAt T.sent R.received local.old ends.old }
+    requires asks { AreAsks local.old.begun }
+    requires waits { local.old.waits ≡ false }
+    requires open { length local.old.answers.items < length local.old.lines }
+    ensures keeps { KeepsAt T.sent R.received local.new ends.new }
+    ensures fixed { IsFixed (course_of local.old) (course_of local.new) }
+    ensures replies { ends.new.replies ≡ ends.old.replies }
+    ensures requests_keys { map T.key ends.new.requests.items
+        ≡ map T.key ends.old.requests.items }
+    ensures requests_numbers { map T.number ends.new.requests.items
+        ≡ map T.number ends.old.requests.items }
+    ensures polls { Polls result
+        (lists_at T.sent R.received local.old ends.old)
+        (lists_at T.sent R.received local.new ends.new)
+        (counts_at T.fulls R.answers ends.old) (counts_at T.fulls R.answers ends.new)
+        (WantsRoom T.clear T.roomy T.unseen ends.old.requests.items)
+        (FindsNothing R.keeps (box_of R.received R.answers R.about ends.new.replies)) }
+{
+    let request = next_ask(local)?;
+    let worker = asked_at(local, local.out);
+    match post(&mut ends.requests, usize::from(worker) - 1, request) {
+        Ok(()) => {
+            local.out += 1;
+            local.waits = true;
+            Ok(Progress::Moved)
+        }
+        Err(Refused::Full(_)) => Ok(Progress::NotYet),
+        Err(Refused::NoMemory(_)) => Err(NoMemory),
+    }
+}
+
+/// Whether a reply is the one that is awaited: of the ask, the worker, the key and the required clock.
+fn is_awaited(local: &Local, reply: &Reply) -> bool
+    requires asks { AreAsks local.now.begun }
+    requires open { length local.now.answers.items < length local.now.lines }
+    requires some { 1 ≤ local.now.out }
+    requires line { (line : Line) → open_line (course_of local.now) ≡ Some line
+        → MayRun local.now.placement local.now.session.client.level line × IsAsked line
+        × (local.now.out ≤ most_asks local.now.placement local.now.session.client.level (key_asked line)) }
+    requires session { 1 ≤ local.now.session.client.session }
+    requires few { local.now.asks + local.now.out < 2 ^ 64 }
+    ensures { (line : Line) → open_line (course_of local.now) ≡ Some line
+        → (IsTrue result ↔ IsReplyTo (
+          worker_asked local.now.placement local.now.session.client line (local.now.out - 1),
+          SentAsk (local.now.asks + local.now.out) (key_asked line) (clock_begun local.now.begun),
+        )
+        reply.now) }
+{
+    let Begun::Asks(required) = &local.begun else {
+        unreachable!()
+    };
+    let line = &local.lines.as_slice()[local.answers.len()];
+    reply.ask() == local.asks + u64::from(local.out)
+        && reply.worker() == asked_at(local, local.out - 1)
+        && reply.key() == key_asked(line)
+        && reply.required() == required
+}
+
+/// Takes a reply, out of the box or where it was kept.
+fn take_reply<R: Rx<Reply>>(local: &mut Local, replies: &mut R) -> Result<Heard, NoMemory>
+    requires asks { AreAsks local.old.begun }
+    requires open { length local.old.answers.items < length local.old.lines }
+    requires some { 1 ≤ local.old.out }
+    requires line { (line : Line) → open_line (course_of local.old) ≡ Some line
+        → MayRun local.old.placement local.old.session.client.level line × IsAsked line
+        × (local.old.out ≤ most_asks local.old.placement local.old.session.client.level (key_asked line)) }
+    requires session { 1 ≤ local.old.session.client.session }
+    requires few { local.old.asks + local.old.out < 2 ^ 64 }
+    ensures key { R.key replies.new ≡ R.key replies.old }
+    ensures room { vec_capacity local.new.answers ≡ vec_capacity local.old.answers }
+    ensures takes { MayTake R.keeps (R.senders (R.key replies.old))
+        (box_of R.received R.answers R.about replies.old)
+        (box_of R.received R.answers R.about replies.new) }
+    ensures hears { (line : Line) → open_line (course_of local.old) ≡ Some line
+        → Hears result local.old local.new (R.received replies.old) (R.received replies.new)
+        (IsReplyTo (
+          worker_asked local.old.placement local.old.session.client line (local.old.out - 1),
+          SentAsk (local.old.asks + local.old.out) (key_asked line) (clock_begun local.old.begun),
+        )) }
+    ensures nothing { TellsNothing result (R.answers replies.old) (R.answers replies.new)
+        (FindsNothing R.keeps (box_of R.received R.answers R.about replies.new)) }
+{
+    if let Some(reply) = local.kept.take() {
+        return Ok(Heard::Awaited(reply));
+    }
+    match take_one(replies)? {
+        None => Ok(Heard::Nothing),
+        Some((_, reply)) => {
+            if is_awaited(local, &reply) {
+                Ok(Heard::Awaited(reply))
+            } else {
+                Ok(Heard::Other)
+            }
+        }
+    }
+}
+
+/// Takes the reply that is awaited, if it is there, and works on it; another reply is dropped.
+pub(crate) fn hear<T: Tx<Request>, R: Rx<Reply>>(
+    local: &mut Local,
+    ends: &mut SessionEndsOver<T, R>,
+) -> Result<Progress, NoMemory>
+    requires keeps { KeepsAt T.sent R.received local.old ends.old }
+    requires asks { AreAsks local.old.begun }
+    requires waits { IsTrue local.old.waits }
+    requires open { length local.old.answers.items < length local.old.lines }
+    ensures keeps { KeepsAt T.sent R.received local.new ends.new }
+    ensures fixed { IsFixed (course_of local.old) (course_of local.new) }
+    ensures requests { ends.new.requests ≡ ends.old.requests }
+    ensures replies_key { R.key ends.new.replies ≡ R.key ends.old.replies }
+    ensures takes { MayTake R.keeps (R.senders (R.key ends.old.replies))
+        (box_of R.received R.answers R.about ends.old.replies)
+        (box_of R.received R.answers R.about ends.new.replies) }
+    ensures polls { Polls result
+        (lists_at T.sent R.received local.old ends.old)
+        (lists_at T.sent R.received local.new ends.new)
+        (counts_at T.fulls R.answers ends.old) (counts_at T.fulls R.answers ends.new)
+        (WantsRoom T.clear T.roomy T.unseen ends.old.requests.items)
+        (FindsNothing R.keeps (box_of R.received R.answers R.about ends.new.replies)) }
+{
+    reserve_one(&mut local.answers)?;
+    match take_reply(local, &mut ends.replies)? {
+        Heard::Nothing => Ok(Progress::NotYet),
+        Heard::Other => Ok(Progress::Moved),
+        Heard::Awaited(reply) => work(local, reply),
+    }
+}
