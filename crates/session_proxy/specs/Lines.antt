@@ -28,11 +28,12 @@ pub record AreReplicas (workers : ℕ) (replicas : List ℕ) : Type 0 where
   pub are_workers : All (IsOneOf workers) replicas
   pub different : AreDifferent replicas
 
--- nothing can be put any more, or it is put later: the Lamport numbers are used up, or a transaction is begun
+-- the session's Lamport numbers are used up
 abbrev pub is_worn : State → Bool
 is_worn state = state.knows.lamport == last_lamport
 
--- the puts that a line makes, each with its key: its own, or those that its commit accepts
+-- The puts that a line makes, each with its key: its own, where no transaction is begun, or those that its commit accepts; none where no
+-- Lamport number is left.
 abbrev pub puts_due : State → Line → List (ℕ × Payload)
 puts_due state (lines.Put key payload) = if is_some state.held || is_worn state then [] else (key, payload) ∷ []
 puts_due state lines.Commit = if is_worn state then [] else held_puts state

@@ -46,7 +46,7 @@ IsAsked (lines.Get key named) = ⊤
 IsAsked (lines.Await key session count) = ⊤
 IsAsked line = ⊥
 
--- how many replies a line's asks still lack
+-- how many of a line's asks were not replied to yet: one where a reply is awaited
 abbrev pub lacks : Bool → ℕ
 lacks true = 1
 lacks false = 0
