@@ -1,6 +1,6 @@
 -- A line's next ask is sent.
 use Rattle.std.specs.Prelude.{◌≡◌, ℕ, ◌+◌, ◌-◌, ◌*◌, ◌<◌, ◌≤◌, ◌^◌, true, false, IsTrue, List, [], ◌∷◌, ◌++◌, All, length, map, slice_get, slice_index_or, slice_set, take, Option, Some, None, IfSome}
-use Rattle.std.proofs.Common.{◌∙◌, refl, sym, ap, subst, arith, append_assoc, true≢false}
+use Rattle.std.proofs.Common.{◌∙◌, refl, sym, ap, subst, arith, append_assoc, inl, true≢false}
 use Rattle.std.proofs.lemmas.Nat.{mul-le}
 use Rattle.std.proofs.lemmas.Option.{none-some, same_Some}
 use Rattle.placement.specs.Asked.{replicas_of}
@@ -22,6 +22,7 @@ use Rattle.session_proxy.proofs.SentLemmas.{as_many_sent, sent_one_more, take_on
 use Rattle.session_proxy.specs.Kept.{Keeps}
 use Rattle.session_proxy.specs.Lines.{AreReplicas, MayRun, most_asks}
 use Rattle.session_proxy.specs.Local.{AreAsks, clock_begun, key_asked, worker_asked}
+use Rattle.session_proxy.specs.Polls.{Sends}
 use Rattle.session_proxy.specs.Share.{IsAsked, IsAwaited, awaited, lacks, open_most, request_of, to_worker}
 use Rattle.session_proxy.specs.State.{Course, Lists, open_line, state_now}
 use Rattle.session_proxy.specs.declared.local.Begun.{Begun}
@@ -128,55 +129,72 @@ module _ {lists : Lists} {session : InState} {clock : List (ℕ × ℕ)} {made :
   pub ask_goes : IsOneOf (length lists.sent) (worker_asked course.table course.client line course.out)
   ask_goes = asked_is_worker (length lists.sent) course.table course.client line course.out keeps.placed line_may keeps.stands.3.asked keeps.me
 
-  -- the next ask is sent
-  pub sends_ask : course.waits ≡ false → (sent : List (List Request)) (worker : ℕ) (request : Request) → worker ≡ worker_asked course.table course.client line course.out
-      → request ≡ requests.Get (course.asks + course.out + 1) key clock → sent ≡ slice_set lists.sent (worker - 1) (slice_index_or lists.sent (worker - 1) [] ++ request ∷ [])
-      → Keeps (record { course = record course { out = course.out + 1; waits = true }; sent = sent; received = lists.received }) session (ways.Asks clock) made
-  sends_ask waits sent worker request worker_is request_is posted =
-      let asking = keeps.stands.3 in
-      let home : ℕ = worker_asked course.table course.client line course.out in
-      let item : Sent = SentAsk (course.asks + 1 + course.out) key (required course.client (state_now course).knows line) in
-      let there : slice_get (open_most course) course.out ≡ Some (home, item) = next_is course line keeps.stands.2 asking.asked (out_left waits) in
+  -- the worker of the next ask, and the ask
+  abbrev pub its_worker : ℕ
+  its_worker = worker_asked course.table course.client line course.out
+
+  abbrev pub its_ask : Sent
+  its_ask = SentAsk (course.asks + 1 + course.out) key (required course.client (state_now course).knows line)
+
+  -- it is the open line's next request
+  pub next_ask : course.waits ≡ false → slice_get (open_most course) course.out ≡ Some (its_worker, its_ask)
+  next_ask waits = next_is course line keeps.stands.2 keeps.stands.3.asked (out_left waits)
+
+  -- as it is sent
+  of_ask : (request : Request) → request ≡ requests.Get (course.asks + course.out + 1) key clock → request ≡ request_of its_ask
+  of_ask request is =
       let number : course.asks + course.out + 1 ≡ course.asks + 1 + course.out = omega arith in
-      let request_of_item : request ≡ request_of item = request_is ∙ ap (λ ask. requests.Get ask key clock) number ∙ ap (requests.Get (course.asks + 1 + course.out) key) asking.required_is in
-      let so_far : List (ℕ × Sent) = sent_from course.table course.client start 1 (map length keeps.share.replies) course.lines course.answers in
-      let front : List (ℕ × Sent) = so_far ++ take course.out (open_most course) in
-      let its : sent ≡ slice_set lists.sent (home - 1) (slice_index_or lists.sent (home - 1) [] ++ request_of item ∷ []) =
-      posted ∙ ap (λ worker. slice_set lists.sent (worker - 1) (slice_index_or lists.sent (worker - 1) [] ++ request ∷ [])) worker_is
-      ∙ ap (λ request. slice_set lists.sent (home - 1) (slice_index_or lists.sent (home - 1) [] ++ request ∷ [])) request_of_item
-      in
-      let as_many : length sent ≡ length lists.sent = as_many_sent lists.sent sent front home item ask_goes its in
-      let none : course.kept ≡ None = none_kept course.kept (λ reply holds. none_awaited course waits holds.0.0 holds.0.1) keeps.share.kept in
-      let left = keeps.stands.3.left waits in
-      record {
-        share = record {
-          replies = keeps.share.replies;
-          lacking = keeps.share.lacking;
-          few = keeps.share.few;
-          answered = keeps.share.answered;
-          asks = keeps.share.asks;
-          lacking_are = record {
-            asked = keeps.share.lacking_are.asked;
-            lack = keeps.share.lacking_are.lack;
-            out = one_more_lacks (open_line course) (length keeps.share.lacking) (lacks course.waits) course.out (ap lacks waits) keeps.share.lacking_are.out;
-            none = keeps.share.lacking_are.none;
+      is ∙ ap (λ ask. requests.Get ask key clock) number ∙ ap (requests.Get (course.asks + 1 + course.out) key) keeps.stands.3.required_is
+
+  module _ (waits : course.waits ≡ false) (sent : List (List Request)) (worker : ℕ) (request : Request) (worker_is : worker ≡ its_worker)
+      (request_is : request ≡ requests.Get (course.asks + course.out + 1) key clock) (posted : sent ≡ slice_set lists.sent (worker - 1) (slice_index_or lists.sent (worker - 1) [] ++ request ∷ [])) where
+    -- what was sent then
+    posted_ask : sent ≡ slice_set lists.sent (its_worker - 1) (slice_index_or lists.sent (its_worker - 1) [] ++ request_of its_ask ∷ [])
+    posted_ask =
+        posted ∙ ap (λ worker. slice_set lists.sent (worker - 1) (slice_index_or lists.sent (worker - 1) [] ++ request ∷ [])) worker_is
+        ∙ ap (λ request. slice_set lists.sent (its_worker - 1) (slice_index_or lists.sent (its_worker - 1) [] ++ request ∷ [])) (of_ask request request_is)
+
+    -- so a request went out
+    pub ask_sends : Sends lists (record { course = record course { out = course.out + 1; waits = true }; sent = sent; received = lists.received })
+    ask_sends = record { waits = waits; worker = its_worker; item = its_ask; next = next_ask waits; sent = posted_ask; received = refl; course = inl refl }
+
+    -- and the proxy keeps what it is to keep
+    pub sends_ask : Keeps (record { course = record course { out = course.out + 1; waits = true }; sent = sent; received = lists.received }) session (ways.Asks clock) made
+    sends_ask =
+        let so_far : List (ℕ × Sent) = sent_from course.table course.client start 1 (map length keeps.share.replies) course.lines course.answers in
+        let front : List (ℕ × Sent) = so_far ++ take course.out (open_most course) in
+        let as_many : length sent ≡ length lists.sent = as_many_sent lists.sent sent front its_worker its_ask ask_goes posted_ask in
+        let none : course.kept ≡ None = none_kept course.kept (λ reply holds. none_awaited course waits holds.0.0 holds.0.1) keeps.share.kept in
+        let left = keeps.stands.3.left waits in
+        record {
+          share = record {
+            replies = keeps.share.replies;
+            lacking = keeps.share.lacking;
+            few = keeps.share.few;
+            answered = keeps.share.answered;
+            asks = keeps.share.asks;
+            lacking_are = record {
+              asked = keeps.share.lacking_are.asked;
+              lack = keeps.share.lacking_are.lack;
+              out = one_more_lacks (open_line course) (length keeps.share.lacking) (lacks course.waits) course.out (ap lacks waits) keeps.share.lacking_are.out;
+              none = keeps.share.lacking_are.none;
+            };
+            out = omega (arith, left);
+            kept = subst (λ kept. IfSome kept (λ reply. IsAwaited (record course { out = course.out + 1; waits = true }) reply × IsTrue (is_found reply.answered))) (sym none) tt;
+            sent = λ w of. sent_one_more lists.sent sent front its_worker its_ask ask_goes posted_ask keeps.share.sent w of
+                ∙ ap (to_worker w) (append_assoc so_far (take course.out (open_most course)) ((its_worker, its_ask) ∷ [])
+                ∙ ap (λ back. so_far ++ back) (sym (take_one_more (open_most course) course.out (its_worker, its_ask) (next_ask waits))));
+            received = keeps.share.received;
           };
-          out = omega (arith, left);
-          kept = subst (λ kept. IfSome kept (λ reply. IsAwaited (record course { out = course.out + 1; waits = true }) reply × IsTrue (is_found reply.answered))) (sym none) tt;
-          sent = λ w of. sent_one_more lists.sent sent front home item ask_goes its keeps.share.sent w of
-              ∙ ap (to_worker w) (append_assoc so_far (take course.out (open_most course)) ((home, item) ∷ [])
-              ∙ ap (λ back. so_far ++ back) (sym (take_one_more (open_most course) course.out (home, item) there)));
-          received = keeps.share.received;
-        };
-        client_is = keeps.client_is;
-        me = keeps.me;
-        few_lines = keeps.few_lines;
-        valid = keeps.valid;
-        ended = keeps.ended;
-        placed = subst (λ workers. All (AreReplicas workers) course.table) (sym as_many) keeps.placed;
-        few_workers = subst (λ workers. workers < 2 ^ 16) (sym as_many) keeps.few_workers;
-        counts = keeps.counts;
-        held = keeps.held;
-        few_asks = subst (λ workers. course.asks ≤ length course.answers * (8 * workers)) (sym as_many) keeps.few_asks;
-        stands = (keeps.stands.0, line, keeps.stands.2, record { asked = asking.asked; left = λ no. absurd (true≢false no); required_is = asking.required_is }, keeps.stands.4);
-      }
+          client_is = keeps.client_is;
+          me = keeps.me;
+          few_lines = keeps.few_lines;
+          valid = keeps.valid;
+          ended = keeps.ended;
+          placed = subst (λ workers. All (AreReplicas workers) course.table) (sym as_many) keeps.placed;
+          few_workers = subst (λ workers. workers < 2 ^ 16) (sym as_many) keeps.few_workers;
+          counts = keeps.counts;
+          held = keeps.held;
+          few_asks = subst (λ workers. course.asks ≤ length course.answers * (8 * workers)) (sym as_many) keeps.few_asks;
+          stands = (keeps.stands.0, line, keeps.stands.2, record { asked = keeps.stands.3.asked; left = λ no. absurd (true≢false no); required_is = keeps.stands.3.required_is }, keeps.stands.4);
+        }

@@ -407,6 +407,7 @@ module _ (local : Local) (answers : Vec Answer) (items : answers.items ≡ local
         subst (λ received. Keeps (lists_with before received) before.session (ways.Asks clock_now) before.made) (sym is.5) dropped
         in
         let drop : Drops (lists_with before received) (lists_with taken received_now) = record {
+          waits = waits;
           reply = is.3;
           taken = inr (is.0, is.2, is.5);
           of_other = λ awaited. is.4 (is_to_last (lists_with before received) before.session clock_now before.made keeps_asks waits is.3 awaited);
@@ -451,7 +452,7 @@ module _ (local : Local) (answers : Vec Answer) (items : answers.items ≡ local
           × (course.asks + course.out < 2 ^ 64) × (course.kept ≡ None) × (course.answers ≡ before.answers.items)) (sym heard_it.0.course_is)
           (fit.0, fit.1, fit.2, its_asks, refl, refl)
 
-      module _ (now : Local) (fits : IsAnswer reply.required reply.answered) (counts counts_now : Counts) (wants_room : ℕ → Type 0) (nothing : Type 0) where
+      module _ (now : Local) (fits : IsAnswer reply.required reply.answered) (counts counts_now : Counts) (wants_room : ℕ → Type 0) (nothing : Type 0) (fulls : counts_now.fulls ≡ counts.fulls) where
         -- what a call keeps, leaves and does
         abbrev IsHeard : Result Progress NoMemory → Type 0
         IsHeard result =
@@ -482,7 +483,7 @@ module _ (local : Local) (answers : Vec Answer) (items : answers.items ≡ local
                   (subst (λ made. Keeps (record { course = closed (course_of before) answer_now (before.asks + before.out); sent = sent; received = received_now }) session_now ways.Nothing made)
                   (sym keeps_asks.stands.4) kept),
               fixed_to now (closed (course_of before) answer_now (before.asks + before.out)) is.course_is refl refl refl,
-              inr (inr (inl (subst (λ course. AnswersBy (record { course = course; sent = sent; received = received }) (lists_with now received_now)) reserved by))),
+              inr (inl (subst (λ course. AnswersBy (record { course = course; sent = sent; received = received }) (lists_with now received_now)) reserved by), fulls),
             )
 
         -- so it is where a cell is found
@@ -533,7 +534,7 @@ module _ (local : Local) (answers : Vec Answer) (items : answers.items ≡ local
                   (subst (λ begun. Keeps (record { course = record (course_of before) { waits = false; kept = None }; sent = sent; received = received_now }) before.session begun before.made)
                   (sym (asks_begun before.begun asks)) kept),
               fixed_to now (record (course_of before) { waits = false; kept = None }) works.course_is refl refl refl,
-              subst (λ course. Rests (record { course = course; sent = sent; received = received }) (lists_with now received_now)) reserved rest,
+              (subst (λ course. Rests (record { course = course; sent = sent; received = received }) (lists_with now received_now)) reserved rest, fulls),
             )
 
         -- it is kept where memory is wanting

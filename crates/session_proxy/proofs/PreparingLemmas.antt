@@ -1,5 +1,5 @@
 -- A put is made where none is, and sent: what the proxy keeps from step to step.
-use Rattle.std.specs.Prelude.{◌≡◌, ◌⊎◌, ℕ, ◌+◌, ◌-◌, IsTrue, is_some, List, [], ◌∷◌, ◌++◌, slice_index_or, slice_set, Option, Some, None, Ok, Err}
+use Rattle.std.specs.Prelude.{◌≡◌, ℕ, ◌+◌, ◌-◌, IsTrue, is_some, List, [], ◌∷◌, ◌++◌, slice_get, slice_index_or, slice_set, Option, Some, None, Ok, Err}
 use Rattle.std.proofs.Common.{◌∙◌, refl, sym, ap, subst, inl, inr}
 use Rattle.std.proofs.lemmas.Bool.{false≢true}
 use Rattle.std.proofs.lemmas.Option.{same_Some}
@@ -7,16 +7,19 @@ use Rattle.lattice_laws.specs.declared.lattice.NoMemory.{NoMemory}
 use Rattle.mail_contract.specs.Sends.{Posted}
 use Rattle.mail_contract.specs.declared.Refused.{Refused}
 use Rattle.mail_contract.specs.declared.Refused.TheVariants.{Full, NoMemory as Lacks}
+use Rattle.placement.specs.Asked.{home_at}
 use Rattle.session_known.specs.Session.{InState}
-use Rattle.session_known.specs.declared.report.Answer.{Answer}
+use Rattle.session_known.specs.Requests.{Sent}
 use Rattle.session_known.specs.declared.script.Line.{Line}
 use Rattle.store_msg.specs.Reply.{PlainReply}
 use Rattle.store_msg.specs.declared.request.Request.{Request}
 use Rattle.session_proxy.proofs.KeepsLemmas.{keeps_as}
-use Rattle.session_proxy.proofs.PutsLemmas.{makes_one}
+use Rattle.session_proxy.proofs.PutsLemmas.{made_there, makes_one, puts_length}
 use Rattle.session_proxy.proofs.SendingLemmas.{IsPosted, sends_last, sends_put}
 use Rattle.session_proxy.specs.Kept.{ArePutting, Keeps}
-use Rattle.session_proxy.specs.Local.{KeepsAs, PreparesOf, SendsOf, course_of}
+use Rattle.session_proxy.specs.Local.{KeepsAs, PreparesOf, SendsOf, course_of, put_at}
+use Rattle.session_proxy.specs.Polls.{Sends}
+use Rattle.session_proxy.specs.Share.{open_most}
 use Rattle.session_proxy.specs.State.{Course, IsFixed}
 use Rattle.session_proxy.specs.declared.local.Begun.{Begun}
 use Rattle.session_proxy.specs.declared.local.Begun.TheVariants as ways
@@ -103,13 +106,31 @@ module _ (old now : Local) (puts : Puts) (request : Request) (sent : List (List 
             (sends_last (record { course = course_of old; sent = sent; received = received }) old.session puts request keeps sent_now posted last)
       ]
 
-  -- the line is answered with the last
-  pub sent_answers : (now.answers.items ≡ old.answers.items) ⊎ ((answer : Answer) × (now.answers.items ≡ old.answers.items ++ answer ∷ []))
-  sent_answers =
-      elim sends [
-        | inl (left, is) ↦ inl (ap (λ (course : Course). course.answers) is.course_is)
-        | inr (last, is) ↦ inr (_, ap (λ (course : Course). course.answers) is.course_is)
-      ]
+  -- what it did then
+  pub sent_sends : (sent_now : List (List Request)) → IsPosted (record { course = course_of old; sent = sent; received = received }) old.session puts request keeps sent_now
+      → Sends (record { course = course_of old; sent = sent; received = received }) (record { course = course_of now; sent = sent_now; received = received })
+  sent_sends sent_now posted =
+      let course : Course = course_of old in
+      let line : Line = keeps.stands.1 in
+      let there = made_there course line keeps.stands.2 old.session.state puts request keeps.stands.3 in
+      let home : ℕ = home_at course.table course.client.session (put_at puts course.out).0 in
+      record {
+        waits = keeps.stands.0.waits;
+        worker = home;
+        item = there.0;
+        next = there.1;
+        sent = subst (λ request. sent_now ≡ slice_set sent (home - 1) (slice_index_or sent (home - 1) [] ++ request ∷ [])) (sym there.2) posted;
+        received = refl;
+        course =
+            elim sends [
+              | inl (left, is) ↦ inl (is.course_is ∙ ap (λ waits. record course { out = old.out + 1; waits = waits }) (keeps.stands.0.waits ∙ sym there.3))
+              | inr (last, is) ↦ inr (
+                (_, ap (λ (course : Course). course.answers) is.course_is),
+                last ∙ sym (puts_length course line keeps.stands.2 old.session.state puts keeps.stands.3),
+                ap (λ (course : Course). course.out) is.course_is,
+              )
+            ];
+      }
 
   pub sent_fixed : IsFixed (course_of old) (course_of now)
   sent_fixed =
@@ -140,3 +161,10 @@ keeps_back before now sent sent_now received back message is made same =
     subst (λ sent. Keeps (record { course = course_of now; sent = sent; received = received }) now.session now.begun (Some back)) (sym same.1) (
     subst (λ begun. Keeps (record { course = course_of now; sent = sent; received = received }) now.session begun (Some back)) (sym is.begun_is) (
     subst (λ request. Keeps (record { course = course_of now; sent = sent; received = received }) now.session (ways.Puts is.puts) (Some request)) request_is is.keeps))
+
+-- the request that was to be sent is the open line's next
+pub next_there : (before now : Local) (sent : List (List Request)) (received : List (ℕ × PlainReply)) (worker : ℕ) (is : IsPrepared before now sent received)
+    → worker ≡ home_at (course_of now).table (course_of now).client.session (put_at is.puts now.out).0 → (item : Sent) × (slice_get (open_most (course_of before)) (course_of before).out ≡ Some (worker, item))
+next_there before now sent received worker is goes =
+    let there = made_there (course_of now) is.keeps.stands.1 is.keeps.stands.2 now.session.state is.puts is.request is.keeps.stands.3 in
+    (there.0, subst (λ (course : Course). slice_get (open_most course) course.out ≡ Some (worker, there.0)) is.course_is (there.1 ∙ ap (λ worker. Some (worker, there.0)) (sym goes)))

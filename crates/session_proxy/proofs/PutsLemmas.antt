@@ -1,5 +1,5 @@
 -- Making and sending a line's puts.
-use Rattle.std.specs.Prelude.{◌≡◌, ℕ, zero, suc, ◌+◌, ◌<◌, ◌≤◌, max, List, [], ◌∷◌, drop, length, option_map, slice_get, slice_index_or, Option, Some, None}
+use Rattle.std.specs.Prelude.{◌≡◌, ℕ, zero, suc, ◌+◌, ◌<◌, ◌≤◌, max, false, List, [], ◌∷◌, drop, length, option_map, slice_get, slice_index_or, Option, Some, None}
 use Rattle.std.proofs.Common.{◌∙◌, refl, sym, ap, subst, arith, drop-drop}
 use Rattle.std.proofs.lemmas.List.{length-map}
 use Rattle.std.proofs.lemmas.Option.{same_Some, slice_get-get_or, slice_get-map}
@@ -19,6 +19,7 @@ use Rattle.session_proxy.proofs.SentLemmas.{drop_one_more}
 use Rattle.session_proxy.specs.Kept.{ArePutting}
 use Rattle.session_proxy.specs.Lines.{answer_at, most_sent, puts_due}
 use Rattle.session_proxy.specs.Local.{MakesNew, put_at}
+use Rattle.session_proxy.specs.Polls.{is_ask}
 use Rattle.session_proxy.specs.Share.{IsAsked, open_most, request_of}
 use Rattle.session_proxy.specs.State.{Course, open_line, state_now}
 use Rattle.session_proxy.specs.declared.local.Puts.{Puts}
@@ -73,14 +74,14 @@ module _ (course : Course) (line : Line) (at : open_line course ≡ Some line) (
 
   -- the request that is made goes to the home of its key
   pub made_there : (request : Request) → ArePutting course line state puts (Some request)
-      → (item : Sent) × (slice_get (open_most course) course.out ≡ Some (home_at course.table course.client.session (put_at puts course.out).0, item)) × (request_of item ≡ request)
+      → (item : Sent) × (slice_get (open_most course) course.out ≡ Some (home_at course.table course.client.session (put_at puts course.out).0, item)) × (request_of item ≡ request) × (is_ask item ≡ false)
   made_there request putting =
       let there = put_there course.table course.client (state_now course).knows puts.lamport 0 puts.puts course.out (0, payloads.On) putting.left in
       let item : Sent = SentPut (put_at puts course.out).0 there.0 in
       let is : slice_get (open_most course) course.out ≡ Some (home_at course.table course.client.session (put_at puts course.out).0, item) =
       ap (λ list. slice_get list course.out) (puts_most putting) ∙ there.1
       in
-      (item, is, same_Some _ _ (sym (ap (option_map (λ (entry : ℕ × Sent). request_of entry.1)) is) ∙ putting.made_is))
+      (item, is, same_Some _ _ (sym (ap (option_map (λ (entry : ℕ × Sent). request_of entry.1)) is) ∙ putting.made_is), refl)
 
   -- one more put is made
   pub makes_one : (session session_now : InState) (made : Option Request) → session.state ≡ state → session.client ≡ course.client → ArePutting course line state puts None

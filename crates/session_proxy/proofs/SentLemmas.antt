@@ -1,12 +1,16 @@
 -- What is sent to each worker, one request more, and places of lists.
-use Rattle.std.specs.Prelude.{◌≡◌, ◌≢◌, ℕ, suc, ◌+◌, ◌-◌, ◌<◌, ◌≤◌, List, [], ◌∷◌, ◌++◌, drop, length, map, slice_get, slice_index_or, slice_set, take, Some}
+use Rattle.std.specs.Prelude.{◌≡◌, ◌≢◌, ℕ, suc, ◌+◌, ◌-◌, ◌<◌, ◌≤◌, List, [], ◌∷◌, ◌++◌, drop, length, map, slice_get, slice_index_or, slice_set, take, Some, Err}
 use Rattle.std.proofs.Common.{◌∙◌, refl, sym, ap, subst, arith, append-nil, inl, inr}
 use Rattle.std.proofs.Math.Seq.{drop-cons}
 use Rattle.std.proofs.lemmas.Bool.Decides.{eqb_tells}
 use Rattle.std.proofs.lemmas.List.{get_or-set_same, get_or-set_other, length-set, map-append, take_more}
 use Rattle.std.proofs.lemmas.Option.{get_or_from_slice_get, slice_get_within}
 use Rattle.mail_contract.proofs.WovenLemmas.{from_sender-append, from_sender_here, from_sender_there}
+use Rattle.lattice_laws.specs.Counts.{Rose}
+use Rattle.mail_contract.specs.Sends.{FullsAfter, OnFull}
 use Rattle.mail_contract.specs.Takes.{from_sender}
+use Rattle.mail_contract.specs.declared.Refused.{Refused}
+use Rattle.mail_contract.specs.declared.Refused.TheVariants.{Full}
 use Rattle.placement.specs.Config.{IsOneOf}
 use Rattle.session_known.specs.Requests.{Sent}
 use Rattle.store_msg.specs.declared.request.Request.{Request}
@@ -62,3 +66,12 @@ module _ (sent sent_now : List (List Request)) (all : List (ℕ × Sent)) (worke
             get_or-set_other sent (worker - 1) (w - 1) more [] (places_apart w worker of.0 here.0 other)
             ∙ was w of ∙ sym (append-nil (to_worker w all)) ∙ ap (λ back. to_worker w all ++ back) (sym (goes_elsewhere w worker item (λ same. other (sym same)))) ∙ sym (to_worker-append w all ((worker, item) ∷ []))
       ])
+
+-- how often senders refused, where the one at a place handed a request back
+pub rose_there : (refused : Refused Request) (back : Request) (place : ℕ) (fulls fulls_now : List ℕ) → refused ≡ Full back → FullsAfter {M = Request} {U = Unit {0}} (Err refused) place fulls fulls_now
+    → Rose (slice_index_or fulls place 0) (slice_index_or fulls_now place 0)
+rose_there refused back place fulls fulls_now is after = (subst (λ refused. FullsAfter {M = Request} {U = Unit {0}} (Err refused) place fulls fulls_now) is after).1
+
+-- the sender says what it knows of its room
+pub room_there : {P : Type 0} (refused : Refused Request) (back : Request) → refused ≡ Full back → OnFull {M = Request} {U = Unit {0}} (Err refused) P → P
+room_there {P} refused back is told = subst (λ refused. OnFull {M = Request} {U = Unit {0}} (Err refused) P) is told

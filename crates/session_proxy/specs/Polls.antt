@@ -1,14 +1,14 @@
 -- What a session's proxy does in a call, and why it answers what it answers.
-use Rattle.std.specs.Prelude.{◌≡◌, ◌⊎◌, ℕ, ◌-◌, ◌<◌, ◌≤◌, Bool, false, IsTrue, List, [], ◌∷◌, ◌++◌, length, map, slice_get, slice_index_or, slice_set, Some, None, Result, Ok, Err}
+use Rattle.std.specs.Prelude.{◌≡◌, ◌⊎◌, ℕ, ◌+◌, ◌-◌, ◌<◌, ◌≤◌, Bool, true, false, IsTrue, List, [], ◌∷◌, ◌++◌, length, map, slice_get, slice_index_or, slice_set, Some, None, Result, Ok, Err}
 use Rattle.lattice_laws.specs.Counts.{Rose}
 use Rattle.lattice_laws.specs.declared.lattice.NoMemory.{NoMemory}
 use Rattle.mail_contract.specs.Takes.{Answers}
+use Rattle.session_known.specs.Requests.{Sent, SentAsk, SentPut}
 use Rattle.session_known.specs.declared.report.Answer.{Answer}
 use Rattle.store_msg.specs.Reply.{PlainReply, is_found}
 use Rattle.store_msg.specs.declared.ends.SessionEndsOver.{SessionEndsOver}
-use Rattle.store_msg.specs.declared.request.Request.{Request}
 use Rattle.session_proxy.specs.Run.{answer_by}
-use Rattle.session_proxy.specs.Share.{IsAwaited, open_most}
+use Rattle.session_proxy.specs.Share.{IsAwaited, open_most, request_of}
 use Rattle.session_proxy.specs.State.{Course, Lists, PlainProxy}
 use Rattle.session_proxy.specs.declared.progress.Progress.{Progress}
 use Rattle.session_proxy.specs.declared.progress.Progress.TheVariants as progress
@@ -34,17 +34,26 @@ IsTaken reply before now =
 abbrev pub AnswersOne : Lists → Lists → Type 0
 AnswersOne before now = (answer : Answer) × (now.course.answers ≡ before.course.answers ++ answer ∷ [])
 
--- A request goes out, and the line is answered with the last one of a put or a commit.
+-- a request is an ask
+abbrev pub is_ask : Sent → Bool
+is_ask (SentAsk ask key required) = true
+is_ask (SentPut key put) = false
+
+-- The open line's next request goes out, while no reply is awaited; with the last of its puts the line is answered.
 pub record Sends (before now : Lists) : Type 0 where
+  pub waits : before.course.waits ≡ false
   pub worker : ℕ
-  pub request : Request
-  pub sent : now.sent ≡ slice_set before.sent (worker - 1) (slice_index_or before.sent (worker - 1) [] ++ request ∷ [])
+  pub item : Sent
+  pub next : slice_get (open_most before.course) before.course.out ≡ Some (worker, item)
+  pub sent : now.sent ≡ slice_set before.sent (worker - 1) (slice_index_or before.sent (worker - 1) [] ++ request_of item ∷ [])
   pub received : now.received ≡ before.received
-  pub answers : (now.course.answers ≡ before.course.answers) ⊎ AnswersOne before now
+  pub course : (now.course ≡ record before.course { out = before.course.out + 1; waits = is_ask item })
+      ⊎ (AnswersOne before now × (before.course.out + 1 ≡ length (open_most before.course)) × (now.course.out ≡ 0))
 
 -- A line is answered without mail.
 pub record AnswersAlone (before now : Lists) : Type 0 where
   pub answers : AnswersOne before now
+  pub course : now.course ≡ record before.course { answers = now.course.answers }
   pub sent : now.sent ≡ before.sent
   pub received : now.received ≡ before.received
 
@@ -59,6 +68,7 @@ pub record AnswersBy (before now : Lists) : Type 0 where
 
 -- A reply that is not the one that is awaited is dropped.
 pub record Drops (before now : Lists) : Type 0 where
+  pub waits : IsTrue before.course.waits
   pub reply : PlainReply
   pub taken : IsTaken reply before now
   pub of_other : IsAwaited before.course reply → ⊥
@@ -80,9 +90,11 @@ abbrev pub WantsRoom : {T : Type 0} → (T → Type 0) → Bool → (T → ℕ) 
 WantsRoom {T} clear roomy unseen senders place =
     ((sender : T) → slice_get senders place ≡ Some sender → clear sender → ⊥) × (IsTrue roomy → 64 ≤ slice_index_or (map unseen senders) place 0)
 
--- A request was handed back for want of a place, by the sender to a worker.
-pub record ComesBack (before now : Counts) (wants_room : ℕ → Type 0) : Type 0 where
+-- The open line's next request was handed back for want of a place, by the sender to its worker.
+pub record ComesBack (course : Course) (before now : Counts) (wants_room : ℕ → Type 0) : Type 0 where
   pub worker : ℕ
+  pub item : Sent
+  pub next : slice_get (open_most course) course.out ≡ Some (worker, item)
   pub rose : Rose (slice_index_or before.fulls (worker - 1) 0) (slice_index_or now.fulls (worker - 1) 0)
   pub no_room : wants_room (worker - 1)
 
@@ -102,10 +114,12 @@ KeepsOne before now =
 -- What a call does, by its answer. `wants_room` is what the sender at a place tells where it hands a request back for want of a place, and
 -- `nothing` what the box tells where it has no reply.
 abbrev pub Polls : Result Progress NoMemory → Lists → Lists → Counts → Counts → (ℕ → Type 0) → Type 0 → Type 0
-Polls (Ok progress.Moved) before now counts counts_now wants_room nothing = Sends before now ⊎ (AnswersAlone before now ⊎ (AnswersBy before now ⊎ Drops before now))
-Polls (Ok progress.NotYet) before now counts counts_now wants_room nothing = (now ≡ before) × (ComesBack counts counts_now wants_room ⊎ HearsNothing before.course counts counts_now nothing)
-Polls (Ok progress.Rest) before now counts counts_now wants_room nothing = Rests before now
-Polls (Ok progress.Ended) before now counts counts_now wants_room nothing = (now ≡ before) × (length before.course.answers ≡ length before.course.lines)
+Polls (Ok progress.Moved) before now counts counts_now wants_room nothing =
+    ((Sends before now ⊎ AnswersAlone before now) × (counts_now ≡ counts)) ⊎ ((AnswersBy before now ⊎ Drops before now) × (counts_now.fulls ≡ counts.fulls))
+Polls (Ok progress.NotYet) before now counts counts_now wants_room nothing =
+    (now ≡ before) × (ComesBack before.course counts counts_now wants_room ⊎ HearsNothing before.course counts counts_now nothing)
+Polls (Ok progress.Rest) before now counts counts_now wants_room nothing = Rests before now × (counts_now.fulls ≡ counts.fulls)
+Polls (Ok progress.Ended) before now counts counts_now wants_room nothing = (now ≡ before) × (counts_now ≡ counts) × (length before.course.answers ≡ length before.course.lines)
 Polls (Err want) before now counts counts_now wants_room nothing =
     (now.course ≡ record before.course { kept = now.course.kept }) × (now.sent ≡ before.sent) × KeepsOne before now
 

@@ -1,4 +1,4 @@
-use Rattle.std.proofs.Common.{◌≡◌, ap, arith, inr, length, map, subst, Ok}
+use Rattle.std.proofs.Common.{◌≡◌, ap, arith, inr, length, map, subst, Ok, refl}
 use Rattle.lattice_laws.specs.declared.lattice.NoMemory.{NoMemory}
 use Rattle.mail_contract.specs.Boxes.{FindsNothing, box_of}
 use Rattle.session_proxy.specs.Local.{TellsNothing}
@@ -96,9 +96,12 @@ returns-in-Other-clause-fixed g c =
 
 pub returns-in-Other-clause-polls : goal.returns-in-Other-clause-polls
 returns-in-Other-clause-polls g c =
-    inr (inr (inr (hears_other c.args.local.now c.reserve_one.new.answers c.reserve_one.ensures.items
-    (map g.T.Tx.sent c.args.ends.now.requests.items) (g.R.Rx.received c.args.ends.now.replies) c.requires.keeps c.requires.asks c.requires.waits
-    c.take_reply.new.local (g.R.Rx.received c.take_reply.new.replies) c.in_ok-take_reply.field-0 c.in-Other.is c.in_ok-take_reply.ensures.hears).2))
+    inr (
+      inr (hears_other c.args.local.now c.reserve_one.new.answers c.reserve_one.ensures.items
+          (map g.T.Tx.sent c.args.ends.now.requests.items) (g.R.Rx.received c.args.ends.now.replies) c.requires.keeps c.requires.asks c.requires.waits
+          c.take_reply.new.local (g.R.Rx.received c.take_reply.new.replies) c.in_ok-take_reply.field-0 c.in-Other.is c.in_ok-take_reply.ensures.hears).2,
+      refl,
+    )
 
 pub returns-in-Awaited-clause-keeps : goal.returns-in-Awaited-clause-keeps
 returns-in-Awaited-clause-keeps g c =
@@ -108,7 +111,7 @@ returns-in-Awaited-clause-keeps g c =
     c.work.new.local c.work.ensures.fits (counts_at g.T.Tx.fulls g.R.Rx.answers c.args.ends.now)
     (counts_at g.T.Tx.fulls g.R.Rx.answers (record { requests = c.args.ends.now.requests; replies = c.take_reply.new.replies }))
     (WantsRoom g.T.Tx.clear g.T.Tx.roomy g.T.Tx.unseen c.args.ends.now.requests.items)
-    (FindsNothing g.R.Rx.keeps (box_of g.R.Rx.received g.R.Rx.answers g.R.Rx.about c.take_reply.new.replies)) c.work.result c.work.ensures.works).0
+    (FindsNothing g.R.Rx.keeps (box_of g.R.Rx.received g.R.Rx.answers g.R.Rx.about c.take_reply.new.replies)) refl c.work.result c.work.ensures.works).0
 
 pub returns-in-Awaited-clause-fixed : goal.returns-in-Awaited-clause-fixed
 returns-in-Awaited-clause-fixed g c =
@@ -118,7 +121,7 @@ returns-in-Awaited-clause-fixed g c =
     c.work.new.local c.work.ensures.fits (counts_at g.T.Tx.fulls g.R.Rx.answers c.args.ends.now)
     (counts_at g.T.Tx.fulls g.R.Rx.answers (record { requests = c.args.ends.now.requests; replies = c.take_reply.new.replies }))
     (WantsRoom g.T.Tx.clear g.T.Tx.roomy g.T.Tx.unseen c.args.ends.now.requests.items)
-    (FindsNothing g.R.Rx.keeps (box_of g.R.Rx.received g.R.Rx.answers g.R.Rx.about c.take_reply.new.replies)) c.work.result c.work.ensures.works).1
+    (FindsNothing g.R.Rx.keeps (box_of g.R.Rx.received g.R.Rx.answers g.R.Rx.about c.take_reply.new.replies)) refl c.work.result c.work.ensures.works).1
 
 pub returns-in-Awaited-clause-polls : goal.returns-in-Awaited-clause-polls
 returns-in-Awaited-clause-polls g c =
@@ -128,4 +131,4 @@ returns-in-Awaited-clause-polls g c =
     c.work.new.local c.work.ensures.fits (counts_at g.T.Tx.fulls g.R.Rx.answers c.args.ends.now)
     (counts_at g.T.Tx.fulls g.R.Rx.answers (record { requests = c.args.ends.now.requests; replies = c.take_reply.new.replies }))
     (WantsRoom g.T.Tx.clear g.T.Tx.roomy g.T.Tx.unseen c.args.ends.now.requests.items)
-    (FindsNothing g.R.Rx.keeps (box_of g.R.Rx.received g.R.Rx.answers g.R.Rx.about c.take_reply.new.replies)) c.work.result c.work.ensures.works).2
+    (FindsNothing g.R.Rx.keeps (box_of g.R.Rx.received g.R.Rx.answers g.R.Rx.about c.take_reply.new.replies)) refl c.work.result c.work.ensures.works).2
