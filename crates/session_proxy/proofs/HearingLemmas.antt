@@ -74,7 +74,7 @@ again_after client state (lines.Await key session count) level asks worker clock
 again_after client state line level asks worker clock asked = absurd asked
 
 -- nothing of what is held changes
-held_shown : (client : Client) (state : State) (line : Line) (level : Level) (asks worker : ℕ) (answered : Answered) → IsAsked line
+pub held_shown : (client : Client) (state : State) (line : Line) (level : Level) (asks worker : ℕ) (answered : Answered) → IsAsked line
     → held_puts (after client state line (answer_shown level asks worker answered)) ≡ held_puts state
 held_shown client state (lines.Get key named) level asks worker (Found cell) asked = refl
 held_shown client state (lines.Get key named) level asks worker (Again clock) asked = refl

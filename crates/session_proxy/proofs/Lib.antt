@@ -2,6 +2,7 @@ pub mod AfterLemmas
 pub mod AskLemmas
 pub mod AskingLemmas
 pub mod ClosingLemmas
+pub mod FewLemmas
 pub mod HearingLemmas
 pub mod KeepsLemmas
 pub mod OpeningLemmas

@@ -45,7 +45,7 @@ most_of_puts table client state first lines.Commit no_ask = refl
 most_of_puts table client state first lines.Abort no_ask = refl
 
 -- as many puts are committed as are due
-committed_length : (client : Client) (knows : Knowledge) (lamport place : ℕ) (puts : List (ℕ × Payload)) → length (puts_committed client knows lamport place puts) ≡ length puts
+pub committed_length : (client : Client) (knows : Knowledge) (lamport place : ℕ) (puts : List (ℕ × Payload)) → length (puts_committed client knows lamport place puts) ≡ length puts
 committed_length client knows lamport place [] = refl
 committed_length client knows lamport place (put ∷ puts) = ap suc (committed_length client (knows_put client knows put.0 (own_count knows put.0 + 1) lamport) lamport (place + 1) puts)
 

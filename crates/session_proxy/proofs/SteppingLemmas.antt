@@ -39,7 +39,7 @@ few_held lists session (ways.Asks clock) made keeps =
     subst (λ state. length (held_puts state) ≤ 4096) (sym keeps.stands.0) (omega (arith, counts, keeps.share.few, keeps.few_lines))
 
 -- a line makes one put at most, or those that are held
-due_if : (first : Bool) (puts : List (ℕ × Payload)) → length (if first then [] else puts) ≤ length puts
+pub due_if : (first : Bool) (puts : List (ℕ × Payload)) → length (if first then [] else puts) ≤ length puts
 due_if true puts = omega arith
 due_if false puts = omega arith
 

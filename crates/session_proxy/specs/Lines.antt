@@ -60,3 +60,10 @@ most_sent table client state first (lines.Get key named) =
 most_sent table client state first (lines.Await key session count) =
     asks_sent (ask_order table client.session key) first key (required client state.knows (lines.Await key session count)) (most_asks table client.level key)
 most_sent table client state first line = puts_sent table client (puts_by client state line (answer_at state line))
+
+-- how many requests a line sends at most; that of a held put, which goes out at the commit, counts at its own line
+abbrev pub most_of_line : List (List ℕ) → Level → Line → ℕ
+most_of_line table level (lines.Put key payload) = 1
+most_of_line table level (lines.Get key named) = most_asks table level key
+most_of_line table level (lines.Await key session count) = most_asks table level key
+most_of_line table level line = 0

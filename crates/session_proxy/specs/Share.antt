@@ -10,7 +10,7 @@ use Rattle.session_known.specs.declared.script.Line.TheVariants as lines
 use Rattle.store_msg.specs.Reply.{PlainReply, is_found}
 use Rattle.store_msg.specs.declared.request.Request.{Request}
 use Rattle.store_msg.specs.declared.request.Request.TheVariants as requests
-use Rattle.session_proxy.specs.Lines.{most_sent}
+use Rattle.session_proxy.specs.Lines.{most_of_line, most_sent}
 use Rattle.session_proxy.specs.Run.{AreAnswered, IsPartOf, IsReplyTo, Lacks}
 use Rattle.session_proxy.specs.State.{Course, Lists, open_line, state_now}
 
@@ -77,3 +77,11 @@ pub record Share (lists : Lists) : Type 0 where
   pub sent : (worker : ℕ) → IsOneOf (length lists.sent) worker → slice_index_or lists.sent (worker - 1) []
       ≡ to_worker worker (sent_from lists.course.table lists.course.client start 1 (map length replies) lists.course.lines lists.course.answers ++ open_sent lists.course)
   pub received : IsPartOf (flat_map (λ answering. answering) replies ++ lacking ++ kept_reply lists.course.kept) (map (λ message. message.1) lists.received)
+
+-- how many requests a session sends at most, all its lines together
+abbrev pub most_in_all : Course → ℕ
+most_in_all course = sum_by (most_of_line course.table course.client.level) course.lines
+
+-- it has sent no more
+abbrev pub HasSentFew : Lists → Type 0
+HasSentFew lists = sum_by length lists.sent ≤ most_in_all lists.course

@@ -19,6 +19,7 @@
 mod answering;
 mod asks;
 mod consistency;
+mod laws;
 mod local;
 mod plain;
 mod progress;
@@ -27,5 +28,6 @@ mod puts;
 mod steps;
 
 pub use consistency::Consistency;
+pub use laws::requests_are_few;
 pub use progress::Progress;
 pub use proxy::ProxyOver;
