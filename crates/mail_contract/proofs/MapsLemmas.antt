@@ -1,8 +1,8 @@
 -- A list of which one element changes, and what is told of each of its elements.
-use Rattle.std.proofs.Common.{◌≡◌, ℕ, ◌+◌, ◌<◌, ◌≤◌, List, [], ◌∷◌, ◌++◌, map, replicate, take, drop, length, get_or, set, sym, ◌∙◌, ap, arith, length-append, length-set}
+use Rattle.std.proofs.Common.{◌≡◌, ℕ, ◌+◌, ◌<◌, ◌≤◌, List, [], ◌∷◌, ◌++◌, All, map, replicate, take, drop, length, get_or, set, sym, ◌∙◌, ap, arith, length-append, length-set}
 use Rattle.std.specs.List.{range_with_len}
 use Rattle.std.proofs.lemmas.List.FromFn.{map-range_with_len_more}
-use Rattle.std.proofs.lemmas.List.{length-map, map-append, map-id, replicate-append-replicate, map-set, get_or-map, get_or-set_same, take_more_set, take_more, drop-set-lt, get_or-drop, take_all}
+use Rattle.std.proofs.lemmas.List.{length-map, length-replicate, map-append, map-id, replicate-append-replicate, map-set, get_or-map, get_or-replicate, get_or-set_same, take_more_set, take_more, drop-set-lt, get_or-drop, take_all}
 use Rattle.std.proofs.lemmas.Grind.{drop_more_same}
 use Rattle.std.proofs.Math.Seq.{map-set_same}
 
@@ -50,6 +50,15 @@ push_map f xs now x ys y is before here = ap (map f) is ∙ map-append f xs (x �
 
 pub push_replicate : {A B : Type 0} (f : A → B) (xs now : List A) (x : A) (n : ℕ) (y : B) → now ≡ xs ++ x ∷ [] → map f xs ≡ replicate n y → f x ≡ y → map f now ≡ replicate (n + 1) y
 push_replicate f xs now x n y is before here = push_map f xs now x (replicate n y) y is before here ∙ replicate-append-replicate n 1 y
+
+-- each element shows the same
+module _ {A B : Type 0} (f : A → B) (xs : List A) (n : ℕ) (y : B) (are : map f xs ≡ replicate n y) where
+  pub as_many : length xs ≡ n
+  as_many = sym (length-map xs f) ∙ ap length are ∙ length-replicate n y
+
+  pub each_shows : All (λ x. f x ≡ y) xs
+  each_shows i d low =
+      sym (get_or-map f xs i d y low) ∙ ap (λ l. get_or l i y) are ∙ get_or-replicate n i y y (omega (arith, low, as_many))
 
 -- a number more
 pub range_more : (n : ℕ) → range_with_len 1 (n + 1) ≡ range_with_len 1 n ++ (n + 1) ∷ []

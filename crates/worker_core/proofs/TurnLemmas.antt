@@ -314,8 +314,8 @@ pub unmoved_through : (before between now : Lists) → IsUnmoved before between 
 unmoved_through before between now first then' =
     then' ∙ (λ j. record (first j) { state = record ((first j).state) { turned = now.state.turned; since = now.state.since } })
 
--- keys are left to tell, so a batch came back: in the round that was due, or in the last one; and so did the first batch to each mate that is left
--- to tell
+-- keys are left to tell, so a batch came back: in the round that was due, or in the last one; and so did the first batch to each mate that is
+-- left to tell
 pub left_back : (due left : Bool) (first told now : Lists) (count count_told count_asked count_now : Counts) (room : ℕ → List Bool → Type 0) (result : Result ℕ NoMemory)
     → Started first told due count count_told room → Started told now left count_asked count_now room → RoundsIf left result told now count_asked count_now room
     → (IsTrue left → due ≡ false) → (left ≡ false → due ≡ false → dirty told.state ≡ 0)

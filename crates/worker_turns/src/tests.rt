@@ -100,6 +100,14 @@ fn put_max(alloc: Global, key: u16, number: u64, max: u64) -> Request {
     }
 }
 
+/// A session switches a key on.
+fn put_on(alloc: Global, key: u16, number: u64) -> Request {
+    Request::Put {
+        key,
+        put: put(alloc, 1, number, Payload::On),
+    }
+}
+
 /// A session asks for a key, and requires nothing.
 fn get(alloc: Global, key: u16) -> Request {
     Request::Get {
@@ -319,15 +327,20 @@ fn answers(alloc: Global, desk: &mut Desk) -> Result<Vec<usize>, Fail>
     Ok(all)
 }
 
-/// Puts without a number, on a key that is not held and of another kind, and a get by a session that has no
-/// sender of replies; and what the worker did.
-fn four_idle_asks(alloc: Global, first: &mut Desk) -> Result<Vec<(Did, usize)>, Fail>
+/// Puts without a number, on a key that is not held and of another kind.
+fn three_idle_puts(alloc: Global, first: &mut Desk) -> Result<(), Fail>
     ensures { OnOk result (Stays first.old.worker first.new.worker) }
 {
     ask(first, 1, put_max(alloc, 1, 0, 5))?;
     ask(first, 1, put_max(alloc, 2, 1, 5))?;
-    let put = put(alloc, 1, 1, Payload::On);
-    ask(first, 1, Request::Put { key: 1, put })?;
+    ask(first, 1, put_on(alloc, 1, 1))
+}
+
+/// These puts, and a get by a session that has no sender of replies; and what the worker did.
+fn four_idle_asks(alloc: Global, first: &mut Desk) -> Result<Vec<(Did, usize)>, Fail>
+    ensures { OnOk result (Stays first.old.worker first.new.worker) }
+{
+    three_idle_puts(alloc, first)?;
     ask(first, 2, get(alloc, 1))?;
     turns(alloc, &mut first.worker)
 }
