@@ -1,29 +1,29 @@
 -- A line's next ask is sent.
-use Rattle.std.specs.Prelude.{◌≡◌, ℕ, ◌+◌, ◌-◌, ◌*◌, ◌<◌, ◌≤◌, ◌^◌, true, false, IsTrue, List, [], ◌∷◌, ◌++◌, All, length, map, slice_get, slice_index_or, slice_set, take, Option, Some, None, IfSome}
-use Rattle.std.proofs.Common.{◌∙◌, refl, sym, ap, subst, arith, append_assoc, inl, true≢false}
+use Rattle.std.specs.Prelude.{◌≡◌, ℕ, ◌+◌, ◌-◌, ◌*◌, ◌<◌, ◌≤◌, ◌^◌, true, false, List, [], ◌∷◌, ◌++◌, length, slice_get, slice_index_or, slice_set, Option, Some, None, IfSome}
+use Rattle.std.proofs.Common.{◌∙◌, refl, sym, ap, subst, arith, inl, true≢false}
 use Rattle.std.proofs.lemmas.Nat.{mul-le}
 use Rattle.std.proofs.lemmas.Option.{none-some, same_Some}
 use Rattle.placement.specs.Asked.{replicas_of}
 use Rattle.placement.specs.Config.{IsOneOf}
 use Rattle.session_known.specs.Lawful.{required}
-use Rattle.session_known.specs.Requests.{Sent, SentAsk, sent_from}
-use Rattle.session_known.specs.Session.{InState, start}
+use Rattle.session_known.specs.Requests.{Sent, SentAsk}
+use Rattle.session_known.specs.Session.{InState}
 use Rattle.session_known.specs.declared.script.Level.{Level}
 use Rattle.session_known.specs.declared.script.Level.TheVariants.{Causal}
 use Rattle.session_known.specs.declared.script.Line.{Line}
 use Rattle.session_known.specs.declared.script.Line.TheVariants as lines
-use Rattle.store_msg.specs.Reply.{PlainReply, is_found}
+use Rattle.store_msg.specs.Reply.{PlainReply}
 use Rattle.store_msg.specs.declared.request.Request.{Request}
 use Rattle.store_msg.specs.declared.request.Request.TheVariants as requests
 use Rattle.session_proxy.proofs.AskLemmas.{asked_is_worker, most_is, next_is, replicas_there}
-use Rattle.session_proxy.proofs.KeepsLemmas.{may_run}
+use Rattle.session_proxy.proofs.KeepsLemmas.{keeps_open, may_run}
 use Rattle.session_proxy.proofs.PigeonholeLemmas.{few_replicas}
-use Rattle.session_proxy.proofs.SentLemmas.{as_many_sent, sent_one_more, take_one_more}
+use Rattle.session_proxy.proofs.SentLemmas.{as_many_then, share_then}
 use Rattle.session_proxy.specs.Kept.{Keeps}
 use Rattle.session_proxy.specs.Lines.{AreReplicas, MayRun, most_asks}
 use Rattle.session_proxy.specs.Local.{AreAsks, clock_begun, key_asked, worker_asked}
 use Rattle.session_proxy.specs.Polls.{Sends}
-use Rattle.session_proxy.specs.Share.{IsAsked, IsAwaited, awaited, lacks, open_most, request_of, to_worker}
+use Rattle.session_proxy.specs.Share.{IsAsked, awaited, lacks, open_most, request_of}
 use Rattle.session_proxy.specs.State.{Course, Lists, open_line, state_now}
 use Rattle.session_proxy.specs.declared.local.Begun.{Begun}
 use Rattle.session_proxy.specs.declared.local.Begun.TheVariants as ways
@@ -161,40 +161,9 @@ module _ {lists : Lists} {session : InState} {clock : List (ℕ × ℕ)} {made :
     -- and the proxy keeps what it is to keep
     pub sends_ask : Keeps (record { course = record course { out = course.out + 1; waits = true }; sent = sent; received = lists.received }) session (ways.Asks clock) made
     sends_ask =
-        let so_far : List (ℕ × Sent) = sent_from course.table course.client start 1 (map length keeps.share.replies) course.lines course.answers in
-        let front : List (ℕ × Sent) = so_far ++ take course.out (open_most course) in
-        let as_many : length sent ≡ length lists.sent = as_many_sent lists.sent sent front its_worker its_ask ask_goes posted_ask in
         let none : course.kept ≡ None = none_kept course.kept (λ reply holds. none_awaited course waits holds.0.0 holds.0.1) keeps.share.kept in
-        let left = keeps.stands.3.left waits in
-        record {
-          share = record {
-            replies = keeps.share.replies;
-            lacking = keeps.share.lacking;
-            few = keeps.share.few;
-            answered = keeps.share.answered;
-            asks = keeps.share.asks;
-            lacking_are = record {
-              asked = keeps.share.lacking_are.asked;
-              lack = keeps.share.lacking_are.lack;
-              out = one_more_lacks (open_line course) (length keeps.share.lacking) (lacks course.waits) course.out (ap lacks waits) keeps.share.lacking_are.out;
-              none = keeps.share.lacking_are.none;
-            };
-            out = omega (arith, left);
-            kept = subst (λ kept. IfSome kept (λ reply. IsAwaited (record course { out = course.out + 1; waits = true }) reply × IsTrue (is_found reply.answered))) (sym none) tt;
-            sent = λ w of. sent_one_more lists.sent sent front its_worker its_ask ask_goes posted_ask keeps.share.sent w of
-                ∙ ap (to_worker w) (append_assoc so_far (take course.out (open_most course)) ((its_worker, its_ask) ∷ [])
-                ∙ ap (λ back. so_far ++ back) (sym (take_one_more (open_most course) course.out (its_worker, its_ask) (next_ask waits))));
-            received = keeps.share.received;
-          };
-          client_is = keeps.client_is;
-          me = keeps.me;
-          few_lines = keeps.few_lines;
-          valid = keeps.valid;
-          ended = keeps.ended;
-          placed = subst (λ workers. All (AreReplicas workers) course.table) (sym as_many) keeps.placed;
-          few_workers = subst (λ workers. workers < 2 ^ 16) (sym as_many) keeps.few_workers;
-          counts = keeps.counts;
-          held = keeps.held;
-          few_asks = subst (λ workers. course.asks ≤ length course.answers * (8 * workers)) (sym as_many) keeps.few_asks;
-          stands = (keeps.stands.0, line, keeps.stands.2, record { asked = keeps.stands.3.asked; left = λ no. absurd (true≢false no); required_is = keeps.stands.3.required_is }, keeps.stands.4);
-        }
+        keeps_open keeps (course.out + 1) true course.kept sent lists.received session (ways.Asks clock) made
+        (as_many_then lists keeps.share its_worker its_ask ask_goes (next_ask waits) sent posted_ask) keeps.client_is
+        (share_then lists keeps.share its_worker its_ask ask_goes (next_ask waits) sent posted_ask true none
+        (one_more_lacks (open_line course) (length keeps.share.lacking) (lacks course.waits) course.out (ap lacks waits) keeps.share.lacking_are.out))
+        (keeps.stands.0, line, keeps.stands.2, record { asked = keeps.stands.3.asked; left = λ no. absurd (true≢false no); required_is = keeps.stands.3.required_is }, keeps.stands.4)

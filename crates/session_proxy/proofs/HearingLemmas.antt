@@ -25,7 +25,7 @@ use Rattle.store_msg.specs.declared.request.Request.{Request}
 use Rattle.session_proxy.proofs.AfterLemmas.{counts_shown, ended_shown}
 use Rattle.session_proxy.proofs.AskLemmas.{asks_front, awaited_is, most_is, open_asks}
 use Rattle.session_proxy.proofs.AskingLemmas.{few_most, few_next, few_of_key, key_there, may_ask, out_few}
-use Rattle.session_proxy.proofs.KeepsLemmas.{Parts, closed, closed_keeps, closed_share, keeps_as, parts_are, parts_of}
+use Rattle.session_proxy.proofs.KeepsLemmas.{Parts, closed, closed_keeps, closed_share, keeps_as, keeps_open, parts_are, parts_of}
 use Rattle.session_proxy.proofs.RunLemmas.{part-push, part_of-push, sent_by_replies}
 use Rattle.session_proxy.proofs.SentLemmas.{take_one_more}
 use Rattle.session_proxy.specs.Kept.{IsOn, Keeps}
@@ -206,36 +206,26 @@ module _ (lists : Lists) (session : InState) (clock : List (ℕ × ℕ)) (made :
       → IfSome kept_now (λ reply. IsAwaited (record course { waits = waits_now; kept = kept_now }) reply × IsTrue (is_found reply.answered))
       → IsPartOf (flat ++ lacking_now ++ kept_reply kept_now) (map (λ message. message.1) received_now)
       → Keeps (record { course = record course { waits = waits_now; kept = kept_now }; sent = lists.sent; received = received_now }) session (ways.Asks clock) made
-  asks_on waits_now kept_now received_now lacking_now asked lack out left kept part = record {
-    share = record {
-      replies = keeps.share.replies;
-      lacking = lacking_now;
-      few = keeps.share.few;
-      answered = keeps.share.answered;
-      asks = keeps.share.asks;
-      lacking_are = record {
-        asked = asked;
-        lack = lack;
-        out = subst (λ option. IfSome option (λ line. IsAsked line → length lacking_now + lacks waits_now ≡ course.out)) (sym keeps.stands.2) (λ asked. out);
-        none = subst (λ option. IfSome option (λ line. (IsAsked line → ⊥) → lacking_now ≡ [])) (sym keeps.stands.2) (λ no_ask. absurd (no_ask keeps.stands.3.asked));
-      };
-      out = keeps.share.out;
-      kept = kept;
-      sent = keeps.share.sent;
-      received = part;
-    };
-    client_is = keeps.client_is;
-    me = keeps.me;
-    few_lines = keeps.few_lines;
-    valid = keeps.valid;
-    ended = keeps.ended;
-    placed = keeps.placed;
-    few_workers = keeps.few_workers;
-    counts = keeps.counts;
-    held = keeps.held;
-    few_asks = keeps.few_asks;
-    stands = (keeps.stands.0, line, keeps.stands.2, record { asked = keeps.stands.3.asked; left = left; required_is = keeps.stands.3.required_is }, keeps.stands.4);
-  }
+  asks_on waits_now kept_now received_now lacking_now asked lack out left kept part =
+      keeps_open keeps course.out waits_now kept_now lists.sent received_now session (ways.Asks clock) made refl keeps.client_is
+      (record {
+        replies = keeps.share.replies;
+        lacking = lacking_now;
+        few = keeps.share.few;
+        answered = keeps.share.answered;
+        asks = keeps.share.asks;
+        lacking_are = record {
+          asked = asked;
+          lack = lack;
+          out = subst (λ option. IfSome option (λ line. IsAsked line → length lacking_now + lacks waits_now ≡ course.out)) (sym keeps.stands.2) (λ asked. out);
+          none = subst (λ option. IfSome option (λ line. (IsAsked line → ⊥) → lacking_now ≡ [])) (sym keeps.stands.2) (λ no_ask. absurd (no_ask keeps.stands.3.asked));
+        };
+        out = keeps.share.out;
+        kept = kept;
+        sent = keeps.share.sent;
+        received = part;
+      })
+      (keeps.stands.0, line, keeps.stands.2, record { asked = keeps.stands.3.asked; left = left; required_is = keeps.stands.3.required_is }, keeps.stands.4)
 
   -- another's reply is dropped
   drops : (sender : ℕ) (reply : PlainReply) → Keeps (record { course = course; sent = lists.sent; received = lists.received ++ (sender, reply) ∷ [] }) session (ways.Asks clock) made

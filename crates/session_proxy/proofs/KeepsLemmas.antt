@@ -1,5 +1,5 @@
 -- What a proxy keeps, once its open line is answered.
-use Rattle.std.specs.Prelude.{◌≡◌, ℕ, ◌+◌, ◌*◌, ◌-◌, ◌≤◌, ◌<◌, false, is_some, List, [], ◌∷◌, ◌++◌, All, drop, flat_map, length, map, slice_index_or, sum_by, unwrap_or, option_map, Option, Some, None, IfSome}
+use Rattle.std.specs.Prelude.{◌≡◌, ℕ, ◌+◌, ◌*◌, ◌-◌, ◌≤◌, ◌<◌, Bool, false, is_some, List, [], ◌∷◌, ◌++◌, All, drop, flat_map, length, map, slice_index_or, sum_by, unwrap_or, option_map, Option, Some, None, IfSome}
 use Rattle.std.proofs.Common.{◌∙◌, refl, sym, ap, subst, arith, append-nil, length-append}
 use Rattle.std.proofs.lemmas.Grind.{flat_map-append}
 use Rattle.std.proofs.lemmas.List.Elements.{All-nil}
@@ -15,7 +15,7 @@ use Rattle.store_msg.specs.Reply.{PlainReply}
 use Rattle.store_msg.specs.declared.request.Request.{Request}
 use Rattle.session_proxy.proofs.RunLemmas.{answered-push, sent-push, state_after-push}
 use Rattle.session_proxy.proofs.SentLemmas.{drop_one_more}
-use Rattle.session_proxy.specs.Kept.{IsOn, Keeps}
+use Rattle.session_proxy.specs.Kept.{IsOn, Keeps, Stands}
 use Rattle.session_proxy.specs.Lines.{AreReplicas, MayRun, most_sent}
 use Rattle.session_proxy.specs.Local.{KeepsAs, course_of}
 use Rattle.session_proxy.specs.Run.{IsAnswered, IsPartOf, Lacks}
@@ -124,6 +124,27 @@ module _ (lists : Lists) (line : Line) (at : open_line lists.course ≡ Some lin
             subst (λ workers. asks ≤ length (lists.course.answers ++ answer ∷ []) * (8 * workers)) (sym as_many) (subst (λ n. asks ≤ n * most) (sym one) now);
         stands = (state ∙ sym closed_state, refl, record { waits = refl; kept = refl }, refl);
       }
+
+-- what it keeps while the line stays open: its share holds again, and what was begun stands
+pub keeps_open : {lists : Lists} {session : InState} {begun : Begun} {made : Option Request} → Keeps lists session begun made
+    → (out : ℕ) (waits : Bool) (kept : Option PlainReply) (sent : List (List Request)) (received : List (ℕ × PlainReply)) (session_now : InState) (begun_now : Begun) (made_now : Option Request)
+    → length sent ≡ length lists.sent → session_now.client ≡ lists.course.client → Share (record { course = record lists.course { out = out; waits = waits; kept = kept }; sent = sent; received = received })
+    → Stands (record lists.course { out = out; waits = waits; kept = kept }) session_now.state begun_now made_now
+    → Keeps (record { course = record lists.course { out = out; waits = waits; kept = kept }; sent = sent; received = received }) session_now begun_now made_now
+keeps_open {lists} keeps out waits kept sent received session_now begun_now made_now as_many client share stands = record {
+  share = share;
+  client_is = client;
+  me = keeps.me;
+  few_lines = keeps.few_lines;
+  valid = keeps.valid;
+  ended = keeps.ended;
+  placed = subst (λ workers. All (AreReplicas workers) lists.course.table) (sym as_many) keeps.placed;
+  few_workers = omega (arith, as_many, keeps.few_workers);
+  counts = keeps.counts;
+  held = keeps.held;
+  few_asks = subst (λ workers. lists.course.asks ≤ length lists.course.answers * (8 * workers)) (sym as_many) keeps.few_asks;
+  stands = stands;
+}
 
 -- the open line is one that the session may have
 pub may_run : (lists : Lists) (line : Line) → open_line lists.course ≡ Some line → (session : InState) (begun : Begun) (made : Option Request) → Keeps lists session begun made → MayRun lists.course.table lists.course.client.level line

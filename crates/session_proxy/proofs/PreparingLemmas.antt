@@ -13,7 +13,7 @@ use Rattle.session_known.specs.Requests.{Sent}
 use Rattle.session_known.specs.declared.script.Line.{Line}
 use Rattle.store_msg.specs.Reply.{PlainReply}
 use Rattle.store_msg.specs.declared.request.Request.{Request}
-use Rattle.session_proxy.proofs.KeepsLemmas.{keeps_as}
+use Rattle.session_proxy.proofs.KeepsLemmas.{keeps_as, keeps_open}
 use Rattle.session_proxy.proofs.PutsLemmas.{made_there, makes_one, puts_length}
 use Rattle.session_proxy.proofs.SendingLemmas.{IsPosted, sends_last, sends_put}
 use Rattle.session_proxy.specs.Kept.{ArePutting, Keeps}
@@ -68,20 +68,9 @@ prepared_of done (ways.Puts puts) before now sent received is keeps (inr (none, 
       request = made.0;
       made_is = made.1;
       keeps =
-          subst (λ course. Keeps (record { course = course; sent = sent; received = received }) now.session (ways.Puts puts) (Some made.0)) (sym course_is) (record {
-            share = keeps.share;
-            client_is = ap (λ (session : InState). session.client) makes.1;
-            me = keeps.me;
-            few_lines = keeps.few_lines;
-            valid = keeps.valid;
-            ended = keeps.ended;
-            placed = keeps.placed;
-            few_workers = keeps.few_workers;
-            counts = keeps.counts;
-            held = keeps.held;
-            few_asks = keeps.few_asks;
-            stands = (keeps.stands.0, line, keeps.stands.2, made.2);
-          });
+          subst (λ course. Keeps (record { course = course; sent = sent; received = received }) now.session (ways.Puts puts) (Some made.0)) (sym course_is) (
+          keeps_open keeps before.out before.waits before.kept sent received now.session (ways.Puts puts) (Some made.0) refl (ap (λ (session : InState). session.client) makes.1) keeps.share
+          (keeps.stands.0, line, keeps.stands.2, made.2));
       course_is = course_is;
     }
 

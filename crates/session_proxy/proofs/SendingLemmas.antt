@@ -1,6 +1,6 @@
 -- A line's next put is sent.
-use Rattle.std.specs.Prelude.{◌≡◌, ℕ, ◌+◌, ◌-◌, ◌*◌, ◌<◌, ◌≤◌, ◌^◌, IsTrue, Bool, true, false, if◌then◌else◌, List, [], ◌∷◌, ◌++◌, All, drop, length, map, slice_index_or, slice_set, take, Option, Some, None, IfSome}
-use Rattle.std.proofs.Common.{◌∙◌, sym, ap, subst, arith, append_assoc, take_all}
+use Rattle.std.specs.Prelude.{◌≡◌, ℕ, ◌+◌, ◌-◌, ◌<◌, ◌≤◌, ◌^◌, Bool, true, false, if◌then◌else◌, List, [], ◌∷◌, ◌++◌, All, drop, length, map, slice_get, slice_index_or, slice_set, Option, Some, None, IfSome}
+use Rattle.std.proofs.Common.{◌∙◌, sym, ap, subst, arith, take_all}
 use Rattle.std.proofs.Math.ListN.{drop_of_length-le}
 use Rattle.composed_value.specs.declared.payload.Payload.{Payload}
 use Rattle.composed_value.specs.declared.payload.Payload.TheVariants as payloads
@@ -10,18 +10,17 @@ use Rattle.session_known.specs.Requests.{Sent, puts_sent, sent_from}
 use Rattle.session_known.specs.Session.{InState, State, after, held_puts, knows_committed, puts_by, start}
 use Rattle.session_known.specs.declared.script.Line.{Line}
 use Rattle.session_known.specs.declared.script.Line.TheVariants as lines
-use Rattle.store_msg.specs.Reply.{is_found}
 use Rattle.store_msg.specs.declared.request.Request.{Request}
 use Rattle.session_proxy.proofs.AfterLemmas.{after_due, answer_sent_is}
 use Rattle.session_proxy.proofs.AskLemmas.{home_is_worker}
 use Rattle.session_proxy.proofs.ClosingLemmas.{closes_alone, due_known}
-use Rattle.session_proxy.proofs.KeepsLemmas.{may_run, open_most_is}
+use Rattle.session_proxy.proofs.KeepsLemmas.{keeps_open, may_run, open_most_is}
 use Rattle.session_proxy.proofs.PutsLemmas.{made_there, most_of_puts, puts_length}
-use Rattle.session_proxy.proofs.SentLemmas.{as_many_sent, sent_one_more, take_one_more}
+use Rattle.session_proxy.proofs.SentLemmas.{as_many_then, sent_then, share_then}
 use Rattle.session_proxy.specs.Kept.{ArePutting, IsOn, Keeps}
-use Rattle.session_proxy.specs.Lines.{AreReplicas, answer_at, is_worn, puts_due}
+use Rattle.session_proxy.specs.Lines.{answer_at, is_worn, puts_due}
 use Rattle.session_proxy.specs.Local.{answer_sent, answered_with, put_at}
-use Rattle.session_proxy.specs.Share.{IsAsked, IsAwaited, lacks, open_most, to_worker}
+use Rattle.session_proxy.specs.Share.{IsAsked, lacks, open_most, request_of, to_worker}
 use Rattle.session_proxy.specs.State.{Course, Lists, open_line, state_now}
 use Rattle.session_proxy.specs.declared.local.Begun.TheVariants as ways
 use Rattle.session_proxy.specs.declared.local.Puts.{Puts}
@@ -74,77 +73,50 @@ module _ (lists : Lists) (session : InState) (puts : Puts) (request : Request) (
   abbrev pub IsPosted : Type 0
   IsPosted = sent ≡ slice_set lists.sent (home - 1) (slice_index_or lists.sent (home - 1) [] ++ request ∷ [])
 
-  abbrev pub so_far : List (ℕ × Sent)
-  so_far = sent_from course.table course.client start 1 (map length keeps.share.replies) course.lines course.answers
-
-  -- what was sent to each worker then
-  sent_then : IsPosted → (length sent ≡ length lists.sent) × ((w : ℕ) → IsOneOf (length sent) w → slice_index_or sent (w - 1) [] ≡ to_worker w (so_far ++ take (course.out + 1) (open_most course)))
-  sent_then posted =
+  -- it is the open line's next request
+  its_put : IsPosted → (item : Sent) × (slice_get (open_most course) course.out ≡ Some (home, item))
+      × (sent ≡ slice_set lists.sent (home - 1) (slice_index_or lists.sent (home - 1) [] ++ request_of item ∷ []))
+  its_put posted =
       let there = made_there course line keeps.stands.2 session.state puts request keeps.stands.3 in
-      let goes = put_goes lists line keeps.stands.2 session puts (Some request) keeps keeps.stands.3 in
-      let its = subst (λ request. sent ≡ slice_set lists.sent (home - 1) (slice_index_or lists.sent (home - 1) [] ++ request ∷ [])) (sym there.2) posted in (
-        as_many_sent lists.sent sent (so_far ++ take course.out (open_most course)) home there.0 goes its,
-        λ w of. sent_one_more lists.sent sent (so_far ++ take course.out (open_most course)) home there.0 goes its keeps.share.sent w of
-            ∙ ap (to_worker w) (append_assoc so_far (take course.out (open_most course)) ((home, there.0) ∷ []) ∙ ap (λ front. so_far ++ front) (sym (take_one_more (open_most course) course.out (home, there.0) there.1))),
-      )
+      (there.0, there.1, subst (λ request. sent ≡ slice_set lists.sent (home - 1) (slice_index_or lists.sent (home - 1) [] ++ request ∷ [])) (sym there.2) posted)
+
+  -- it goes to a worker
+  its_home : IsOneOf (length lists.sent) home
+  its_home = put_goes lists line keeps.stands.2 session puts (Some request) keeps keeps.stands.3
 
   -- a put that is not the last of its line
   pub sends_put : IsPosted → course.out + 1 < length puts.puts → Keeps (record { course = record course { out = course.out + 1 }; sent = sent; received = lists.received }) session (ways.Puts puts) None
   sends_put posted left =
       let putting = keeps.stands.3 in
-      let goes = sent_then posted in
-      let length_is = puts_length course line keeps.stands.2 session.state puts putting in
+      let its = its_put posted in
       let none_more : course.out + 1 + 0 ≡ course.out + 1 = omega arith in
       let no_ask : IfSome (open_line course) (λ line. IsAsked line → length keeps.share.lacking + lacks course.waits ≡ course.out + 1) =
       subst (λ option. IfSome option (λ line. IsAsked line → length keeps.share.lacking + lacks course.waits ≡ course.out + 1)) (sym keeps.stands.2) (λ asked. absurd (putting.no_ask asked))
       in
-      record {
-        share = record {
-          replies = keeps.share.replies;
-          lacking = keeps.share.lacking;
-          few = keeps.share.few;
-          answered = keeps.share.answered;
-          asks = keeps.share.asks;
-          lacking_are = record { asked = keeps.share.lacking_are.asked; lack = keeps.share.lacking_are.lack; out = no_ask; none = keeps.share.lacking_are.none };
-          out = omega (arith, length_is, left);
-          kept = subst (λ kept. IfSome kept (λ reply. IsAwaited (record course { out = course.out + 1 }) reply × IsTrue (is_found reply.answered))) (sym keeps.stands.0.kept) tt;
-          sent = goes.1;
-          received = keeps.share.received;
-        };
-        client_is = keeps.client_is;
-        me = keeps.me;
-        few_lines = keeps.few_lines;
-        valid = keeps.valid;
-        ended = keeps.ended;
-        placed = subst (λ workers. All (AreReplicas workers) course.table) (sym goes.0) keeps.placed;
-        few_workers = subst (λ workers. workers < 2 ^ 16) (sym goes.0) keeps.few_workers;
-        counts = keeps.counts;
-        held = keeps.held;
-        few_asks = subst (λ workers. course.asks ≤ length course.answers * (8 * workers)) (sym goes.0) keeps.few_asks;
-        stands = (
-          record { waits = keeps.stands.0.waits; kept = keeps.stands.0.kept },
-          line,
-          keeps.stands.2,
-          record {
-            puts_are = putting.puts_are;
-            lamport_is = putting.lamport_is;
-            no_ask = putting.no_ask;
-            left = left;
-            none_held = putting.none_held;
-            rest = rw none_more putting.rest;
-            knows = rw none_more putting.knows;
-            low = putting.low;
-            counts = rw none_more putting.counts;
-            made_is = tt;
-          },
-        );
-      }
+      keeps_open keeps (course.out + 1) course.waits course.kept sent lists.received session (ways.Puts puts) None (as_many_then lists keeps.share home its.0 its_home its.1 sent its.2) keeps.client_is
+      (share_then lists keeps.share home its.0 its_home its.1 sent its.2 course.waits keeps.stands.0.kept no_ask) (
+        record { waits = keeps.stands.0.waits; kept = keeps.stands.0.kept },
+        line,
+        keeps.stands.2,
+        record {
+          puts_are = putting.puts_are;
+          lamport_is = putting.lamport_is;
+          no_ask = putting.no_ask;
+          left = left;
+          none_held = putting.none_held;
+          rest = rw none_more putting.rest;
+          knows = rw none_more putting.knows;
+          low = putting.low;
+          counts = rw none_more putting.counts;
+          made_is = tt;
+        },
+      )
 
   -- the last answers it
   pub sends_last : IsPosted → course.out + 1 ≡ length puts.puts → Keeps (record { course = answered_with course (answer_sent line session puts); sent = sent; received = lists.received }) session ways.Nothing None
   sends_last posted last =
       let putting = keeps.stands.3 in
-      let goes = sent_then posted in
+      let its = its_put posted in
       let S : State = state_now course in
       let length_is = puts_length course line keeps.stands.2 session.state puts putting in
       let all : length (open_most course) ≤ course.out + 1 = omega (arith, length_is, last) in
@@ -164,5 +136,6 @@ module _ (lists : Lists) (session : InState) (puts : Puts) (request : Request) (
       in
       let answer_is = answer_sent_is course.client S line session puts putting.no_ask putting.puts_are some putting.lamport_is knows in
       subst (λ answer. Keeps (record { course = answered_with course answer; sent = sent; received = lists.received }) session ways.Nothing None) (sym answer_is) (
-      closes_alone lists line keeps.stands.2 putting.no_ask session (ways.Puts puts) (Some request) keeps keeps.stands.0.kept sent session goes.0
-      (λ w of. goes.1 w of ∙ ap (λ its. to_worker w (so_far ++ its)) (take_all (course.out + 1) (open_most course) all ∙ most_is)) keeps.client_is state_is)
+      closes_alone lists line keeps.stands.2 putting.no_ask session (ways.Puts puts) (Some request) keeps keeps.stands.0.kept sent session (as_many_then lists keeps.share home its.0 its_home its.1 sent its.2)
+      (λ w of. sent_then lists keeps.share home its.0 its_home its.1 sent its.2 w of
+      ∙ ap (λ its. to_worker w (sent_from course.table course.client start 1 (map length keeps.share.replies) course.lines course.answers ++ its)) (take_all (course.out + 1) (open_most course) all ∙ most_is)) keeps.client_is state_is)

@@ -1,6 +1,6 @@
 -- What is sent to each worker, one request more, and places of lists.
-use Rattle.std.specs.Prelude.{◌≡◌, ◌≢◌, ℕ, suc, ◌+◌, ◌-◌, ◌<◌, ◌≤◌, List, [], ◌∷◌, ◌++◌, drop, length, map, slice_get, slice_index_or, slice_set, take, Some, Err}
-use Rattle.std.proofs.Common.{◌∙◌, refl, sym, ap, subst, arith, append-nil, inl, inr}
+use Rattle.std.specs.Prelude.{◌≡◌, ◌≢◌, ℕ, suc, ◌+◌, ◌-◌, ◌<◌, ◌≤◌, IsTrue, Bool, List, [], ◌∷◌, ◌++◌, drop, length, map, slice_get, slice_index_or, slice_set, take, Some, None, IfSome, Err}
+use Rattle.std.proofs.Common.{◌∙◌, refl, sym, ap, subst, arith, append_assoc, append-nil, inl, inr}
 use Rattle.std.proofs.Math.Seq.{drop-cons}
 use Rattle.std.proofs.lemmas.Bool.Decides.{eqb_tells}
 use Rattle.std.proofs.lemmas.List.{get_or-set_same, get_or-set_other, length-set, map-append, take_more}
@@ -12,9 +12,12 @@ use Rattle.mail_contract.specs.Takes.{from_sender}
 use Rattle.mail_contract.specs.declared.Refused.{Refused}
 use Rattle.mail_contract.specs.declared.Refused.TheVariants.{Full}
 use Rattle.placement.specs.Config.{IsOneOf}
-use Rattle.session_known.specs.Requests.{Sent}
+use Rattle.session_known.specs.Requests.{Sent, sent_from}
+use Rattle.session_known.specs.Session.{start}
+use Rattle.store_msg.specs.Reply.{is_found}
 use Rattle.store_msg.specs.declared.request.Request.{Request}
-use Rattle.session_proxy.specs.Share.{request_of, to_worker}
+use Rattle.session_proxy.specs.Share.{IsAsked, IsAwaited, Share, lacks, open_most, open_sent, request_of, to_worker}
+use Rattle.session_proxy.specs.State.{Lists, open_line}
 
 -- the first items of a list, one more
 pub take_one_more : {X : Type 0} (items : List X) (i : ℕ) (item : X) → slice_get items i ≡ Some item → take (i + 1) items ≡ take i items ++ item ∷ []
@@ -66,6 +69,41 @@ module _ (sent sent_now : List (List Request)) (all : List (ℕ × Sent)) (worke
             get_or-set_other sent (worker - 1) (w - 1) more [] (places_apart w worker of.0 here.0 other)
             ∙ was w of ∙ sym (append-nil (to_worker w all)) ∙ ap (λ back. to_worker w all ++ back) (sym (goes_elsewhere w worker item (λ same. other (sym same)))) ∙ sym (to_worker-append w all ((worker, item) ∷ []))
       ])
+
+module _ (lists : Lists) (share : Share lists) (worker : ℕ) (item : Sent) (goes : IsOneOf (length lists.sent) worker)
+    (next : slice_get (open_most lists.course) lists.course.out ≡ Some (worker, item)) (sent_now : List (List Request))
+    (posted : sent_now ≡ slice_set lists.sent (worker - 1) (slice_index_or lists.sent (worker - 1) [] ++ request_of item ∷ [])) where
+  -- what the answered lines sent
+  abbrev so_far : List (ℕ × Sent)
+  so_far = sent_from lists.course.table lists.course.client start 1 (map length share.replies) lists.course.lines lists.course.answers
+
+  -- there are as many workers, once the open line's next request is sent
+  pub as_many_then : length sent_now ≡ length lists.sent
+  as_many_then = as_many_sent lists.sent sent_now (so_far ++ open_sent lists.course) worker item goes posted
+
+  -- what was sent to each
+  pub sent_then : (w : ℕ) → IsOneOf (length sent_now) w → slice_index_or sent_now (w - 1) [] ≡ to_worker w (so_far ++ take (lists.course.out + 1) (open_most lists.course))
+  sent_then w of =
+      sent_one_more lists.sent sent_now (so_far ++ open_sent lists.course) worker item goes posted share.sent w of
+      ∙ ap (to_worker w) (append_assoc so_far (open_sent lists.course) ((worker, item) ∷ []) ∙ ap (λ its. so_far ++ its) (sym (take_one_more (open_most lists.course) lists.course.out (worker, item) next)))
+
+  -- the session's share, where the line stays open
+  pub share_then : (waits : Bool) → lists.course.kept ≡ None → IfSome (open_line lists.course) (λ line. IsAsked line → length share.lacking + lacks waits ≡ lists.course.out + 1)
+      → Share (record { course = record lists.course { out = lists.course.out + 1; waits = waits }; sent = sent_now; received = lists.received })
+  share_then waits none out =
+      let within = slice_get_within (open_most lists.course) lists.course.out (worker, item) next in
+      record {
+        replies = share.replies;
+        lacking = share.lacking;
+        few = share.few;
+        answered = share.answered;
+        asks = share.asks;
+        lacking_are = record { asked = share.lacking_are.asked; lack = share.lacking_are.lack; out = out; none = share.lacking_are.none };
+        out = omega (arith, within);
+        kept = subst (λ kept. IfSome kept (λ reply. IsAwaited (record lists.course { out = lists.course.out + 1; waits = waits }) reply × IsTrue (is_found reply.answered))) (sym none) tt;
+        sent = sent_then;
+        received = share.received;
+      }
 
 -- how often senders refused, where the one at a place handed a request back
 pub rose_there : (refused : Refused Request) (back : Request) (place : ℕ) (fulls fulls_now : List ℕ) → refused ≡ Full back → FullsAfter {M = Request} {U = Unit {0}} (Err refused) place fulls fulls_now

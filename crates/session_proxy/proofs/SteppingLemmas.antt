@@ -16,9 +16,9 @@ use Rattle.store_msg.specs.declared.request.Request.{Request}
 use Rattle.session_proxy.proofs.AfterLemmas.{puts_by_due}
 use Rattle.session_proxy.proofs.AskLemmas.{most_is, replicas_there}
 use Rattle.session_proxy.proofs.ClosingLemmas.{closes_alone}
-use Rattle.session_proxy.proofs.KeepsLemmas.{keeps_as, may_run}
+use Rattle.session_proxy.proofs.KeepsLemmas.{keeps_as, keeps_open, may_run}
 use Rattle.session_proxy.specs.Beginning.{AnswersAtOnce}
-use Rattle.session_proxy.specs.Kept.{ArePutting, Keeps}
+use Rattle.session_proxy.specs.Kept.{ArePutting, Keeps, Stands}
 use Rattle.session_proxy.specs.Lines.{AreReplicas, MayRun, answer_at, is_worn, most_asks, puts_due}
 use Rattle.session_proxy.specs.Local.{StaysAs, answered_with, course_of, key_asked}
 use Rattle.session_proxy.specs.Share.{IsAsked, open_most, open_sent, to_worker}
@@ -127,6 +127,9 @@ module _ (before now : Local) (sent : List (List Request)) (received : List (ℕ
       let is : before.session.state ≡ S = kept.stands.0 in
       let same_course : now.session.client ≡ before.session.client → course_of now ≡ course = λ client_is.
       opens.course_is ∙ ap (λ client. record course { client = client; answers = now.answers.items }) client_is ∙ ap (λ answers. record course { answers = answers }) opens.begins.1 in
+      let stands_so : (session : InState) (begun : Begun) → session.client ≡ course.client → Stands course session.state begun None
+      → Keeps (record { course = course; sent = sent; received = received }) session begun None =
+      λ session begun client_is stands. keeps_open kept course.out course.waits course.kept sent received session begun None refl client_is kept.share stands in
       elim opens.begins.0 [
         | inl puts ↦
             let client_is = puts.client_is in
@@ -135,25 +138,13 @@ module _ (before now : Local) (sent : List (List Request)) (received : List (ℕ
             let begun_of : State → Begun = λ state. ways.Puts (record { puts = puts_due state opens.line; lamport = state.knows.lamport + 1 }) in
             let begun_is : now.begun ≡ begun_of S = puts.begun_is ∙ ap begun_of is in
             let state_is : now.session.state ≡ record { knows = S.knows; held = None } = puts.state_is ∙ ap (λ (state : State). record { knows = state.knows; held = None }) is in
-            keeps_as now sent received course now.session (begun_of S) None (record { course_is = same_course client_is; session_is = refl; begun_is = begun_is; made_is = made }) (record {
-              share = kept.share;
-              client_is = client_is;
-              me = kept.me;
-              few_lines = kept.few_lines;
-              valid = kept.valid;
-              ended = kept.ended;
-              placed = kept.placed;
-              few_workers = kept.few_workers;
-              counts = kept.counts;
-              held = kept.held;
-              few_asks = kept.few_asks;
-              stands = (
-                kept.stands.2,
-                opens.line,
-                opens.line_is,
-                subst (λ state. ArePutting course opens.line state (record { puts = puts_due S opens.line; lamport = S.knows.lamport + 1 }) None) (sym state_is) (opened_puts kept opens.line puts.no_ask due),
-              );
-            })
+            keeps_as now sent received course now.session (begun_of S) None (record { course_is = same_course client_is; session_is = refl; begun_is = begun_is; made_is = made }) (
+            stands_so now.session (begun_of S) client_is (
+              kept.stands.2,
+              opens.line,
+              opens.line_is,
+              subst (λ state. ArePutting course opens.line state (record { puts = puts_due S opens.line; lamport = S.knows.lamport + 1 }) None) (sym state_is) (opened_puts kept opens.line puts.no_ask due),
+            ))
         | inr asks ↦
             let client_is : now.session.client ≡ before.session.client = ap (λ (session : InState). session.client) asks.session_is in
             let made : now.made ≡ None = opens.made_is ∙ kept.stands.3 in
@@ -161,26 +152,14 @@ module _ (before now : Local) (sent : List (List Request)) (received : List (ℕ
             let known = may_run (record { course = course; sent = sent; received = received }) opens.line opens.line_is before.session ways.Nothing before.made kept in
             let some = some_asks (length sent) course.table course.client.level opens.line kept.placed known asks.asked in
             let most = most_is course opens.line opens.line_is asks.asked in
-            keeps_as now sent received course now.session (ways.Asks (required course.client S.knows opens.line)) None (record { course_is = same_course client_is; session_is = refl; begun_is = begun_is; made_is = made }) (record {
-              share = kept.share;
-              client_is = client_is;
-              me = kept.me;
-              few_lines = kept.few_lines;
-              valid = kept.valid;
-              ended = kept.ended;
-              placed = kept.placed;
-              few_workers = kept.few_workers;
-              counts = kept.counts;
-              held = kept.held;
-              few_asks = kept.few_asks;
-              stands = (
-                ap (λ (session : InState). session.state) asks.session_is ∙ is,
-                opens.line,
-                opens.line_is,
-                record { asked = asks.asked; left = λ waits. omega (arith, some, most, kept.stands.1); required_is = refl },
-                refl,
-              );
-            })
+            keeps_as now sent received course now.session (ways.Asks (required course.client S.knows opens.line)) None (record { course_is = same_course client_is; session_is = refl; begun_is = begun_is; made_is = made }) (
+            stands_so now.session (ways.Asks (required course.client S.knows opens.line)) client_is (
+              ap (λ (session : InState). session.state) asks.session_is ∙ is,
+              opens.line,
+              opens.line_is,
+              record { asked = asks.asked; left = λ waits. omega (arith, some, most, kept.stands.1); required_is = refl },
+              refl,
+            ))
       ]
 
   -- a line that goes on was begun before, or is begun now
