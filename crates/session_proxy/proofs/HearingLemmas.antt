@@ -5,7 +5,7 @@ use Rattle.std.specs.List.{AllZip}
 use Rattle.std.proofs.Common.{◌∙◌, refl, sym, ap, subst, arith, inl, inr, append_assoc, append-nil, length-append, true≢false}
 use Rattle.std.proofs.lemmas.List.{map-append}
 use Rattle.std.proofs.lemmas.List.Elements.{All-append, All-cons, All-nil}
-use Rattle.std.proofs.lemmas.Option.{same_Some}
+use Rattle.std.proofs.lemmas.Option.{same_Some, slice_get_within}
 use Rattle.lattice_laws.specs.declared.lattice.NoMemory.{NoMemory}
 use Rattle.composed_value.specs.Cell.{PlainCell}
 use Rattle.placement.specs.Asked.{replicas_of}
@@ -30,7 +30,7 @@ use Rattle.session_proxy.proofs.RunLemmas.{part-push, part_of-push, sent_by_repl
 use Rattle.session_proxy.proofs.SentLemmas.{take_one_more}
 use Rattle.session_proxy.specs.Kept.{IsOn, Keeps}
 use Rattle.session_proxy.specs.Lines.{MayRun, most_asks}
-use Rattle.session_proxy.specs.Local.{AreAsks, Hears, KeepsAs, StaysAs, Works, WorksOf, answered_with, clock_begun, course_of, key_asked, order_asked, worker_asked}
+use Rattle.session_proxy.specs.Local.{AreAsks, CanHear, CanWork, Hears, KeepsAs, StaysAs, Works, WorksOf, answered_with, clock_begun, course_of, key_asked, order_asked, worker_asked}
 use Rattle.session_proxy.specs.Polls.{AnswersBy, Counts, Drops, IsTaken, KeepsOne, Polls, Rests}
 use Rattle.session_proxy.specs.Run.{IsAnswered, IsPartOf, IsReplied, IsReplyTo, Lacks, answer_by, answer_shown}
 use Rattle.session_proxy.specs.Share.{IsAsked, IsAwaited, awaited, kept_reply, lacks, open_most, open_sent, to_worker}
@@ -337,14 +337,16 @@ module _ (local : Local) (answers : Vec Answer) (items : answers.items ≡ local
   keeps_asks : Keeps (lists_with before received) before.session (ways.Asks clock_now) before.made
   keeps_asks = subst (λ begun. Keeps (lists_with before received) before.session begun before.made) (asks_begun before.begun asks) keeps_before
 
-  -- the open line may be run
-  pub its_line : (line : Line) → open_line (course_of before) ≡ Some line
-      → MayRun before.placement before.session.client.level line × IsAsked line × (before.out ≤ most_asks before.placement before.session.client.level (key_asked line))
-  its_line = may_hear (lists_with before received) before.session clock_now before.made keeps_asks waits
-
-  -- and its asks are numbered by a machine's numbers
-  pub its_asks : before.asks + before.out < 2 ^ 64
-  its_asks = few_asks (lists_with before received) before.session clock_now before.made keeps_asks waits
+  -- a reply to its last ask can be told from others
+  pub can_hear : CanHear before
+  can_hear = record {
+    asks = asks;
+    left = slice_get_within before.lines (length before.answers.items) keeps_asks.stands.1 keeps_asks.stands.2;
+    some = some_out (lists_with before received) before.session clock_now before.made keeps_asks waits;
+    line = may_hear (lists_with before received) before.session clock_now before.made keeps_asks waits;
+    session = subst (λ client. 1 ≤ client.session) (sym keeps_before.client_is) keeps_before.me;
+    few = few_asks (lists_with before received) before.session clock_now before.made keeps_asks waits;
+  }
 
   module _ (taken : Local) (received_now : List (ℕ × PlainReply)) where
     -- what is heard of the reply to the open line's last ask
@@ -433,14 +435,15 @@ module _ (local : Local) (answers : Vec Answer) (items : answers.items ≡ local
       parts_taken : let parts : Parts = (record (course_of before) { kept = None }, before.session, before.begun, before.made) in parts_of taken ≡ parts
       parts_taken = parts_are taken (record (course_of before) { kept = None }) before.session before.begun before.made heard_it.0
 
-      -- all that is required of it holds
-      pub its_work : IsOneOf (length taken.placement) reply.key × (length (replicas_of taken.placement reply.key) < 2 ^ 16) × (taken.out ≤ most_asks taken.placement taken.session.client.level reply.key)
-          × (taken.asks + taken.out < 2 ^ 64) × (taken.kept ≡ None) × (taken.answers.items ≡ before.answers.items)
+      -- it can be worked on, and as many lines are answered as before
+      pub its_work : CanWork taken reply × (taken.answers.items ≡ before.answers.items)
       its_work =
           let fit = may_work (lists_with before received) before.session clock_now before.made keeps_asks waits reply heard_it.2 in
-          subst (λ course. IsOneOf (length course.table) reply.key × (length (replicas_of course.table reply.key) < 2 ^ 16) × (course.out ≤ most_asks course.table course.client.level reply.key)
-          × (course.asks + course.out < 2 ^ 64) × (course.kept ≡ None) × (course.answers ≡ before.answers.items)) (sym heard_it.0.course_is)
-          (fit.0, fit.1, fit.2, its_asks, refl, refl)
+          let all = subst (λ course. IsOneOf (length course.table) reply.key × (length (replicas_of course.table reply.key) < 2 ^ 16)
+          × (course.out ≤ most_asks course.table course.client.level reply.key) × (course.asks + course.out < 2 ^ 64) × (course.kept ≡ None) × (course.answers ≡ before.answers.items))
+          (sym heard_it.0.course_is) (fit.0, fit.1, fit.2, can_hear.few, refl, refl)
+          in
+          (record { key = all.0; few = all.1; most = all.2; asks = all.3; none_kept = all.4 }, all.5)
 
       module _ (now : Local) (fits : IsAnswer reply.required reply.answered) (counts counts_now : Counts) (wants_room : ℕ → Type 0) (nothing : Type 0) (fulls : counts_now.fulls ≡ counts.fulls) where
         -- what a call keeps, leaves and does

@@ -1,10 +1,11 @@
 -- How far a session is, from what its proxy keeps, and how its parts change it.
-use Rattle.std.specs.Prelude.{◌≡◌, ◌⊎◌, ℕ, ◌+◌, ◌%◌, ◌^◌, ◌<◌, false, IsTrue, is_some, List, [], ◌∷◌, ◌++◌, length, map, slice_index_or, Option, Some, None, Result, Ok, Err, ⊤}
+use Rattle.std.specs.Prelude.{◌≡◌, ◌⊎◌, ℕ, ◌+◌, ◌%◌, ◌^◌, ◌<◌, ◌≤◌, false, IsTrue, is_some, List, [], ◌∷◌, ◌++◌, length, map, slice_index_or, Option, Some, None, Result, Ok, Err, ⊤}
 use Rattle.lattice_laws.specs.Counts.{Rose}
 use Rattle.mail_contract.specs.Takes.{Answers}
 use Rattle.composed_value.specs.declared.payload.Payload.{Payload}
 use Rattle.composed_value.specs.declared.payload.Payload.TheVariants as payloads
-use Rattle.placement.specs.Asked.{ask_order}
+use Rattle.placement.specs.Asked.{ask_order, replicas_of}
+use Rattle.placement.specs.Config.{IsOneOf}
 use Rattle.session_known.specs.Requests.{asked_by}
 use Rattle.session_known.specs.Session.{Client, InState, known_of, next_put, own_count, shown_of, state_put, state_shown}
 use Rattle.session_known.specs.declared.report.Answer.{Answer}
@@ -17,9 +18,10 @@ use Rattle.store_msg.specs.declared.reply.Answered.{Answered}
 use Rattle.store_msg.specs.declared.reply.Answered.TheVariants as answered
 use Rattle.store_msg.specs.declared.request.Request.{Request}
 use Rattle.store_msg.specs.declared.request.Request.TheVariants as requests
-use Rattle.session_proxy.specs.Lines.{most_asks}
+use Rattle.session_proxy.specs.Lines.{MayRun, most_asks}
 use Rattle.session_proxy.specs.Run.{answer_by}
-use Rattle.session_proxy.specs.State.{Course, Lists}
+use Rattle.session_proxy.specs.Share.{IsAsked}
+use Rattle.session_proxy.specs.State.{Course, Lists, open_line}
 use Rattle.session_proxy.specs.declared.asks.Heard.{Heard}
 use Rattle.session_proxy.specs.declared.asks.Heard.TheVariants as heard
 use Rattle.session_proxy.specs.declared.local.Begun.{Begun}
@@ -137,6 +139,24 @@ order_asked table client line = []
 -- the worker that an ask goes to, by its place from 0
 abbrev pub worker_asked : List (List ℕ) → Client → Line → ℕ → ℕ
 worker_asked table client line place = let order = order_asked table client line in slice_index_or order (place % length order) 0
+
+-- a reply to the last ask can be told from others: the open line asks, and some of its asks were sent
+pub record CanHear (local : Local) : Type 0 where
+  pub asks : AreAsks local.begun
+  pub left : length local.answers.items < length local.lines
+  pub some : 1 ≤ local.out
+  pub line : (line : Line) → open_line (course_of local) ≡ Some line
+      → MayRun local.placement local.session.client.level line × IsAsked line × (local.out ≤ most_asks local.placement local.session.client.level (key_asked line))
+  pub session : 1 ≤ local.session.client.session
+  pub few : local.asks + local.out < 2 ^ 64
+
+-- it can be worked on: it is on a key that is there, of few replicas, which was not asked for more often than may be, and none is kept
+pub record CanWork (local : Local) (reply : PlainReply) : Type 0 where
+  pub key : IsOneOf (length local.placement) reply.key
+  pub few : length (replicas_of local.placement reply.key) < 2 ^ 16
+  pub most : local.out ≤ most_asks local.placement local.session.client.level reply.key
+  pub asks : local.asks + local.out < 2 ^ 64
+  pub none_kept : local.kept ≡ None
 
 -- what a reply to the ask that is awaited does
 abbrev pub WorksOf : {E : Type 0} → Result Progress E → List (List ℕ) → Answered → PlainReply → Local → Local → Type 0

@@ -8,7 +8,7 @@ ghost use Rattle.session_known.specs.Requests.{SentAsk};
 ghost use Rattle.session_known.specs.declared.script.Line.{Line};
 ghost use Rattle.session_proxy.specs.Lines.{MayRun, most_asks};
 ghost use Rattle.session_proxy.specs.Kept.{KeepsAt};
-ghost use Rattle.session_proxy.specs.Local.{AreAsks, Hears, TellsNothing, Works, clock_begun, course_of, key_asked, lists_at, worker_asked};
+ghost use Rattle.session_proxy.specs.Local.{AreAsks, CanHear, CanWork, Hears, TellsNothing, Works, clock_begun, course_of, key_asked, lists_at, worker_asked};
 ghost use Rattle.session_proxy.specs.Polls.{Polls, WantsRoom, counts_at};
 ghost use Rattle.session_proxy.specs.Run.{IsReplyTo, answer_by};
 ghost use Rattle.session_proxy.specs.Share.{IsAsked};
@@ -104,12 +104,8 @@ fn answer_by(level: Level, asks: u32, reply: Reply) -> Answer
 /// Works on the reply that is awaited: a cell answers the line, and so does the clock in place of one after
 /// the last ask; else another ask is to be made. After `NoMemory` the reply is kept, and all else as before.
 fn work(local: &mut Local, reply: Reply) -> Result<Progress, NoMemory>
-    requires key { IsOneOf (length local.old.placement) reply.key }
-    requires few { length (replicas_of local.old.placement reply.key) < 2 ^ 16 }
-    requires most { local.old.out ≤ most_asks local.old.placement local.old.session.client.level reply.key }
-    requires asks { local.old.asks + local.old.out < 2 ^ 64 }
+    requires can { CanWork local.old reply }
     requires room { length local.old.answers.items + 1 ≤ vec_capacity local.old.answers }
-    requires none_kept { local.old.kept ≡ None }
     ensures works { Works result reply local.old local.new }
     ensures fits { IsAnswer reply.required reply.answered }
 {
@@ -208,14 +204,7 @@ pub(crate) fn ask<T: Tx<Request>, R: Rx<Reply>>(
 
 /// Whether a reply is the one that is awaited: of the ask, the worker, the key and the required clock.
 fn is_awaited(local: &Local, reply: &Reply) -> bool
-    requires asks { AreAsks local.now.begun }
-    requires open { length local.now.answers.items < length local.now.lines }
-    requires some { 1 ≤ local.now.out }
-    requires line { (line : Line) → open_line (course_of local.now) ≡ Some line
-        → MayRun local.now.placement local.now.session.client.level line × IsAsked line
-        × (local.now.out ≤ most_asks local.now.placement local.now.session.client.level (key_asked line)) }
-    requires session { 1 ≤ local.now.session.client.session }
-    requires few { local.now.asks + local.now.out < 2 ^ 64 }
+    requires { CanHear local.now }
     ensures { (line : Line) → open_line (course_of local.now) ≡ Some line
         → (IsTrue result ↔ IsReplyTo (
           worker_asked local.now.placement local.now.session.client line (local.now.out - 1),
@@ -235,14 +224,7 @@ fn is_awaited(local: &Local, reply: &Reply) -> bool
 
 /// Takes a reply, out of the box or where it was kept.
 fn take_reply<R: Rx<Reply>>(local: &mut Local, replies: &mut R) -> Result<Heard, NoMemory>
-    requires asks { AreAsks local.old.begun }
-    requires open { length local.old.answers.items < length local.old.lines }
-    requires some { 1 ≤ local.old.out }
-    requires line { (line : Line) → open_line (course_of local.old) ≡ Some line
-        → MayRun local.old.placement local.old.session.client.level line × IsAsked line
-        × (local.old.out ≤ most_asks local.old.placement local.old.session.client.level (key_asked line)) }
-    requires session { 1 ≤ local.old.session.client.session }
-    requires few { local.old.asks + local.old.out < 2 ^ 64 }
+    requires { CanHear local.old }
     ensures key { R.key replies.new ≡ R.key replies.old }
     ensures room { vec_capacity local.new.answers ≡ vec_capacity local.old.answers }
     ensures takes { MayTake R.keeps (R.senders (R.key replies.old))

@@ -3,17 +3,12 @@ use Rattle.lattice_laws.specs.declared.lattice.NoMemory.{NoMemory}
 use Rattle.mail_contract.specs.Boxes.{FindsNothing, box_of}
 use Rattle.session_proxy.specs.Local.{TellsNothing}
 use Rattle.session_proxy.specs.Polls.{WantsRoom, counts_at}
-use Rattle.session_proxy.proofs.HearingLemmas.{hears_nothing, hears_other, hears_want, its_asks, its_line, its_work, works_at}
+use Rattle.session_proxy.proofs.HearingLemmas.{can_hear, hears_nothing, hears_other, hears_want, its_work, works_at}
 use Rattle.session_proxy.proofs.asks.hear.Goals as goal
 
-pub take_reply-requires-clause-line : goal.take_reply-requires-clause-line
-take_reply-requires-clause-line g c =
-    its_line c.args.local.now c.reserve_one.new.answers c.reserve_one.ensures.items
-    (map g.T.Tx.sent c.args.ends.now.requests.items) (g.R.Rx.received c.args.ends.now.replies) c.requires.keeps c.requires.asks c.requires.waits
-
-pub take_reply-requires-clause-few : goal.take_reply-requires-clause-few
-take_reply-requires-clause-few g c =
-    its_asks c.args.local.now c.reserve_one.new.answers c.reserve_one.ensures.items
+pub take_reply-requires : goal.take_reply-requires
+take_reply-requires g c =
+    can_hear c.args.local.now c.reserve_one.new.answers c.reserve_one.ensures.items
     (map g.T.Tx.sent c.args.ends.now.requests.items) (g.R.Rx.received c.args.ends.now.replies) c.requires.keeps c.requires.asks c.requires.waits
 
 pub returns-in_err-take_reply-clause-keeps : goal.returns-in_err-take_reply-clause-keeps
@@ -22,44 +17,20 @@ returns-in_err-take_reply-clause-keeps g c =
     (map g.T.Tx.sent c.args.ends.now.requests.items) (g.R.Rx.received c.args.ends.now.replies) c.requires.keeps c.requires.asks c.requires.waits
     c.take_reply.new.local (g.R.Rx.received c.take_reply.new.replies) c.in_err-take_reply.field-0.0 c.in_err-take_reply.ensures.hears
 
-pub work-requires-clause-key : goal.work-requires-clause-key
-work-requires-clause-key g c =
+pub work-requires-clause-can : goal.work-requires-clause-can
+work-requires-clause-can g c =
     (its_work c.args.local.now c.reserve_one.new.answers c.reserve_one.ensures.items
     (map g.T.Tx.sent c.args.ends.now.requests.items) (g.R.Rx.received c.args.ends.now.replies) c.requires.keeps c.requires.asks c.requires.waits
     c.take_reply.new.local (g.R.Rx.received c.take_reply.new.replies) c.in_ok-take_reply.field-0 c.in-Awaited.reply c.in-Awaited.is c.in_ok-take_reply.ensures.hears).0
-
-pub work-requires-clause-few : goal.work-requires-clause-few
-work-requires-clause-few g c =
-    (its_work c.args.local.now c.reserve_one.new.answers c.reserve_one.ensures.items
-    (map g.T.Tx.sent c.args.ends.now.requests.items) (g.R.Rx.received c.args.ends.now.replies) c.requires.keeps c.requires.asks c.requires.waits
-    c.take_reply.new.local (g.R.Rx.received c.take_reply.new.replies) c.in_ok-take_reply.field-0 c.in-Awaited.reply c.in-Awaited.is c.in_ok-take_reply.ensures.hears).1
-
-pub work-requires-clause-most : goal.work-requires-clause-most
-work-requires-clause-most g c =
-    (its_work c.args.local.now c.reserve_one.new.answers c.reserve_one.ensures.items
-    (map g.T.Tx.sent c.args.ends.now.requests.items) (g.R.Rx.received c.args.ends.now.replies) c.requires.keeps c.requires.asks c.requires.waits
-    c.take_reply.new.local (g.R.Rx.received c.take_reply.new.replies) c.in_ok-take_reply.field-0 c.in-Awaited.reply c.in-Awaited.is c.in_ok-take_reply.ensures.hears).2
-
-pub work-requires-clause-asks : goal.work-requires-clause-asks
-work-requires-clause-asks g c =
-    (its_work c.args.local.now c.reserve_one.new.answers c.reserve_one.ensures.items
-    (map g.T.Tx.sent c.args.ends.now.requests.items) (g.R.Rx.received c.args.ends.now.replies) c.requires.keeps c.requires.asks c.requires.waits
-    c.take_reply.new.local (g.R.Rx.received c.take_reply.new.replies) c.in_ok-take_reply.field-0 c.in-Awaited.reply c.in-Awaited.is c.in_ok-take_reply.ensures.hears).3
 
 pub work-requires-clause-room : goal.work-requires-clause-room
 work-requires-clause-room g c =
     let items : c.take_reply.new.local.answers.items ≡ c.reserve_one.new.answers.items =
     (its_work c.args.local.now c.reserve_one.new.answers c.reserve_one.ensures.items
     (map g.T.Tx.sent c.args.ends.now.requests.items) (g.R.Rx.received c.args.ends.now.replies) c.requires.keeps c.requires.asks c.requires.waits
-    c.take_reply.new.local (g.R.Rx.received c.take_reply.new.replies) c.in_ok-take_reply.field-0 c.in-Awaited.reply c.in-Awaited.is c.in_ok-take_reply.ensures.hears).5 in
+    c.take_reply.new.local (g.R.Rx.received c.take_reply.new.replies) c.in_ok-take_reply.field-0 c.in-Awaited.reply c.in-Awaited.is c.in_ok-take_reply.ensures.hears).1 in
     let as_many = ap length items in
     omega (arith, as_many, c.take_reply.ensures.room, c.in_ok-reserve_one.ensures.room)
-
-pub work-requires-clause-none_kept : goal.work-requires-clause-none_kept
-work-requires-clause-none_kept g c =
-    (its_work c.args.local.now c.reserve_one.new.answers c.reserve_one.ensures.items
-    (map g.T.Tx.sent c.args.ends.now.requests.items) (g.R.Rx.received c.args.ends.now.replies) c.requires.keeps c.requires.asks c.requires.waits
-    c.take_reply.new.local (g.R.Rx.received c.take_reply.new.replies) c.in_ok-take_reply.field-0 c.in-Awaited.reply c.in-Awaited.is c.in_ok-take_reply.ensures.hears).4
 
 pub returns-in-Nothing-clause-keeps : goal.returns-in-Nothing-clause-keeps
 returns-in-Nothing-clause-keeps g c =

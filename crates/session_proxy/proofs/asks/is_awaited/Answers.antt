@@ -8,7 +8,7 @@ use Rattle.session_proxy.proofs.asks.is_awaited.Goals as goal
 pub returns-then-key-key_asked : goal.returns-then-key-key_asked
 returns-then-key-key_asked c =
     let place : c.len.result ≡ length c.args.local.now.answers.items = omega arith in
-    let read = read_is_open (course_of c.args.local.now) _ _ _ c.as_slice.ensures place c.requires.open c.index-as_slice-len.is in
+    let read = read_is_open (course_of c.args.local.now) _ _ _ c.as_slice.ensures place c.requires.left c.index-as_slice-len.is in
     λ line is. let same : c.index-as_slice-len.result ≡ line = cc in (
       λ yes. grind (arith, tells_apart clock_exact),
       λ fits. rw (c.eq.ensures, c.required.ensures, fits.3, c.in-Asks.is) (clock_equivalence.refl c.in-Asks.required),
@@ -17,5 +17,5 @@ returns-then-key-key_asked c =
 pub returns-else-key-key_asked : goal.returns-else-key-key_asked
 returns-else-key-key_asked c =
     let place : c.len.result ≡ length c.args.local.now.answers.items = omega arith in
-    let read = read_is_open (course_of c.args.local.now) _ _ _ c.as_slice.ensures place c.requires.open c.index-as_slice-len.is in
+    let read = read_is_open (course_of c.args.local.now) _ _ _ c.as_slice.ensures place c.requires.left c.index-as_slice-len.is in
     λ line is. let same : c.index-as_slice-len.result ≡ line = cc in grind arith
