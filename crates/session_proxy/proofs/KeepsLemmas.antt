@@ -1,4 +1,4 @@
--- What a proxy keeps, once its open line is answered.
+-- What a proxy keeps while its open line stays open, and once it is answered.
 use Rattle.std.specs.Prelude.{◌≡◌, ℕ, ◌+◌, ◌*◌, ◌-◌, ◌≤◌, ◌<◌, Bool, false, is_some, List, [], ◌∷◌, ◌++◌, All, drop, flat_map, length, map, slice_index_or, sum_by, unwrap_or, option_map, Option, Some, None, IfSome}
 use Rattle.std.proofs.Common.{◌∙◌, refl, sym, ap, subst, arith, append-nil, length-append}
 use Rattle.std.proofs.lemmas.Grind.{flat_map-append}

@@ -262,7 +262,7 @@ fn asks_on_seven_times<C: Consistency>(
     Ok(())
 }
 
-/// The number, the Lamport number and the place of the put that a worker is asked next, with its key.
+/// The key, the number, the Lamport number and the place of the put that a worker is asked next.
 fn put_asked<C: Consistency>(
     desk: &mut Desk<C>,
     worker: u16,
