@@ -46,7 +46,7 @@ kind_tells Versions Versions is = refl
 kind_tells a b is = absurd (false≢true is)
 
 -- a kind is itself
-kind_itself : (kind : Kind) → is_kind kind kind ≡ true
+pub kind_itself : (kind : Kind) → is_kind kind kind ≡ true
 kind_itself Max = refl
 kind_itself Or = refl
 kind_itself Set = refl

@@ -5,6 +5,7 @@ use Rattle.std.proofs.lemmas.Bool.{le-leb, lt-leb, eq-eqb}
 use Rattle.std.proofs.lemmas.List.Elements.{All-head, All-tail, All-map, All-weaker, All-contains, All-contains_itself, filter-append}
 use Rattle.lattice_laws.specs.Greatest.{IsGreatestOrZero}
 use Rattle.lattice_laws.proofs.GreatestOfListsLemmas.{greatest_or_zero_is_single}
+use Rattle.lattice_laws.proofs.ListLemmas.{filter_all}
 use Rattle.lattice_laws.proofs.MembersLemmas.{contains_filter, contains_map}
 use Rattle.clock_lattice.specs.Clock.{count_of, covers}
 use Rattle.clock_lattice.proofs.ClockLemmas.{covers_from_counts}
@@ -15,21 +16,14 @@ use Rattle.composed_value.specs.Sound.{counted, IsSound}
 use Rattle.composed_value.specs.Keyed.{puts_on, kind_at}
 use Rattle.composed_value.specs.declared.kind.Kind.{Kind}
 use Rattle.composed_value.specs.declared.put.Put.{Put}
-use Rattle.session_known.proofs.NumberedLemmas.{made_on-append}
+use Rattle.session_known.proofs.NumberedLemmas.{greatest_of_next, made_on-append}
 use Rattle.session_known.specs.Accepted.{made_on, AreNext}
 use Rattle.session_known.specs.declared.script.Script.{Script}
 use Rattle.composed_value.proofs.KeyedLemmas.{puts_on-append}
 use Rattle.one_worker.proofs.OneWorker.{cell_at}
-use Rattle.one_worker.proofs.OnePutsLaws.{ArePutsIn, each_on_key, of_kind_on, next_rest, greater_of_next, greatest_of_next, puts_in_front}
+use Rattle.one_worker.proofs.OnePutsLaws.{ArePutsIn, each_on_key, of_kind_on, next_rest, greater_of_next, puts_in_front}
 
--- a filter keeps all where all pass
-filter_all : {X : Type 0} (test : X → Bool) (xs : List X) → All (λ x. test x ≡ true) xs → filter test xs ≡ xs
-filter_all test [] all = refl
-filter_all test (x ∷ xs) all =
-    ap (λ b. cond b (x ∷ filter test xs) (filter test xs)) (All-head (λ x. test x ≡ true) x xs all)
-    ∙ ap (λ rest. x ∷ rest) (filter_all test xs (All-tail (λ x. test x ≡ true) x xs all))
-
--- and none where none passes
+-- a filter keeps none where none passes
 filter_none : {X : Type 0} (test : X → Bool) (xs : List X) → All (λ x. test x ≡ false) xs → filter test xs ≡ []
 filter_none test [] all = refl
 filter_none test (x ∷ xs) all =

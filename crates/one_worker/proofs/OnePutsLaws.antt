@@ -1,19 +1,17 @@
 -- Puts that a run has accepted so far: each is one that the script may lead to, and those of a session on a key are numbered 1, 2 and so on.
-use Rattle.std.specs.Prelude.{◌≡◌, ◌≢◌, ℕ, ◌+◌, ◌<◌, ◌≤◌, ◌==◌, Bool, true, false, cond, List, [], ◌∷◌, ◌++◌, length, map, filter, slice_index_or, All, Contains}
+use Rattle.std.specs.Prelude.{◌≡◌, ◌≢◌, ℕ, ◌+◌, ◌<◌, ◌==◌, Bool, true, false, cond, List, [], ◌∷◌, ◌++◌, length, map, filter, All}
 use Rattle.std.specs.Ordering.{nat_cmp}
 use Rattle.std.proofs.Common.{refl, sym, ap, subst, ◌∙◌, inl, inr, arith}
 use Rattle.std.proofs.lemmas.Bool.{eqb-true, cases_eq}
-use Rattle.std.proofs.lemmas.List.{get_or-map, length-map}
-use Rattle.std.proofs.lemmas.List.Elements.{All-nil, All-cons, All-head, All-tail, All-map, All-push, All-weaker, All-contains, Contains-get_or}
+use Rattle.std.proofs.lemmas.List.Elements.{All-nil, All-cons, All-head, All-tail, All-push, All-weaker}
 use Rattle.lattice_laws.specs.Entries.{IsMap}
-use Rattle.lattice_laws.specs.Greatest.{IsGreatestOrZero}
 use Rattle.lattice_laws.proofs.ListLemmas.{All-front}
 use Rattle.clock_lattice.specs.Clock.{IsCount}
 use Rattle.composed_value.specs.PlainValue.{IsPutOf}
 use Rattle.composed_value.specs.Keyed.{puts_on, kind_at}
 use Rattle.composed_value.specs.declared.put.Put.{Put}
 use Rattle.session_known.specs.Accepted.{made_on, AreNext}
-use Rattle.session_known.proofs.NumberedLemmas.{number_at, made_on-append, made_here, made_elsewhere, made_by_other}
+use Rattle.session_known.proofs.NumberedLemmas.{next-append, number_at, made_on-append, made_here, made_elsewhere, made_by_other}
 use Rattle.placement.specs.Config.{IsOneOf}
 use Rattle.session_known.specs.declared.script.Script.{Script}
 
@@ -59,30 +57,9 @@ next_rest n (put ∷ made) more are =
     let same : n + 1 + length made ≡ n + length (put ∷ made) = omega arith in
     subst (λ m. AreNext m more) same (next_rest (n + 1) made more are.1)
 
--- together they follow it
-pub next_both : (n : ℕ) (made more : List Put) → AreNext n made → AreNext (n + length made) more → AreNext n (made ++ more)
-next_both n [] more are are_more = let same : n + 0 ≡ n = omega arith in subst (λ m. AreNext m more) same are_more
-next_both n (put ∷ made) more are are_more =
-    let same : n + length (put ∷ made) ≡ n + 1 + length made = omega arith in
-    (are.0, next_both (n + 1) made more are.1 (subst (λ m. AreNext m more) same are_more))
-
 -- the numbers of puts that follow a number are greater
 pub greater_of_next : (n : ℕ) (made : List Put) → AreNext n made → All (λ put. n < put.number) made
 greater_of_next n made are = λ k d within. omega (arith, number_at n made are k d within)
-
--- and the greatest that follows 0 is how many there are
-pub greatest_of_next : (made : List Put) → AreNext 0 made → IsGreatestOrZero (map (λ put. put.number) made) (length made)
-greatest_of_next [] are = (λ m has. absurd (omega (arith, has.1)), inr refl)
-greatest_of_next (put ∷ others) are =
-    let made : List Put = put ∷ others in
-    let number_of : Put → ℕ = λ p. p.number in
-    let numbers : List ℕ = map number_of made in
-    let within : length others < length numbers = omega (arith, length-map made number_of) in
-    let last : slice_index_or numbers (length others) 0 ≡ length made =
-    get_or-map number_of made (length others) put 0 (omega arith) ∙ number_at 0 made are (length others) put (omega arith) ∙ omega arith in (
-      (λ m has. All-contains (λ m. m ≤ length made) numbers m (All-map (λ m. m ≤ length made) number_of made (λ k d inside. omega (arith, inside, number_at 0 made are k d inside))) has),
-      inl (subst (Contains numbers) last (Contains-get_or numbers (length others) 0 within)),
-    )
 
 -- the front of such puts
 pub puts_in_front : (script : Script) (done more : List (ℕ × Put)) → ArePutsIn script (done ++ more) → ArePutsIn script done
@@ -109,7 +86,7 @@ next_put_in script done key put are is next = record {
   each = All-push (λ entry. IsPutIn script entry.0 entry.1) done (key, put) are.each is;
   numbered = λ session q.
       subst (AreNext 0) (sym (made_on-append session q done ((key, put) ∷ [])))
-      (next_both 0 (made_on session q done) (made_on session q ((key, put) ∷ [])) (are.numbered session q) (one_follows session q));
+      (next-append 0 (made_on session q done) (made_on session q ((key, put) ∷ [])) (are.numbered session q) (one_follows session q));
 }
   where
     -- the one put follows those before it, or is no put of the session on the key

@@ -58,7 +58,7 @@ shown_alike session Eventual knows key cell = refl
 shown_alike session Committed knows key cell = refl
 
 -- the state after a cell is shown
-found_after : (client : Client) (state : State) (line : Line) (asks worker : ℕ) (cell : PlainCell) → IsAsked line
+pub found_after : (client : Client) (state : State) (line : Line) (asks worker : ℕ) (cell : PlainCell) → IsAsked line
     → record { knows = knows_shown client state.knows (key_asked line) (shown_of cell); held = state.held } ≡ after client state line (answer_shown client.level asks worker (Found cell))
 found_after client state (lines.Get key named) asks worker cell asked =
     ap (λ knows. record { knows = knows; held = state.held }) (shown_alike client.session client.level state.knows key cell)

@@ -102,7 +102,7 @@ asks_by_replies table client state first lines.Commit answer its is = sym (ap le
 asks_by_replies table client state first lines.Abort answer its is = sym (ap length is.1)
 
 -- what is answered again lacks something that is required, and nothing is required outside of causal sessions
-again_is_causal : (level : Level) (knows : Knowledge) (key : ℕ) (clock : List (ℕ × ℕ)) → IsAnswer (required_by_get level knows key) (Again clock) → level ≡ levels.Causal
+pub again_is_causal : (level : Level) (knows : Knowledge) (key : ℕ) (clock : List (ℕ × ℕ)) → IsAnswer (required_by_get level knows key) (Again clock) → level ≡ levels.Causal
 again_is_causal levels.Causal knows key clock fits = refl
 again_is_causal levels.Eventual knows key clock fits = absurd (true≢false (sym fits))
 again_is_causal levels.Committed knows key clock fits = absurd (true≢false (sym fits))

@@ -8,7 +8,7 @@ use Rattle.std.proofs.lemmas.List.Elements.{All-append, All-contains, All-cons, 
 use Rattle.lattice_laws.specs.Joins.{MayJoin}
 use Rattle.lattice_laws.proofs.GreatestOfListsLemmas.{in_either}
 use Rattle.lattice_laws.proofs.JoinsLemmas.{above_left, above_through, joined_all_by_members}
-use Rattle.lattice_laws.proofs.ListLemmas.{All-front}
+use Rattle.lattice_laws.proofs.ListLemmas.{All-back, All-front}
 use Rattle.lattice_laws.proofs.MembersLemmas.{contains_cases, contains_filter, contains_first, contains_later, contains_map, contains_none}
 use Rattle.clock_lattice.specs.Clock.{count_of, covers}
 use Rattle.clock_lattice.proofs.CoverageLemmas.{clock_coverage}
@@ -19,14 +19,13 @@ use Rattle.composed_value.specs.Kind.{kind_of, kind_of_value}
 use Rattle.composed_value.specs.PlainValue.{IsPutOf}
 use Rattle.composed_value.specs.Put.{IsPut}
 use Rattle.composed_value.specs.declared.kind.Kind.{Kind}
-use Rattle.composed_value.specs.declared.kind.Kind.TheVariants.{Max, Or, Set, Map, Last, Versions}
 use Rattle.composed_value.specs.declared.put.Put.{Put}
 use Rattle.composed_value.proofs.CellOfLemmas.{cell_of_is_cell, one_put_is_cell}
 use Rattle.composed_value.proofs.KeyedLemmas.{puts_on-append}
 use Rattle.composed_value.proofs.PlainValueLemmas.{value_has_kind}
 use Rattle.composed_value.proofs.ValidValueLemmas.{put_has_kind}
 use Rattle.merge_world.specs.Effects.{is_kind}
-use Rattle.merge_world.proofs.CellsLemmas.{kind_tells}
+use Rattle.merge_world.proofs.CellsLemmas.{kind_itself, kind_tells}
 use Rattle.store_msg.specs.declared.request.Request.{Request}
 use Rattle.store_msg.specs.declared.request.Request.TheVariants as requests
 use Rattle.worker_core.specs.Kept.{IsRequest}
@@ -120,18 +119,9 @@ joined_swapped kind first xs ys of_first of_xs of_ys =
 abbrev is_of_kind : Kind → Put → Bool
 is_of_kind kind put = is_kind (kind_of put.payload) kind
 
--- a kind is itself
-same_kind : (kind : Kind) → is_kind kind kind ≡ true
-same_kind Max = refl
-same_kind Or = refl
-same_kind Set = refl
-same_kind Map = refl
-same_kind Last = refl
-same_kind Versions = refl
-
 -- the test passes a put of the kind
 passes_kind : (kind : Kind) (put : Put) → kind_of put.payload ≡ kind → is_of_kind kind put ≡ true
-passes_kind kind put is = subst (λ of_put. is_kind of_put kind ≡ true) (sym is) (same_kind kind)
+passes_kind kind put is = subst (λ of_put. is_kind of_put kind ≡ true) (sym is) (kind_itself kind)
 
 -- the puts among two lists of requests
 pub puts_in-append : (xs ys : List (ℕ × Request)) → puts_in (xs ++ ys) ≡ puts_in xs ++ puts_in ys
@@ -165,7 +155,7 @@ own_cell-push kind key worked message =
     own_cell-append kind key worked (message ∷ []) ∙ ap (λ puts. joined_with (own_cell kind key worked) (more puts)) (append-nil (put_in message.1))
 
 -- an entry has a put that there can be
-abbrev HasPut : ℕ × Put → Type 0
+abbrev pub HasPut : ℕ × Put → Type 0
 HasPut entry = IsPut entry.1
 
 -- and is on a key
@@ -181,7 +171,7 @@ put_is (requests.Put key put) is =
 put_is (requests.Get ask key required) is = All-nil HasPut
 
 -- so are those of a list of such requests
-puts_are : (messages : List (ℕ × Request)) → AreRequests messages → All HasPut (puts_in messages)
+pub puts_are : (messages : List (ℕ × Request)) → AreRequests messages → All HasPut (puts_in messages)
 puts_are [] all = All-nil HasPut
 puts_are (message ∷ rest) all =
     All-append HasPut (put_in message.1) (puts_in rest)
@@ -225,11 +215,6 @@ own_is kind key worked are =
 pub own_is_cell : (kind : Kind) (key : ℕ) (worked : List (ℕ × Request)) → AreRequests worked → IsCell (own_cell kind key worked)
 own_is_cell kind key worked are = (own_is kind key worked are).is_cell
 
--- what holds of each of two lists holds of each of the second
-all_back : {X : Type 0} (P : X → Type 0) (xs ys : List X) → All P (xs ++ ys) → All P ys
-all_back P [] ys all = all
-all_back P (x ∷ xs) ys all = all_back P xs ys (All-tail P x (xs ++ ys) all)
-
 -- with further requests the cell only grows
 pub own_grows : (kind : Kind) (key : ℕ) (front back : List (ℕ × Request)) → AreRequests (front ++ back)
     → IsAtMost (own_cell kind key front) (own_cell kind key (front ++ back))
@@ -238,7 +223,7 @@ own_grows kind key front back are =
     let more : List Put = puts_of kind key back in
     subst (IsAtMost (own_cell kind key front)) (sym (own_cell-append kind key front back))
     (joined_at_least kind (own_cell kind key front) (map one_put_cell more) (own_is kind key front (All-front is_request front back are))
-    (ones_are kind more (of_kind_are kind key (puts_in back) (puts_are back (all_back is_request front back are)))))
+    (ones_are kind more (of_kind_are kind key (puts_in back) (puts_are back (All-back is_request front back are)))))
 
 -- a put with a number that stands among requests is one of their puts
 put_among : (key : ℕ) (worked : List (ℕ × Request)) (session : ℕ) (put : Put) → 1 ≤ put.number → Contains worked (session, requests.Put key put)

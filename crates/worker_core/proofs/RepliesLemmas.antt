@@ -23,20 +23,24 @@ use Rattle.worker_core.specs.Share.{AreAnswered, Asked, CoversEarlier, IsAnswerC
 use Rattle.worker_core.specs.State.{Entries, IsFixed, Lists, State, lives_at}
 use Rattle.worker_core.specs.Turns.{HandsOver, Serves, reply_to}
 
--- one more request adds its get, if it is one of the session
+-- the gets among two lists of requests
+pub gets_after-append : (session : ℕ) (before worked more : List (ℕ × Request))
+    → gets_after session before (worked ++ more) ≡ gets_after session before worked ++ gets_after session (before ++ worked) more
+gets_after-append session before [] more = ap (λ so_far. gets_after session so_far more) (sym (append-nil before))
+gets_after-append session before (first ∷ worked) more =
+    let of_first : List Asked = if first.0 == session then asked_by before first.1 else [] in
+    let after : List Asked = gets_after session (before ++ first ∷ []) worked in
+    ap (λ gets. of_first ++ gets)
+    (gets_after-append session (before ++ first ∷ []) worked more ∙ ap (λ so_far. after ++ gets_after session so_far more) (append_assoc before (first ∷ []) worked))
+    ∙ sym (append_assoc of_first after (gets_after session (before ++ first ∷ worked) more))
+
+-- so one more request adds its get, if it is one of the session
 pub gets_more : (session : ℕ) (before worked : List (ℕ × Request)) (message : ℕ × Request)
     → gets_after session before (worked ++ message ∷ [])
     ≡ gets_after session before worked ++ (if message.0 == session then asked_by (before ++ worked) message.1 else [])
-gets_more session before [] message =
-    let own : List (ℕ × Request) → List Asked = λ so_far. if message.0 == session then asked_by so_far message.1 else [] in
-    append-nil (own before) ∙ ap own (sym (append-nil before))
-gets_more session before (first ∷ worked) message =
-    let of_first : List Asked = if first.0 == session then asked_by before first.1 else [] in
-    let own : List (ℕ × Request) → List Asked = λ so_far. if message.0 == session then asked_by so_far message.1 else [] in
-    let after : List Asked = gets_after session (before ++ first ∷ []) worked in
-    ap (λ gets. of_first ++ gets)
-    (gets_more session (before ++ first ∷ []) worked message ∙ ap (λ so_far. after ++ own so_far) (append_assoc before (first ∷ []) worked))
-    ∙ sym (append_assoc of_first after (own (before ++ first ∷ worked)))
+gets_more session before worked message =
+    gets_after-append session before worked (message ∷ [])
+    ∙ ap (λ gets. gets_after session before worked ++ gets) (append-nil (if message.0 == session then asked_by (before ++ worked) message.1 else []))
 
 -- what is made from some entries is made from these and more
 pub made_with_more : (kind : Kind) (key : ℕ) (before : List (ℕ × Request)) (entries more : Entries) (cell : PlainCell)
@@ -141,7 +145,7 @@ answered_on before now {worked} {joined} more answered same long held fixed =
       held = still.held;
       each = λ session is.
           all_zip_weaker (IsReplyTo now.state joined) (IsReplyTo now.state (joined ++ more))
-          (λ get reply answers. reply_with_more more answers (record { me = refl; round = refl; placement = refl; kinds = refl }))
+          (λ get reply answers. reply_with_more {before = now.state} {now = now.state} more answers (record { me = refl; round = refl; placement = refl; kinds = refl }))
           (gets_after session [] worked) (replies_to now session) (still.each session is);
       rising = still.rising;
     }

@@ -101,12 +101,16 @@ abbrev pub shown_of : Option KeyCells → PlainCell
 shown_of None = empty_cell Max
 shown_of (Some cells) = cells.whole
 
--- A reply answers a get: it has the get's ask, key and required clock and the worker's number, and is made from the puts before it and from
--- entries that were joined.
-pub record IsReplyTo (state : State) (joined : List (ℕ × Entries)) (get : Asked) (reply : PlainReply) : Type 0 where
+-- A reply of a worker answers a get: it has the get's ask, key and required clock and the worker's number, and is made from the puts before
+-- it and from entries that were joined.
+pub record IsReplyBy (me : ℕ) (placement : List (List ℕ)) (kinds : List Kind) (joined : List (ℕ × Entries)) (get : Asked) (reply : PlainReply) : Type 0 where
   pub cell : PlainCell
-  pub is : reply ≡ reply_of get.ask state.me get.key get.required cell
-  pub made : IsAnswerCell (lives_at state.placement state.me get.key) (kind_at state.kinds get.key) get.key get.before (entries_in joined) cell
+  pub is : reply ≡ reply_of get.ask me get.key get.required cell
+  pub made : IsAnswerCell (lives_at placement me get.key) (kind_at kinds get.key) get.key get.before (entries_in joined) cell
+
+-- and so of a worker in a state
+abbrev pub IsReplyTo : State → List (ℕ × Entries) → Asked → PlainReply → Type 0
+IsReplyTo state = IsReplyBy state.me state.placement state.kinds
 
 -- on one key the clock of a later reply covers that of an earlier one
 abbrev pub CoversEarlier : PlainReply → PlainReply → Type 0

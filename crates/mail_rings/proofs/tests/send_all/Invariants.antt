@@ -1,4 +1,4 @@
-use Rattle.std.proofs.Common.{◌≡◌, ◌+◌, ◌<◌, ◌≤◌}
+use Rattle.std.proofs.Common.{◌≡◌}
 use Rattle.mail_rings.specs.Rings.{tx_ring}
 use Rattle.mail_rings.proofs.tests.send_all.Given as goal
 

@@ -1,6 +1,6 @@
-use Rattle.std.proofs.Common.{◌≡◌, ◌∙◌, ℕ, map, List}
+use Rattle.std.proofs.Common.{◌∙◌, ℕ, map, List}
 use Rattle.mail_contract.specs.Lanes.{about_of}
-use Rattle.mail_contract.specs.Standing.{About, AllStand}
+use Rattle.mail_contract.specs.Standing.{About}
 use Rattle.mail_rings.specs.Rings.{lane_of}
 use Rattle.mail_rings.specs.declared.lane.RingLane.{RingLane}
 use Rattle.mail_rings.specs.declared.tests.Note.{Note}

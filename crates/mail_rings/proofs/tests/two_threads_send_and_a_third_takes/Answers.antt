@@ -1,4 +1,4 @@
-use Rattle.std.proofs.Common.{◌≡◌, ◌≢◌, ◌≤◌, ◌∙◌, ap, sym, arith}
+use Rattle.std.proofs.Common.{◌≡◌, ◌≢◌, ◌∙◌, ap, arith}
 use Rattle.mail_contract.proofs.MapsLemmas.{popped_two}
 use Rattle.mail_contract.proofs.StandsLemmas.{apart_is_not_settled}
 use Rattle.mail_rings.proofs.tests.two_threads_send_and_a_third_takes.Goals as goal
