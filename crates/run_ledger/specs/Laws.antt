@@ -1,0 +1,21 @@
+-- What the lists of the parties of a run make of its report.
+use Rattle.std.specs.Prelude.{ℕ, List}
+use Rattle.session_known.specs.Accepted.{accepted}
+use Rattle.session_known.specs.Legal.{IsLegalAt}
+use Rattle.session_known.specs.Script.{IsValidScript}
+use Rattle.session_known.specs.declared.report.Report.{Report}
+use Rattle.session_known.specs.declared.script.Script.{Script}
+use Rattle.run_ledger.specs.Came.{Came, IsSettled}
+use Rattle.run_ledger.specs.Causality.{AreCausal}
+use Rattle.run_ledger.specs.Ledger.{Ledger}
+
+-- what a report that came so is: legal, and its puts depend on puts with smaller Lamport numbers alone
+pub record IsLegalAndCausal (script : Script) (table : List (List ℕ)) (report : Report) : Type 0 where
+  pub legal : IsLegalAt table script report
+  pub causal : AreCausal (accepted script report)
+
+-- A report of a valid script that came from a ledger whose gossip has settled is so.
+abbrev pub LedgersMakeLegalReports : Type 0
+LedgersMakeLegalReports =
+    (script : Script) (table : List (List ℕ)) (report : Report) (ledger : Ledger) → IsValidScript script table → Came script table report ledger
+    → IsSettled table ledger → IsLegalAndCausal script table report

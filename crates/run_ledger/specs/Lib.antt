@@ -1,0 +1,4 @@
+pub mod Came
+pub mod Causality
+pub mod Ledger
+pub mod Laws
