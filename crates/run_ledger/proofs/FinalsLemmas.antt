@@ -51,7 +51,7 @@ all_pieces P pieces (x ∷ xs) all =
     All-append P (pieces x) (flat_map pieces xs) (All-head (λ x. All P (pieces x)) x xs all) (all_pieces P pieces xs (All-tail (λ x. All P (pieces x)) x xs all))
 
 -- what is in a piece is in all pieces
-in_piece : {X Y : Type 0} (pieces : X → List Y) (xs : List X) (x : X) (y : Y) → Contains xs x → Contains (pieces x) y → Contains (flat_map pieces xs) y
+pub in_piece : {X Y : Type 0} (pieces : X → List Y) (xs : List X) (x : X) (y : Y) → Contains xs x → Contains (pieces x) y → Contains (flat_map pieces xs) y
 in_piece pieces [] x y has_x has_y = absurd (contains_none x has_x)
 in_piece pieces (first ∷ xs) x y has_x has_y = elim (contains_cases first x xs has_x) [
   | inl same ↦ Contains-append_left (pieces first) (flat_map pieces xs) y (subst (λ its. Contains (pieces its) y) (sym same) has_y)
@@ -64,7 +64,7 @@ of_some make None y is = absurd (none-some y is)
 of_some make (Some x) y is = (x, refl, same_Some (make x) y is)
 
 -- an option that is some
-is_there : {X : Type 0} (option : Option X) → is_some option ≡ true → (x : X) × (option ≡ Some x)
+pub is_there : {X : Type 0} (option : Option X) → is_some option ≡ true → (x : X) × (option ≡ Some x)
 is_there None is = absurd (false≢true is)
 is_there (Some x) is = (x, refl)
 

@@ -5,7 +5,11 @@ pub mod CausalityLemmas
 pub mod CellsInFormLemmas
 pub mod ClosedKnowledgeLemmas
 pub mod ClosedNeedsLemmas
+pub mod DrainedLemmas
 pub mod EarlierLemmas
+pub mod EndedGossipLemmas
+pub mod EndedRepliesLemmas
+pub mod EndedSessionsLemmas
 pub mod FinalsLemmas
 pub mod FormLemmas
 pub mod FrontsLemmas
@@ -23,11 +27,13 @@ pub mod NamedValuesLemmas
 pub mod OnKeyLemmas
 pub mod OwnPutsLemmas
 pub mod OwnSoundLemmas
+pub mod PartiesLemmas
 pub mod PutsInScriptLemmas
 pub mod ReplicasLemmas
 pub mod RepliersLemmas
 pub mod RepliesLemmas
 pub mod RequestsLemmas
+pub mod SealedLemmas
 pub mod SeenSessionsLemmas
 pub mod SentPutsLemmas
 pub mod SessionsLemmas

@@ -40,11 +40,11 @@ use Rattle.run_ledger.proofs.AnsweredLemmas.{as_many, lines_have, numbered}
 use Rattle.run_ledger.proofs.AskedLemmas.{asked_is_replica, holds_key, key_known}
 use Rattle.run_ledger.proofs.EarlierLemmas.{HasShown, asked_last, asks_are, earlier_shown, lacked, lacking_asked, last_asked_is, replied_as}
 use Rattle.run_ledger.proofs.FrontsLemmas.{own_in_front}
-use Rattle.run_ledger.proofs.GetsLemmas.{IsMadeFor, as_many_replied, from_worker, from_worker-append, gets_in, gets_to, gets_to-append, lines_as_many, made_for}
+use Rattle.run_ledger.proofs.GetsLemmas.{IsMadeFor, as_many_replied, from_worker, from_worker-append, gets_in, gets_to-append, lines_as_many, made_for}
 use Rattle.run_ledger.proofs.MomentsLemmas.{Moment, in_all, pairs, sent_for}
 use Rattle.run_ledger.proofs.RepliersLemmas.{replica_is_worker}
 use Rattle.run_ledger.proofs.RepliesLemmas.{its, pairs_across, replies_at, rising_at}
-use Rattle.run_ledger.proofs.RequestsLemmas.{no_puts_asked, of_lines, puts_there, puts_there-append}
+use Rattle.run_ledger.proofs.RequestsLemmas.{no_puts_asked, of_lines, puts_there-append}
 use Rattle.run_ledger.proofs.SessionsLemmas.{IsSession, answers_at, client_at, lines_at, own_made}
 use Rattle.run_ledger.proofs.SoundLemmas.{IsSoundAt, home_counts, made_at, received_by}
 use Rattle.run_ledger.proofs.WorkersLemmas.{IsWorker, came_here, came_to, worker_came}

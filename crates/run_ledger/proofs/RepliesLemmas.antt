@@ -19,7 +19,7 @@ use Rattle.run_ledger.proofs.SessionsLemmas.{IsSession, answers_at, client_at, l
 use Rattle.run_ledger.proofs.WorkersLemmas.{IsWorker, is_worker, me_is, worker_came}
 
 -- what holds of each second item of pairs that are related
-zip_right : {A B : Type 0} (R : A → B → Type 0) (P : B → Type 0) → ((a : A) (b : B) → R a b → P b) → (xs : List A) (ys : List B) → AllZip R xs ys → All P ys
+pub zip_right : {A B : Type 0} (R : A → B → Type 0) (P : B → Type 0) → ((a : A) (b : B) → R a b → P b) → (xs : List A) (ys : List B) → AllZip R xs ys → All P ys
 zip_right R P each [] [] all = All-nil P
 zip_right R P each (x ∷ xs) (y ∷ ys) all = All-cons P y ys (each x y all.0) (zip_right R P each xs ys all.1)
 zip_right R P each [] (y ∷ ys) all = absurd all
@@ -37,7 +37,7 @@ pairs_across R xs ys x y all has_x has_y =
     (all has_x.0 (length xs + has_y.0) x (omega (arith, has_x.1)) (omega (arith, has_y.1, length-append xs ys))))
 
 -- messages whose senders are their replies' workers
-all_by_worker : (heard : List (ℕ × PlainReply)) → All (λ message. message.1.worker ≡ message.0) heard → heard ≡ by_worker (map (λ message. message.1) heard)
+pub all_by_worker : (heard : List (ℕ × PlainReply)) → All (λ message. message.1.worker ≡ message.0) heard → heard ≡ by_worker (map (λ message. message.1) heard)
 all_by_worker [] are = refl
 all_by_worker (message ∷ heard) are =
     let is = All-head (λ (m : ℕ × PlainReply). m.1.worker ≡ m.0) message heard are in

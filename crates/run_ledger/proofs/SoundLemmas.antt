@@ -1,6 +1,6 @@
 -- Every cell at a worker is sound: what it joined itself after any front of what it received, what it heard, and the join of both. At the home
 -- of a session it counts no more puts of that one than came there.
-use Rattle.std.specs.Prelude.{◌≡◌, ◌≢◌, ◌+◌, ℕ, List, [], ◌++◌, All, Contains, length, Some}
+use Rattle.std.specs.Prelude.{◌≡◌, ◌≢◌, ℕ, List, [], ◌++◌, All, Contains, length, Some}
 use Rattle.std.proofs.Common.{◌∙◌, sym, ap, subst}
 use Rattle.std.proofs.lemmas.List.Elements.{All-contains, All-weaker}
 use Rattle.lattice_laws.proofs.ListLemmas.{All-front}

@@ -1,6 +1,6 @@
 -- How a report came to be, from what the parties of its run each have in hand: which requests came to each worker, which gossip, and which
 -- replies came back. It says of no two parties that one did something before the other.
-use Rattle.std.specs.Prelude.{◌≡◌, ◌≢◌, ◌==◌, ◌⊎◌, ℕ, ◌+◌, IsTrue, List, [], ◌∷◌, All, AllPairs, Contains, flat_map, is_some, length, map, Some, option_map, ⊤}
+use Rattle.std.specs.Prelude.{◌≡◌, ◌≢◌, ◌⊎◌, ℕ, ◌+◌, IsTrue, List, [], ◌∷◌, All, AllPairs, Contains, flat_map, is_some, length, map, Some, option_map, ⊤}
 use Rattle.std.specs.List.{AllZip, range_with_len}
 use Rattle.mail_contract.specs.Takes.{from_sender}
 use Rattle.merge_world.specs.Effects.{cells_at}

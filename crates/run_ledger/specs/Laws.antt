@@ -8,6 +8,7 @@ use Rattle.session_known.specs.declared.script.Script.{Script}
 use Rattle.run_ledger.specs.Came.{Came, IsSettled}
 use Rattle.run_ledger.specs.Causality.{AreCausal}
 use Rattle.run_ledger.specs.Ledger.{Ledger}
+use Rattle.run_ledger.specs.Parties.{AreDrained, Parties, ledger_of}
 
 -- what a report that came so is: legal, and its puts depend on puts with smaller Lamport numbers alone
 pub record IsLegalAndCausal (script : Script) (table : List (List ℕ)) (report : Report) : Type 0 where
@@ -19,3 +20,14 @@ abbrev pub LedgersMakeLegalReports : Type 0
 LedgersMakeLegalReports =
     (script : Script) (table : List (List ℕ)) (report : Report) (ledger : Ledger) → IsValidScript script table → Came script table report ledger
     → IsSettled table ledger → IsLegalAndCausal script table report
+
+-- a report that came from a ledger whose gossip has settled
+pub record CameSettled (script : Script) (table : List (List ℕ)) (report : Report) (ledger : Ledger) : Type 0 where
+  pub came : Came script table report ledger
+  pub settled : IsSettled table ledger
+
+-- So did the report of parties that are drained.
+abbrev pub DrainedPartiesMakeLedgers : Type 0
+DrainedPartiesMakeLedgers =
+    (script : Script) (table : List (List ℕ)) (report : Report) (parties : Parties) → IsValidScript script table → AreDrained script table report parties
+    → CameSettled script table report (ledger_of parties)

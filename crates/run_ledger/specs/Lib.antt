@@ -1,4 +1,5 @@
 pub mod Came
 pub mod Causality
-pub mod Ledger
 pub mod Laws
+pub mod Ledger
+pub mod Parties

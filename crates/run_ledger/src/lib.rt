@@ -7,8 +7,11 @@
 //! from gossip that has settled, follows that the report is legal, and that what its puts depend on was
 //! accepted, bears smaller Lamport numbers and depends on no more: [`ledgers_make_legal_reports`].
 //!
+//! The parties of a run that is drained leave such a ledger: [`drained_parties_make_ledgers`].
+//!
 //! `specs/Ledger.antt` says what is in hand, `specs/Came.antt` how a report came from it and when its
-//! gossip has settled, `specs/Causality.antt` what causal puts are, and `specs/Laws.antt` the law.
+//! gossip has settled, `specs/Causality.antt` what causal puts are, `specs/Parties.antt` what a drained
+//! run leaves, and `specs/Laws.antt` the two laws.
 //!
 //! The crate stands on `worker_core` and `session_proxy`, whose definitions of a worker's share and of a
 //! session's replies it speaks in, and on those below them.
@@ -16,4 +19,4 @@
 
 mod laws;
 
-pub use laws::ledgers_make_legal_reports;
+pub use laws::{drained_parties_make_ledgers, ledgers_make_legal_reports};
