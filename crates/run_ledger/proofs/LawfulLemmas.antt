@@ -51,10 +51,10 @@ use Rattle.run_ledger.proofs.SessionsLemmas.{IsSession, answers_at, client_at, l
 use Rattle.run_ledger.proofs.ShownLemmas.{IsOfAccepted, IsOfSound, ShowsSound, shows_true}
 
 -- what a session is shown of a cell has the cell's top
-shown_top_is : (level : Level) (cell : PlainCell) → (shown_to level cell).top ≡ cell.top
-shown_top_is Causal cell = refl
-shown_top_is Eventual cell = refl
-shown_top_is Committed cell = refl
+shown_top_is : (level : Level) (of_key : PlainCell) → (shown_to level of_key).top ≡ of_key.top
+shown_top_is Causal of_key = refl
+shown_top_is Eventual of_key = refl
+shown_top_is Committed of_key = refl
 
 -- a line that asks makes no puts
 asks_make_none : (client : Client) (state : State) (line : Line) (answer : Answer) → IsAsked line → puts_by client state line answer ≡ []

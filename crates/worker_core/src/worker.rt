@@ -5,6 +5,7 @@ ghost use Rattle.mail_contract.specs.Boxes.{FindsNothing, FindsNothingWeak, MayH
 ghost use Rattle.mail_contract.specs.Standing.{AllPart, IsSettled, Learned};
 ghost use Rattle.mail_contract.specs.Takes.{IsFront, from_sender};
 ghost use Rattle.merge_world.specs.Effects.{cells_at};
+ghost use Rattle.worker_core.specs.Kept.{IsRequest};
 ghost use Rattle.worker_core.specs.Lag.{Lags};
 ghost use Rattle.worker_core.specs.Room.{LearnsRoomOf, RoomAt};
 ghost use Rattle.worker_core.specs.Sealed.{HoldsSealed, sealed_of};
@@ -155,10 +156,13 @@ impl<Q: Rx<Request>, T: Tx<Reply>, O: Tx<Batch>, G: GossipRx<Batch, From = O>> W
         did
     }
 
-    /// What the worker keeps from call to call. It does nothing.
-    pub(crate) fn attest(&self)
+    /// Tells what the worker keeps from call to call: its share, how far gossip lags, and that each request
+    /// that it received is one that there can be. It does nothing, and takes no memory.
+    pub fn attest(&self)
         ensures share { Share (lists_of Q.received T.sent O.sent G.got self.now) }
         ensures lags { Lags (lists_of Q.received T.sent O.sent G.got self.now) }
+        ensures requests { All (λ message. IsRequest message.1)
+            (Q.received self.now.ends.requests) }
     {
         let _ = &self.local;
     }

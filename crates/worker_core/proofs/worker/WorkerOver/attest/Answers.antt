@@ -1,4 +1,5 @@
-use Rattle.std.proofs.Common.{subst}
+use Rattle.std.proofs.Common.{All, subst}
+use Rattle.worker_core.specs.Kept.{IsRequest}
 use Rattle.worker_core.specs.Lag.{Lags}
 use Rattle.worker_core.specs.Local.{state_of}
 use Rattle.worker_core.specs.State.{lists_of}
@@ -11,3 +12,8 @@ returns-clause-lags g c =
     let keeps = c.self.invariant.keeps in
     subst (λ worker. Lags (lists_are worker)) c.self.view_is
     (lag_less c.self.inside.local.since c.self.inside.local.round (lists_are (record { state = state_of c.self.inside.local; ends = c.self.inside.ends })) keeps.since keeps.lags)
+
+pub returns-clause-requests : goal.returns-clause-requests
+returns-clause-requests g c =
+    let lists_are = lists_of g.Q.Rx.received g.T.Tx.sent g.O.Tx.sent g.G.GossipRx.got in
+    subst (λ worker. All (λ message. IsRequest message.1) (lists_are worker).received) c.self.view_is c.self.invariant.keeps.requests
