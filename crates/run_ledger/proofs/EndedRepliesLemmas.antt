@@ -27,7 +27,7 @@ use Rattle.run_ledger.proofs.SessionsLemmas.{IsSession, client_at, lines_at, pla
 use Rattle.run_ledger.proofs.WorkersLemmas.{IsWorker}
 
 -- a part of replies has of each worker no more than the whole
-part_few : {part whole : List PlainReply} → IsPartOf part whole → (worker : ℕ) → length (from_worker worker part) ≤ length (from_worker worker whole)
+pub part_few : {part whole : List PlainReply} → IsPartOf part whole → (worker : ℕ) → length (from_worker worker part) ≤ length (from_worker worker whole)
 part_few none worker = omega arith
 part_few (without x {part = part} {whole = whole} is) worker =
     let few = part_few is worker in

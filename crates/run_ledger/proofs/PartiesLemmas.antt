@@ -16,7 +16,7 @@ use Rattle.run_ledger.proofs.SessionsLemmas.{IsSession, client_at, from_first, n
 use Rattle.run_ledger.proofs.WorkersLemmas.{IsWorker}
 
 -- an item of a list that a function was applied to, inside it and past its end
-at_mapped : {X Y : Type 0} (f : X → Y) (none : X) (xs : List X) (place : ℕ) → slice_index_or (map f xs) place (f none) ≡ f (slice_index_or xs place none)
+pub at_mapped : {X Y : Type 0} (f : X → Y) (none : X) (xs : List X) (place : ℕ) → slice_index_or (map f xs) place (f none) ≡ f (slice_index_or xs place none)
 at_mapped f none [] place = refl
 at_mapped f none (x ∷ xs) zero = refl
 at_mapped f none (x ∷ xs) (suc place) = at_mapped f none xs place

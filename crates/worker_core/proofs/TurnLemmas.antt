@@ -14,7 +14,7 @@ use Rattle.store_msg.specs.declared.request.Request.{Request}
 use Rattle.worker_core.specs.Serving.{Resent, RoundsIf, Served, TakesGossip, TakesRequest, Worked, WorksOn, did_of, rests_as}
 use Rattle.worker_core.specs.Share.{owed_to}
 use Rattle.worker_core.specs.State.{Entries, Lists, PlainWorker, State, changed_of, dirty, lists_of}
-use Rattle.worker_core.specs.Turns.{Counts, Gossips, HaveRoom, Hears, IsBlocked, IsGot, IsIdle, IsTaken, IsUnmoved, KeepsBatch, KeepsRequest, Rounds, Serves, SomeRose, Turns, batches, marked_at, reply_from, served}
+use Rattle.worker_core.specs.Turns.{AreFirstBack, Counts, Gossips, HaveRoom, Hears, IsBlocked, IsGot, IsIdle, IsTaken, IsUnmoved, KeepsBatch, KeepsRequest, OnNoneSent, Rounds, Serves, SomeRose, Turns, batches, joined_in, marked_at, reply_from, served}
 use Rattle.worker_core.specs.declared.did.Did.{Did}
 use Rattle.worker_core.specs.declared.did.Did.TheVariants as did
 use Rattle.worker_core.specs.declared.popped.Popped.{Popped}
@@ -184,16 +184,17 @@ either (inr other) left right = inr (right other)
 abbrev pub items_of : {X : Type 0} → Vec X Global → List X
 items_of vector = vector.items
 
--- the first batch came back to each mate that is left to tell
-abbrev pub IsFirstBack : Lists → (ℕ → List Bool → Type 0) → Type 0
-IsFirstBack now room = (place : ℕ) → place < length now.told → changed_of now.state place ≢ [] → (tries : List Bool) × room place (false ∷ tries)
+-- every batch of a round came back: keys were left to tell, the count of a sender rose, and to each mate that is left to tell the first came back
+pub record CameBack (before : Lists) (fulls fulls_now : List ℕ) (room : ℕ → List Bool → Type 0) : Type 0 where
+  pub some : 1 ≤ dirty before.state
+  pub full : SomeRose fulls fulls_now
+  pub no_room : AreFirstBack (length before.told) before.state room
 
 -- a round was made in which nothing went out, or none
 pub record Started (before start : Lists) (made : Bool) (count count_start : Counts) (room : ℕ → List Bool → Type 0) : Type 0 where
   pub gossips : Gossips before start
   pub unmoved : IsUnmoved before start
-  pub full : IsTrue made → SomeRose count.gossip_fulls count_start.gossip_fulls
-  pub no_room : IsTrue made → IsFirstBack start room
+  pub back : (made ≡ false) ⊎ CameBack before count.gossip_fulls count_start.gossip_fulls room
 
 -- a round in which nothing went out leaves all as it was but for what came back
 round_starts : (sent : ℕ) (before start : Lists) (count count_start : Counts) (room : ℕ → List Bool → Type 0) → (0 < sent → ⊥)
@@ -210,12 +211,13 @@ round_starts sent before start count count_start room none (gossips, back, have,
         state = record before.state { changed = same.1 j; turned = start.state.turned; since = start.state.since };
         told = same.0 j;
       });
-      full = λ made. (blocked.0, omega (arith, blocked.1, fulls), back blocked.0 blocked.1 blocked.2);
-      no_room = λ made place low left.
-          let there : place < length before.told = omega (arith, low, long) in
-          let keys : changed_of start.state place ≡ changed_of before.state place = ap (λ changed. slice_index_or changed place []) same.1 in
-          first_back place (slice_index_or gossips.tries place []) (none_to_each gossips.tries none_sent place)
-          (omega (arith, tried place there, some_keys (changed_of before.state place) (λ none. left (keys ∙ none)))) (have place there);
+      back = inr (record {
+        some = some;
+        full = (blocked.0, omega (arith, blocked.1, fulls), back blocked.0 blocked.1 blocked.2);
+        no_room = λ place low left.
+            first_back place (slice_index_or gossips.tries place []) (none_to_each gossips.tries none_sent place)
+            (omega (arith, tried place low, some_keys (changed_of before.state place) left)) (have place low);
+      });
     }
   where
     some_keys : (keys : List ℕ) → keys ≢ [] → 1 ≤ length keys
@@ -239,8 +241,7 @@ starts true result sent before start count count_start room is none round some a
 starts false result sent before start count count_start room is none same some as_many long as_many_now fulls = record {
   gossips = subst (Gossips before) (sym same.1) (gossips_nothing before);
   unmoved = subst (IsUnmoved before) (sym same.1) refl;
-  full = λ made. absurd (false≢true made);
-  no_room = λ made. absurd (false≢true made);
+  back = inl refl;
 }
 
 -- none was made
@@ -314,22 +315,36 @@ pub unmoved_through : (before between now : Lists) → IsUnmoved before between 
 unmoved_through before between now first then' =
     then' ∙ (λ j. record (first j) { state = record ((first j).state) { turned = now.state.turned; since = now.state.since } })
 
--- keys are left to tell, so a batch came back: in the round that was due, or in the last one; and so did the first batch to each mate that is
--- left to tell
-pub left_back : (due left : Bool) (first told now : Lists) (count count_told count_asked count_now : Counts) (room : ℕ → List Bool → Type 0) (result : Result ℕ NoMemory)
+-- No round was made, or every batch of one came back: of the one that was due, or of the last one.
+pub rounds_back : (due left : Bool) (first told now : Lists) (count count_told count_asked count_now : Counts) (room : ℕ → List Bool → Type 0) (result : Result ℕ NoMemory)
     → Started first told due count count_told room → Started told now left count_asked count_now room → RoundsIf left result told now count_asked count_now room
-    → (IsTrue left → due ≡ false) → (left ≡ false → due ≡ false → dirty told.state ≡ 0)
-    → count_asked.gossip_fulls ≡ count_told.gossip_fulls → (due ≡ false → count_told.gossip_fulls ≡ count.gossip_fulls)
-    → 1 ≤ dirty now.state → SomeRose count.gossip_fulls count_now.gossip_fulls × IsFirstBack now room
-left_back true true first told now count count_told count_asked count_now room result begun ended round tried clean same not_due some = absurd (true≢false (tried refl))
-left_back true false first told now count count_told count_asked count_now room result begun ended round tried clean same not_due some = (
-  subst (SomeRose count.gossip_fulls) (sym same ∙ sym (ap (λ (count : Counts). count.gossip_fulls) round.2)) (begun.full refl),
-  subst (λ lists. IsFirstBack lists room) (sym round.1) (begun.no_room refl),
-)
-left_back false true first told now count count_told count_asked count_now room result begun ended round tried clean same not_due some =
-    (subst (λ fulls. SomeRose fulls count_now.gossip_fulls) (same ∙ not_due refl) (ended.full refl), ended.no_room refl)
-left_back false false first told now count count_told count_asked count_now room result begun ended round tried clean same not_due some =
-    absurd (omega (arith, some, clean refl refl, ap (λ (lists : Lists). dirty lists.state) ended.unmoved))
+    → (IsTrue left → due ≡ false) → count_asked.gossip_fulls ≡ count_told.gossip_fulls → (due ≡ false → count_told.gossip_fulls ≡ count.gossip_fulls)
+    → ((due ≡ false) × (left ≡ false)) ⊎ CameBack first count.gossip_fulls count_now.gossip_fulls room
+rounds_back due false first told now count count_told count_asked count_now room result begun ended round tried same not_due =
+    either begun.back (λ none. (none, refl)) (λ back.
+    subst (λ fulls. CameBack first count.gossip_fulls fulls room) (sym same ∙ sym (ap (λ (count : Counts). count.gossip_fulls) round.2)) back)
+rounds_back due true first told now count count_told count_asked count_now room result begun ended round tried same not_due =
+    inr (elim ended.back [
+      | inl none ↦ absurd (true≢false none)
+      | inr back ↦ record {
+        some = subst (λ (lists : Lists). 1 ≤ dirty lists.state) begun.unmoved back.some;
+        full = subst (λ fulls. SomeRose fulls count_now.gossip_fulls) (same ∙ not_due (tried refl)) back.full;
+        no_room = subst (λ (lists : Lists). AreFirstBack (length lists.told) lists.state room) begun.unmoved back.no_room;
+      }
+    ])
+
+-- keys are left to tell, so one was made
+pub left_back : {Back : Type 0} (due left : Bool) (told now : Lists) → ((due ≡ false) × (left ≡ false)) ⊎ Back → (left ≡ false → due ≡ false → dirty told.state ≡ 0)
+    → IsUnmoved told now → 1 ≤ dirty now.state → Back
+left_back due left told now (inl none) clean unmoved some = absurd (omega (arith, some, clean none.1 none.0, ap (λ (lists : Lists). dirty lists.state) unmoved))
+left_back due left told now (inr back) clean unmoved some = back
+
+-- of an answer where no batch went out
+pub on_none_sent : {E : Type 0} (result : Result Did E) (holds : Type 0) → holds → OnNoneSent result holds
+on_none_sent (Ok did.Request) holds it = it
+on_none_sent (Ok did.Gossip) holds it = it
+on_none_sent (Ok did.Idle) holds it = it
+on_none_sent result holds it = tt
 
 -- the reply that is held came back
 pub held_full : (before now : Option (ℕ × PlainReply)) (replied replied_now : List (List PlainReply)) (fulls fulls_now : List ℕ) (sent : Bool) → sent ≡ false
@@ -342,11 +357,10 @@ held_full before now replied replied_now fulls fulls_now false is (same, still, 
 pub rests_turns : (before now : Lists) (count count_now : Counts) (room : ℕ → List Bool → Type 0) → IsUnmoved before now → now.state.kept ≡ None
     → Rose count.gossip.nones count_now.gossip.nones
     → IsTrue (is_some now.state.held) ⊎ Rose count.requests.nones count_now.requests.nones
-    → (1 ≤ dirty now.state → SomeRose count.gossip_fulls count_now.gossip_fulls)
+    → (1 ≤ dirty now.state → CameBack before count.gossip_fulls count_now.gossip_fulls room)
     → (IsTrue (is_some now.state.held) → SomeRose count.reply_fulls count_now.reply_fulls)
-    → (1 ≤ dirty now.state → IsFirstBack now room) → length now.told ≡ length before.told
     → Turns {E = NoMemory} (Ok (rests_as now.state)) before now count count_now room
-rests_turns before now count count_now room unmoved none_kept no_gossip no_request back held_back no_room long = by_dirty (cases_lt 0 (dirty now.state))
+rests_turns before now count count_now room unmoved none_kept no_gossip no_request back held_back = by_dirty (cases_lt 0 (dirty now.state))
   where
     -- a mate that is left to tell makes the changeset dirty
     dirty_at : (place : ℕ) → changed_of now.state place ≢ [] → 1 ≤ dirty now.state
@@ -371,8 +385,10 @@ rests_turns before now count count_now room unmoved none_kept no_gossip no_reque
       left = left;
       no_gossip = no_gossip;
       no_request = no_request_of no_request;
+      none_kept = none_kept;
       full = full;
-      no_room = λ place low some. no_room (dirty_at place some) place (omega (arith, low, long)) some;
+      no_room = λ place low some.
+          subst (λ (lists : Lists). AreFirstBack (length before.told) lists.state room) (sym unmoved) (back (dirty_at place some)).no_room place low some;
     }
 
     as_blocked : rests_as now.state ≡ did.Blocked → IsBlocked before now count count_now room → Turns {E = NoMemory} (Ok (rests_as now.state)) before now count count_now room
@@ -395,11 +411,16 @@ rests_turns before now count count_now room unmoved none_kept no_gossip no_reque
         idles = record { unmoved = unmoved; no_gossip = no_gossip; no_request = rose_of no_request; clean = clean; none_held = none_held now.state.held is; none_kept = none_kept }
 
     by_dirty : (0 < dirty now.state) ⊎ (dirty now.state ≤ 0) → Turns {E = NoMemory} (Ok (rests_as now.state)) before now count count_now room
-    by_dirty (inl some) = as_blocked (λ j. if is_dirty j || is_some now.state.held then did.Blocked else did.Idle) (blocked (inl (omega (arith, some))) (inr (back (omega (arith, some)))))
+    by_dirty (inl some) = as_blocked (λ j. if is_dirty j || is_some now.state.held then did.Blocked else did.Idle) (blocked (inl (omega (arith, some))) (inr (back (omega (arith, some))).full))
       where
         is_dirty : ltb 0 (dirty now.state) ≡ true
         is_dirty = lt-ltb 0 (dirty now.state) some
     by_dirty (inr none) = by_held (omega (arith, none)) (is_some now.state.held) refl
+
+-- and no batch was joined
+pub rests_joined : (state : State) → joined_in {E = NoMemory} (Ok (rests_as state)) ≡ 0
+rests_joined state =
+    elim (ltb 0 (dirty state) || is_some state.held) as (λ t. joined_in {E = NoMemory} (Ok (if t then did.Blocked else did.Idle)) ≡ 0) [ true ↦ refl | false ↦ refl ]
 
 module _ {Q T O G : Type 0} (received : Q → List (ℕ × Request)) (replied : T → List PlainReply) (told : O → List Entries) (got : G → ℕ → ℕ → Option Entries) where
   -- nothing changed that the lists tell of

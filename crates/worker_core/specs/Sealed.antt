@@ -55,6 +55,11 @@ HearsOne (Err error) cells cells_now kept kept_now got got_now count count_now n
     × (((sender : ℕ) × (batch : Entries) × IsBatch sender batch kept got got_now count count_now × (kept_now ≡ Some (sender, batch)))
     ⊎ ((kept ≡ None) × (kept_now ≡ None) × (got_now ≡ got)))
 
+-- how many batches it heard, by the answer
+abbrev pub heard_in : {E : Type 0} → Result Bool E → ℕ
+heard_in (Ok true) = 1
+heard_in result = 0
+
 -- A batch is taken out of its box and kept, by the answer.
 abbrev pub TakesBatch : {E : Type 0} → Result Bool E → Option (ℕ × Entries) → (ℕ → ℕ → Option Entries) → (ℕ → ℕ → Option Entries) → Answers → Answers → Type 0 → Type 0
 TakesBatch (Ok true) kept_now got got_now count count_now nothing =

@@ -18,6 +18,10 @@ abbrev pub AddsReplies : ℕ → List PlainReply → List (List PlainReply) → 
 AddsReplies session replies before held now held_now =
     (to : ℕ) → 1 ≤ to → to ≤ length before → owed_to now held_now to ≡ owed_to before held to ++ (if session == to then replies else [])
 
+-- no reply that was sent is taken back
+abbrev pub NoneTakenBack : List (List PlainReply) → List (List PlainReply) → Type 0
+NoneTakenBack before now = (place : ℕ) → length (slice_index_or before place []) ≤ length (slice_index_or now place [])
+
 -- a request is worked on, by what the worker keeps and what it replied
 pub record Worked (session : ℕ) (request : Request) (before now : State) (replied replied_now : List (List PlainReply)) : Type 0 where
   pub cells : now.cells ≡ served request before.cells

@@ -5,6 +5,8 @@ use Rattle.lattice_laws.specs.Counts.{Rose}
 use Rattle.composed_value.specs.Kind.{kind_of, kind_of_value}
 use Rattle.composed_value.specs.declared.put.Put.{Put}
 use Rattle.mail_contract.specs.Got.{Added}
+use Rattle.mail_contract.specs.Parts.{Parts}
+use Rattle.mail_contract.specs.Standing.{About, AreMet}
 use Rattle.mail_contract.specs.Takes.{Answers}
 use Rattle.merge_world.specs.Effects.{cells_at, hears, is_kind, takes, tells}
 use Rattle.merge_world.specs.declared.private_map.KeyCells.{KeyCells}
@@ -183,6 +185,10 @@ SomeRose before now = (place : ℕ) × (place < length before) × Rose (slice_in
 abbrev pub IsUnmoved : Lists → Lists → Type 0
 IsUnmoved before now = now ≡ record before { state = record before.state { turned = now.state.turned; since = now.state.since } }
 
+-- to each of so many mates that is left to tell the first batch came back
+abbrev pub AreFirstBack : ℕ → State → (ℕ → List Bool → Type 0) → Type 0
+AreFirstBack mates state room = (place : ℕ) → place < mates → changed_of state place ≢ [] → (tries : List Bool) × room place (false ∷ tries)
+
 -- Nothing could be done for want of a place: no gossip was found and no request, or none was looked for since a reply is held; each send of
 -- the call came back.
 pub record IsBlocked (before now : Lists) (count count_now : Counts) (room : ℕ → List Bool → Type 0) : Type 0 where
@@ -190,9 +196,10 @@ pub record IsBlocked (before now : Lists) (count count_now : Counts) (room : ℕ
   pub left : (1 ≤ dirty now.state) ⊎ ((held : ℕ × PlainReply) × (now.state.held ≡ Some held))
   pub no_gossip : Rose count.gossip.nones count_now.gossip.nones
   pub no_request : Rose count.requests.nones count_now.requests.nones ⊎ ((held : ℕ × PlainReply) × (now.state.held ≡ Some held))
+  pub none_kept : now.state.kept ≡ None
   pub full : SomeRose count.reply_fulls count_now.reply_fulls ⊎ SomeRose count.gossip_fulls count_now.gossip_fulls
   -- to each mate that is left to tell the first batch came back
-  pub no_room : (place : ℕ) → place < length before.told → changed_of now.state place ≢ [] → (tries : List Bool) × room place (false ∷ tries)
+  pub no_room : AreFirstBack (length before.told) now.state room
 
 -- There is nothing to do.
 pub record IsIdle (before now : Lists) (count count_now : Counts) : Type 0 where
@@ -250,3 +257,29 @@ abbrev pub OnNothing : {E : Type 0} → Result Did E → Type 0 → Type 0
 OnNothing (Ok did.Blocked) holds = holds
 OnNothing (Ok did.Idle) holds = holds
 OnNothing result holds = ⊤
+
+-- how many batches may still come: those that a box may hand out, and the one that is kept
+abbrev pub may_come : ℕ → List (ℕ × Entries) → ℕ
+may_come most kept = most + length kept
+
+-- Where a box is finite and it is known of every sender how many messages are left: each batch that was joined is one fewer that may come, and
+-- nothing makes more.
+abbrev pub FewerMayCome : {M : Type 0} → Parts → ℕ → (ℕ → About M) → ℕ → ℕ → ℕ → Type 0
+FewerMayCome keeps senders about joined left left_now = IsTrue keeps.finite → AreMet senders about → left_now + joined ≤ left
+
+-- how many batches a turn joined, by its answer
+abbrev pub joined_in : {E : Type 0} → Result Did E → ℕ
+joined_in (Ok did.Gossip) = 1
+joined_in result = 0
+
+-- Senders of gossip are as they were, or a round was tried: keys were left to tell, and to each mate that was left to tell the first batch came
+-- back.
+abbrev pub StayOrCameBack : {S : Type 0} → S → S → Lists → (ℕ → List Bool → Type 0) → Type 0
+StayOrCameBack senders senders_now before room = (senders_now ≡ senders) ⊎ ((1 ≤ dirty before.state) × AreFirstBack (length before.told) before.state room)
+
+-- by the answer, where no batch went out
+abbrev pub OnNoneSent : {E : Type 0} → Result Did E → Type 0 → Type 0
+OnNoneSent (Ok did.Request) holds = holds
+OnNoneSent (Ok did.Gossip) holds = holds
+OnNoneSent (Ok did.Idle) holds = holds
+OnNoneSent result holds = ⊤

@@ -1,5 +1,5 @@
 //! Two workers beside each other.
-ghost use Rattle.std.specs.Prelude.{◌≡◌, ◌<◌, [], length, map, slice_get, slice_index_or, Some};
+ghost use Rattle.std.specs.Prelude.{◌≡◌, ◌≢◌, ℕ, ◌<◌, [], length, map, slice_get, slice_index_or, Some};
 ghost use Rattle.mail_contract.specs.Boxes.{ShowsWeak, weak_box_of};
 ghost use Rattle.worker_core.specs.Lag.{Lags};
 ghost use Rattle.worker_core.specs.Room.{LearnsRoomAt};
@@ -40,6 +40,8 @@ fn show<O: Tx<Batch>, G: GossipRx<Batch, From = O>>(
     ensures room { LearnsRoomAt O.clear O.unseen senders.new.items place G.keeps
         (G.got gossip.old (slice_index_or (map O.number senders.old.items) place 0))
         (slice_index_or (map O.sent senders.old.items) place []) }
+    ensures others { (other : ℕ) → other ≢ place
+        → slice_get senders.new.items other ≡ slice_get senders.old.items other }
 {
     let sender = &mut senders[place];
     gossip.beside(sender);
@@ -89,6 +91,9 @@ impl<Q: Rx<Request>, T: Tx<Reply>, O: Tx<Batch>, G: GossipRx<Batch, From = O>> W
             ≡ map O.sent self.old.ends.gossip_out.items }
         ensures gossip_out_fulls { map O.fulls self.new.ends.gossip_out.items
             ≡ map O.fulls self.old.ends.gossip_out.items }
+        ensures others { (other : ℕ) → other ≢ place_at self.old.state.me mate.old.state.me
+            → slice_get self.new.ends.gossip_out.items other
+            ≡ slice_get self.old.ends.gossip_out.items other }
         ensures room { LearnsRoomAt O.clear O.unseen self.new.ends.gossip_out.items
             (place_at self.old.state.me mate.old.state.me) G.keeps
             (G.got mate.old.ends.gossip_in (slice_index_or
@@ -124,6 +129,9 @@ impl<Q: Rx<Request>, T: Tx<Reply>, O: Tx<Batch>, G: GossipRx<Batch, From = O>> W
             ≡ map O.sent mate.old.ends.gossip_out.items }
         ensures mate_gossip_out_fulls { map O.fulls mate.new.ends.gossip_out.items
             ≡ map O.fulls mate.old.ends.gossip_out.items }
+        ensures mate_others { (other : ℕ) → other ≢ place_at mate.old.state.me self.old.state.me
+            → slice_get mate.new.ends.gossip_out.items other
+            ≡ slice_get mate.old.ends.gossip_out.items other }
     {
         let me = self.local.me;
         let number = mate.local.me;

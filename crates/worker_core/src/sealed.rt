@@ -3,7 +3,8 @@ ghost use Rattle.std.specs.Prelude.{◌≡◌, is_some, option_map, IfOk, IsTrue
 ghost use Rattle.mail_contract.specs.Boxes.{FindsNothingWeak, MayHandOut, SettlesWeak, weak_box_of};
 ghost use Rattle.mail_contract.specs.Standing.{IsSettled};
 ghost use Rattle.merge_world.specs.Effects.{cells_at};
-ghost use Rattle.worker_core.specs.Sealed.{HearsOne, HoldsSealed, JoinsKept, TakesBatch, batch_of};
+ghost use Rattle.worker_core.specs.Sealed.{HearsOne, HoldsSealed, JoinsKept, TakesBatch, batch_kept, batch_of, heard_in};
+ghost use Rattle.worker_core.specs.Turns.{FewerMayCome, may_come};
 
 use crate::Popped;
 use crate::serve::attest_entries;
@@ -50,6 +51,9 @@ impl<Q: Rx<Request>, G: GossipRx<Batch>> Model for SealedOver<Q, G> {
 impl<Q: Rx<Request>, G: GossipRx<Batch>> SealedOver<Q, G> {
     /// Joins one batch of gossip, and tells whether there was one. After `NoMemory` the cells are as before,
     /// and a batch that was taken is kept and comes first.
+    ///
+    /// Where its box is finite and it is known of every sender how many messages are left, each batch that was
+    /// joined is one fewer that may still come, and no call makes more.
     pub fn hear(&mut self) -> Result<bool, NoMemory>
         ensures holds { HoldsSealed Q.received G.got self.new }
         ensures fixed { self.new ≡ record self.old {
@@ -66,6 +70,10 @@ impl<Q: Rx<Request>, G: GossipRx<Batch>> SealedOver<Q, G> {
             (G.answers self.old.gossip_in) (G.answers self.new.gossip_in)
             (FindsNothingWeak G.keeps
             (weak_box_of G.got G.answers G.about G.due G.most self.new.gossip_in)) }
+        ensures fewer { FewerMayCome G.keeps (G.senders (G.key self.old.gossip_in))
+            (G.about self.old.gossip_in) (heard_in result)
+            (may_come (G.most self.old.gossip_in) (batch_kept self.old.kept))
+            (may_come (G.most self.new.gossip_in) (batch_kept self.new.kept)) }
     {
         let heard = self.hear_next();
         self.attest();
@@ -87,6 +95,10 @@ impl<Q: Rx<Request>, G: GossipRx<Batch>> SealedOver<Q, G> {
             (G.answers self.old.gossip_in) (G.answers self.new.gossip_in)
             (FindsNothingWeak G.keeps
             (weak_box_of G.got G.answers G.about G.due G.most self.new.gossip_in)) }
+        ensures fewer { FewerMayCome G.keeps (G.senders (G.key self.old.gossip_in))
+            (G.about self.old.gossip_in) (heard_in result)
+            (may_come (G.most self.old.gossip_in) (batch_kept self.old.kept))
+            (may_come (G.most self.new.gossip_in) (batch_kept self.new.kept)) }
     {
         if self.has_kept() {
             return self.join();
@@ -119,6 +131,10 @@ impl<Q: Rx<Request>, G: GossipRx<Batch>> SealedOver<Q, G> {
             (G.answers self.old.gossip_in) (G.answers self.new.gossip_in)
             (FindsNothingWeak G.keeps
             (weak_box_of G.got G.answers G.about G.due G.most self.new.gossip_in)) }
+        ensures fewer { FewerMayCome G.keeps (G.senders (G.key self.old.gossip_in))
+            (G.about self.old.gossip_in) 0
+            (may_come (G.most self.old.gossip_in) (batch_kept self.old.kept))
+            (may_come (G.most self.new.gossip_in) (batch_kept self.new.kept)) }
     {
         match take_weak(&mut self.gossip_in)? {
             Some((sender, batch)) => {

@@ -7,7 +7,7 @@ ghost use Rattle.store_msg.specs.declared.request.Request.TheVariants as request
 ghost use Rattle.worker_core.specs.Changes.{with_key};
 ghost use Rattle.worker_core.specs.Kept.{AreEntries, IsFree, IsRequest};
 ghost use Rattle.worker_core.specs.Local.{state_of};
-ghost use Rattle.worker_core.specs.Serving.{AddsReplies, Resent, Served, Worked, did_of, since_after};
+ghost use Rattle.worker_core.specs.Serving.{AddsReplies, NoneTakenBack, Resent, Served, Worked, did_of, since_after};
 ghost use Rattle.worker_core.specs.Share.{IsHeldFor};
 ghost use Rattle.worker_core.specs.State.{lives_at, mate_at};
 ghost use Rattle.worker_core.specs.Turns.{changes, is_of, marked_at, reply_from};
@@ -181,6 +181,7 @@ fn give<T: Tx<Reply>>(
     requires none_held { held.old ≡ None }
     ensures keys { map T.key replies.new.items ≡ map T.key replies.old.items }
     ensures numbers { map T.number replies.new.items ≡ map T.number replies.old.items }
+    ensures sent { NoneTakenBack (map T.sent replies.old.items) (map T.sent replies.new.items) }
     ensures replies { OnOk result (AddsReplies session (reply ∷ [])
         (map T.sent replies.old.items) held.old (map T.sent replies.new.items) held.new) }
     ensures held { IsHeldFor (length replies.old.items) held.new }
@@ -205,6 +206,7 @@ pub(crate) fn resend<T: Tx<Reply>>(
     requires { IsHeldFor (length replies.old.items) held.old }
     ensures keys { map T.key replies.new.items ≡ map T.key replies.old.items }
     ensures numbers { map T.number replies.new.items ≡ map T.number replies.old.items }
+    ensures sent { NoneTakenBack (map T.sent replies.old.items) (map T.sent replies.new.items) }
     ensures resent { Resent result held.old held.new
         (map T.sent replies.old.items) (map T.sent replies.new.items)
         (map T.fulls replies.old.items) (map T.fulls replies.new.items) }
@@ -240,6 +242,7 @@ fn serve_request<T: Tx<Reply>>(
     requires none_held { local.old.held ≡ None }
     ensures keys { map T.key replies.new.items ≡ map T.key replies.old.items }
     ensures numbers { map T.number replies.new.items ≡ map T.number replies.old.items }
+    ensures sent { NoneTakenBack (map T.sent replies.old.items) (map T.sent replies.new.items) }
     ensures taken { local.new.taken ≡ local.old.taken }
     ensures most { local.new.changes.most ≡ local.old.changes.most }
     ensures ok { OnOk result (Worked session request.now (state_of local.old) (state_of local.new)
@@ -277,6 +280,7 @@ pub(crate) fn serve<T: Tx<Reply>>(local: &mut Local, replies: &mut Vec<T>) -> Re
     requires free { IsFree local.old.kept local.old.held }
     ensures keys { map T.key replies.new.items ≡ map T.key replies.old.items }
     ensures numbers { map T.number replies.new.items ≡ map T.number replies.old.items }
+    ensures sent { NoneTakenBack (map T.sent replies.old.items) (map T.sent replies.new.items) }
     ensures taken { local.new.taken ≡ local.old.taken }
     ensures most { local.new.changes.most ≡ local.old.changes.most }
     ensures did { IfOk result (λ did. did ≡ did_of local.old.kept) }

@@ -9,10 +9,10 @@ ghost use Rattle.worker_core.specs.Kept.{IsRequest};
 ghost use Rattle.worker_core.specs.Lag.{Lags};
 ghost use Rattle.worker_core.specs.Room.{LearnsRoomOf, RoomAt};
 ghost use Rattle.worker_core.specs.Sealed.{HoldsSealed, sealed_of};
-ghost use Rattle.worker_core.specs.Serving.{Resent, RoundsIf, TakesGossip, TakesRequest, WorksOn, rests_as};
+ghost use Rattle.worker_core.specs.Serving.{NoneTakenBack, Resent, RoundsIf, TakesGossip, TakesRequest, WorksOn, rests_as};
 ghost use Rattle.worker_core.specs.Share.{Share};
-ghost use Rattle.worker_core.specs.State.{IsFixed, KeysStay, dirty, kept_request, lists_of, opening_state};
-ghost use Rattle.worker_core.specs.Turns.{MayAsk, OnNothing, Rounds, Turns, TurnsOnlyWhereFull, counts_of};
+ghost use Rattle.worker_core.specs.State.{IsFixed, KeysStay, dirty, kept_batch, kept_request, lists_of, opening_state};
+ghost use Rattle.worker_core.specs.Turns.{FewerMayCome, MayAsk, OnNoneSent, OnNothing, Rounds, StayOrCameBack, Turns, TurnsOnlyWhereFull, counts_of, joined_in, may_come};
 
 use crate::boxes::meet;
 use crate::changeset::Changeset;
@@ -122,13 +122,20 @@ impl<Q: Rx<Request>, T: Tx<Reply>, O: Tx<Batch>, G: GossipRx<Batch, From = O>> W
     /// `round` requests were taken since the last one; takes a batch of gossip and joins it; takes a request,
     /// where no reply is held, and works on it; makes a round of gossip where keys are left to tell.
     ///
-    /// A reply that finds no place is held. With `NoMemory` the cells are as before, and a message that was
-    /// taken is kept: a later call works on it.
+    /// A reply that finds no place is held, and none that was sent is taken back. With `NoMemory` the cells are
+    /// as before, and a message that was taken is kept: a later call works on it.
+    ///
+    /// Where its box of gossip is finite and it is known of every sender how many messages are left, each batch
+    /// that was joined is one fewer that may still come, and no call makes more. Where a request was worked on,
+    /// a batch was joined or there is nothing to do, the senders of gossip are as before, or a round was tried
+    /// first: keys were left to tell, and to each mate that was left to tell the first batch came back.
     pub fn turn(&mut self) -> Result<Did, NoMemory>
         ensures share { Share (lists_of Q.received T.sent O.sent G.got self.new) }
         ensures lags { Lags (lists_of Q.received T.sent O.sent G.got self.new) }
         ensures fixed { IsFixed self.old.state self.new.state }
         ensures keys { KeysStay Q.key T.key T.number O.key O.number G.key self.old self.new }
+        ensures replied { NoneTakenBack (map T.sent self.old.ends.replies.items)
+            (map T.sent self.new.ends.replies.items) }
         ensures did { Turns result
             (lists_of Q.received T.sent O.sent G.got self.old)
             (lists_of Q.received T.sent O.sent G.got self.new)
@@ -150,19 +157,29 @@ impl<Q: Rx<Request>, T: Tx<Reply>, O: Tx<Batch>, G: GossipRx<Batch, From = O>> W
             ⊎ FindsNothing Q.keeps (box_of Q.received Q.answers Q.about self.new.ends.requests)) }
         ensures no_gossip { OnNothing result (FindsNothingWeak G.keeps
             (weak_box_of G.got G.answers G.about G.due G.most self.new.ends.gossip_in)) }
+        ensures fewer { FewerMayCome G.keeps (G.senders (G.key self.old.ends.gossip_in))
+            (G.about self.old.ends.gossip_in) (joined_in result)
+            (may_come (G.most self.old.ends.gossip_in) (kept_batch self.old.state.kept))
+            (may_come (G.most self.new.ends.gossip_in) (kept_batch self.new.state.kept)) }
+        ensures senders { OnNoneSent result (StayOrCameBack
+            self.old.ends.gossip_out self.new.ends.gossip_out
+            (lists_of Q.received T.sent O.sent G.got self.old)
+            (RoomAt O.clear O.roomy O.unseen self.old.ends.gossip_out.items)) }
     {
         let did = self.step();
         self.attest();
         did
     }
 
-    /// Tells what the worker keeps from call to call: its share, how far gossip lags, and that each request
-    /// that it received is one that there can be. It does nothing, and takes no memory.
+    /// Tells what the worker keeps from call to call: its share, how far gossip lags, that each request that
+    /// it received is one that there can be, and that it counts changed keys for each mate. It does nothing,
+    /// and takes no memory.
     pub fn attest(&self)
         ensures share { Share (lists_of Q.received T.sent O.sent G.got self.now) }
         ensures lags { Lags (lists_of Q.received T.sent O.sent G.got self.now) }
         ensures requests { All (λ message. IsRequest message.1)
             (Q.received self.now.ends.requests) }
+        ensures mates { length self.now.state.changed ≡ length self.now.ends.gossip_out.items }
     {
         let _ = &self.local;
     }
@@ -170,6 +187,8 @@ impl<Q: Rx<Request>, T: Tx<Reply>, O: Tx<Batch>, G: GossipRx<Batch, From = O>> W
     fn step(&mut self) -> Result<Did, NoMemory>
         ensures fixed { IsFixed self.old.state self.new.state }
         ensures keys { KeysStay Q.key T.key T.number O.key O.number G.key self.old self.new }
+        ensures replied { NoneTakenBack (map T.sent self.old.ends.replies.items)
+            (map T.sent self.new.ends.replies.items) }
         ensures did { Turns result
             (lists_of Q.received T.sent O.sent G.got self.old)
             (lists_of Q.received T.sent O.sent G.got self.new)
@@ -191,6 +210,14 @@ impl<Q: Rx<Request>, T: Tx<Reply>, O: Tx<Batch>, G: GossipRx<Batch, From = O>> W
             ⊎ FindsNothing Q.keeps (box_of Q.received Q.answers Q.about self.new.ends.requests)) }
         ensures no_gossip { OnNothing result (FindsNothingWeak G.keeps
             (weak_box_of G.got G.answers G.about G.due G.most self.new.ends.gossip_in)) }
+        ensures fewer { FewerMayCome G.keeps (G.senders (G.key self.old.ends.gossip_in))
+            (G.about self.old.ends.gossip_in) (joined_in result)
+            (may_come (G.most self.old.ends.gossip_in) (kept_batch self.old.state.kept))
+            (may_come (G.most self.new.ends.gossip_in) (kept_batch self.new.state.kept)) }
+        ensures senders { OnNoneSent result (StayOrCameBack
+            self.old.ends.gossip_out self.new.ends.gossip_out
+            (lists_of Q.received T.sent O.sent G.got self.old)
+            (RoomAt O.clear O.roomy O.unseen self.old.ends.gossip_out.items)) }
     {
         if self.has_kept() {
             return self.work();
@@ -255,6 +282,8 @@ impl<Q: Rx<Request>, T: Tx<Reply>, O: Tx<Batch>, G: GossipRx<Batch, From = O>> W
         requires { IsTrue (is_some self.old.state.kept) }
         ensures fixed { IsFixed self.old.state self.new.state }
         ensures keys { KeysStay Q.key T.key T.number O.key O.number G.key self.old self.new }
+        ensures replied { NoneTakenBack (map T.sent self.old.ends.replies.items)
+            (map T.sent self.new.ends.replies.items) }
         ensures requests { self.new.ends.requests ≡ self.old.ends.requests }
         ensures gossip_in { self.new.ends.gossip_in ≡ self.old.ends.gossip_in }
         ensures gossip_out { self.new.ends.gossip_out ≡ self.old.ends.gossip_out }
@@ -269,6 +298,8 @@ impl<Q: Rx<Request>, T: Tx<Reply>, O: Tx<Batch>, G: GossipRx<Batch, From = O>> W
     /// Sends the reply that is held again, and tells whether it went out.
     fn resend(&mut self) -> Result<bool, NoMemory>
         ensures keys { KeysStay Q.key T.key T.number O.key O.number G.key self.old self.new }
+        ensures replied { NoneTakenBack (map T.sent self.old.ends.replies.items)
+            (map T.sent self.new.ends.replies.items) }
         ensures requests { self.new.ends.requests ≡ self.old.ends.requests }
         ensures gossip_in { self.new.ends.gossip_in ≡ self.old.ends.gossip_in }
         ensures gossip_out { self.new.ends.gossip_out ≡ self.old.ends.gossip_out }
@@ -296,6 +327,10 @@ impl<Q: Rx<Request>, T: Tx<Reply>, O: Tx<Batch>, G: GossipRx<Batch, From = O>> W
             (G.answers self.old.ends.gossip_in) (G.answers self.new.ends.gossip_in)
             (FindsNothingWeak G.keeps
             (weak_box_of G.got G.answers G.about G.due G.most self.new.ends.gossip_in)) }
+        ensures fewer { FewerMayCome G.keeps (G.senders (G.key self.old.ends.gossip_in))
+            (G.about self.old.ends.gossip_in) 0
+            (may_come (G.most self.old.ends.gossip_in) (kept_batch self.old.state.kept))
+            (may_come (G.most self.new.ends.gossip_in) (kept_batch self.new.state.kept)) }
     {
         match take_weak(&mut self.ends.gossip_in)? {
             Some((sender, batch)) => {

@@ -1,5 +1,6 @@
 use Rattle.std.proofs.Common.{◌∙◌, ap}
 use Rattle.std.proofs.Math.Seq.{map-set_same}
+use Rattle.mail_contract.proofs.PostsLemmas.{stays_elsewhere}
 use Rattle.worker_core.proofs.mates.show.Goals as goal
 
 pub returns-clause-keys : goal.returns-clause-keys
@@ -13,3 +14,6 @@ returns-clause-sent g c = map-set_same g.O.Tx.sent _ _ _ _ (c.beside.ensures.tx_
 
 pub returns-clause-fulls : goal.returns-clause-fulls
 returns-clause-fulls g c = map-set_same g.O.Tx.fulls _ _ _ _ (c.beside.ensures.tx_fulls ∙ ap g.O.Tx.fulls c.index_mut-sender.ensures.value)
+
+pub returns-clause-others : goal.returns-clause-others
+returns-clause-others g c = λ other apart. stays_elsewhere _ _ other _ apart

@@ -1,19 +1,20 @@
-use Rattle.std.proofs.Common.{◌≡◌, ◌∙◌, ℕ, ◌≤◌, ◌⊎◌, Bool, List, Result, IsTrue, Vec, is_some, ap, arith, length, map, sym, subst, refl, Ok}
+use Rattle.std.proofs.Common.{◌≡◌, ◌∙◌, ℕ, ◌≤◌, ◌⊎◌, Bool, false, List, Result, IsTrue, Vec, is_some, ap, arith, length, map, sym, subst, refl, Ok}
 use Rattle.std.specs.Global.{Global}
 use Rattle.std.proofs.lemmas.List.{length-map}
 use Rattle.std.proofs.lemmas.Result.{err_from_is_err_and}
 use Rattle.lattice_laws.specs.Counts.{Rose}
 use Rattle.lattice_laws.specs.declared.lattice.NoMemory.{NoMemory}
+use Rattle.mail_contract.specs.Standing.{AreMet}
 use Rattle.worker_core.specs.Room.{RoomAt}
 use Rattle.worker_core.specs.Serving.{RoundsIf}
-use Rattle.worker_core.specs.State.{Lists, PlainWorker, dirty, lists_of}
-use Rattle.worker_core.specs.Turns.{Counts, Gossips, HaveRoom, KeepsRequest, SomeRose, batches, counts_of}
+use Rattle.worker_core.specs.State.{Lists, PlainWorker, dirty, kept_batch, lists_of}
+use Rattle.worker_core.specs.Turns.{Counts, Gossips, HaveRoom, KeepsRequest, SomeRose, StayOrCameBack, batches, counts_of, joined_in}
 use Rattle.worker_core.proofs.LawfulLemmas.{as_long, none_held}
 use Rattle.worker_core.proofs.ToldLemmas.{gossips_nothing}
-use Rattle.worker_core.proofs.TurnLemmas.{Started, batch_taken, either, heard_turns, held_full, items_of, kept_turns, lacks, left_back, no_batch, no_ok, no_request, not_counted, not_started, request_taken, rests_turns, resent_lacks, resent_still, rose_between, round_lacks, round_turns, rounds_at_first, served_turns, some_sent, starts, unmoved_through, was_made}
+use Rattle.worker_core.proofs.TurnLemmas.{CameBack, Started, batch_taken, either, heard_turns, held_full, items_of, kept_turns, lacks, left_back, no_batch, no_ok, no_request, not_counted, not_started, on_none_sent, request_taken, rests_joined, rests_turns, resent_lacks, resent_still, rose_between, round_lacks, round_turns, rounds_at_first, rounds_back, served_turns, some_sent, starts, unmoved_through, was_made}
 use Rattle.worker_core.proofs.worker.WorkerOver.step.Given.{Over}
 use Rattle.worker_core.proofs.worker.WorkerOver.step.Goals as goal
-use Rattle.worker_core.proofs.worker.WorkerOver.step.Goals.{After-tell_if, After-take_gossip, After-take_request, After-tell_if-2}
+use Rattle.worker_core.proofs.worker.WorkerOver.step.Goals.{After-tell_if, After-take_gossip, After-take_request, After-tell_if-2, After-rests}
 
 module _ (g : Over) where
   abbrev Worker : Type 0
@@ -33,6 +34,10 @@ module _ (g : Over) where
   abbrev Round : Bool → Result ℕ NoMemory → Worker → Worker → Worker → Type 0
   Round made result first before now = RoundsIf made result (lists before) (lists now) (counts before) (counts now) (room first.ends.gossip_out)
 
+  -- it was made in vain, or none was made
+  abbrev Begun : Bool → Worker → Lists → Worker → Worker → Type 0
+  Begun made first start before now = Started start (lists now) made (counts before) (counts now) (room first.ends.gossip_out)
+
   -- there are as many lists of changed keys as there are mates
   mates : (worker : Worker) → length worker.state.changed ≡ length worker.ends.gossip_out.items → length worker.state.changed ≡ length (lists worker).told
   mates worker as_many = as_many ∙ sym (length-map worker.ends.gossip_out.items g.O.Tx.sent)
@@ -45,7 +50,7 @@ module _ (g : Over) where
   begins : (made : Bool) (result : Result ℕ NoMemory) (sent : ℕ) (first before now : Worker) (start : Lists) → lists before ≡ start
       → length start.state.changed ≡ length start.told → result ≡ Ok sent → sent ≤ 0 → Round made result first before now → (IsTrue made → 1 ≤ dirty before.state)
       → map g.O.Tx.number now.ends.gossip_out.items ≡ map g.O.Tx.number before.ends.gossip_out.items → length now.state.changed ≡ length now.ends.gossip_out.items
-      → Started start (lists now) made (counts before) (counts now) (room first.ends.gossip_out)
+      → Begun made first start before now
   begins made result sent first before now start same as_many is none round some numbers as_many_now =
       let at_first = room first.ends.gossip_out in
       let as_many_before = subst (λ (lists : Lists). length lists.state.changed ≡ length lists.told) (sym same) as_many in
@@ -71,7 +76,7 @@ module _ (g : Over) where
   -- nothing went out in it
   begun : (c : After-take_gossip g) → lists c.resend.new.self ≡ lists c.args.self.now
       → Round c.is_due-due.result c.tell_if.result c.args.self.now c.resend.new.self c.tell_if.new.self
-      → Started (lists c.args.self.now) (lists c.tell_if.new.self) c.is_due-due.result (counts c.resend.new.self) (counts c.tell_if.new.self) (room c.args.self.now.ends.gossip_out)
+      → Begun c.is_due-due.result c.args.self.now (lists c.args.self.now) c.resend.new.self c.tell_if.new.self
   begun c same round =
       begins c.is_due-due.result c.tell_if.result c.in_ok-tell_if.field-0 c.args.self.now c.resend.new.self c.tell_if.new.self (lists c.args.self.now) same
       (mates c.args.self.now c.has_kept.ensures.mates) c.in_ok-tell_if.was c.if-branch-gt0.false round c.is_due-due.ensures.due c.tell_if.ensures.keys.gossip_out_numbers
@@ -103,6 +108,44 @@ module _ (g : Over) where
   as_at_first c same round none_taken some =
       let made = was_made c.is_left-left.result c.tell_if-2.result _ _ _ _ _ (round_left c) some in
       (none_asked c).0 ∙ none_taken ∙ not_started c.is_due-due.result c.tell_if.result _ _ _ _ _ round (c.is_left-left.ensures.left made).0 ∙ same
+
+  -- nothing went out in it, or none was made
+  ended : (c : After-rests g) → lists c.take_request.new.self ≡ lists c.tell_if.new.self
+      → Round c.is_left-left.result c.tell_if-2.result c.args.self.now c.take_request.new.self c.tell_if-2.new.self
+      → Begun c.is_left-left.result c.args.self.now (lists c.tell_if.new.self) c.take_request.new.self c.tell_if-2.new.self
+  ended c same round =
+      begins c.is_left-left.result c.tell_if-2.result c.in_ok-tell_if-2.field-0 c.args.self.now c.take_request.new.self c.tell_if-2.new.self (lists c.tell_if.new.self) same
+      (mates c.tell_if.new.self c.tell_if.ensures.mates) c.in_ok-tell_if-2.was c.if-branch-gt0-2.false round (λ made. (c.is_left-left.ensures.left made).1)
+      c.tell_if-2.ensures.keys.gossip_out_numbers c.tell_if-2.ensures.mates
+
+  -- no round was made, or every batch of one came back
+  came_back : (c : After-rests g)
+      → Begun c.is_due-due.result c.args.self.now (lists c.args.self.now) c.resend.new.self c.tell_if.new.self
+      → Begun c.is_left-left.result c.args.self.now (lists c.tell_if.new.self) c.take_request.new.self c.tell_if-2.new.self
+      → Round c.is_due-due.result c.tell_if.result c.args.self.now c.resend.new.self c.tell_if.new.self
+      → Round c.is_left-left.result c.tell_if-2.result c.args.self.now c.take_request.new.self c.tell_if-2.new.self → lists c.take_request.new.self ≡ lists c.tell_if.new.self
+      → ((c.is_due-due.result ≡ false) × (c.is_left-left.result ≡ false))
+      ⊎ CameBack (lists c.args.self.now) (counts c.args.self.now).gossip_fulls (counts c.tell_if-2.new.self).gossip_fulls (room c.args.self.now.ends.gossip_out)
+  came_back c start end round last as_told =
+      let due = c.is_due-due.result in
+      let left = c.is_left-left.result in
+      let worker = c.args.self.now in
+      let now = c.tell_if-2.new.self in
+      let first = room worker.ends.gossip_out in
+      either (rounds_back due left (lists worker) (lists c.tell_if.new.self) (lists now) (counts c.resend.new.self) (counts c.tell_if.new.self) (counts c.take_request.new.self)
+      (counts now) first c.tell_if-2.result start end
+      (subst (λ told. RoundsIf left c.tell_if-2.result told (lists now) (counts c.take_request.new.self) (counts now) first) as_told last)
+      (λ made. (c.is_left-left.ensures.left made).0)
+      (ap (λ out. map g.O.Tx.fulls (items_of out)) (c.take_request.ensures.gossip_out ∙ c.take_gossip.ensures.gossip_out))
+      (λ not_due. ap (λ (count : Counts). count.gossip_fulls) (not_counted due c.tell_if.result _ _ _ _ _ round not_due))) (λ none. none)
+      (λ back. subst (λ fulls. CameBack (lists worker) fulls (counts now).gossip_fulls first) (ap (λ out. map g.O.Tx.fulls (items_of out)) c.resend.ensures.gossip_out) back)
+
+  -- after the round that was due the senders are as they were, or its batches came back
+  senders_due : (c : After-take_gossip g)
+      → Begun c.is_due-due.result c.args.self.now (lists c.args.self.now) c.resend.new.self c.tell_if.new.self
+      → StayOrCameBack c.args.self.now.ends.gossip_out c.take_gossip.new.self.ends.gossip_out (lists c.args.self.now) (room c.args.self.now.ends.gossip_out)
+  senders_due c start =
+      either start.back (λ not_due. c.take_gossip.ensures.gossip_out ∙ c.tell_if.ensures.gossip_out not_due ∙ c.resend.ensures.gossip_out) (λ back. (back.some, back.no_room))
 
 pub returns-then-has_kept-clause-did : goal.returns-then-has_kept-clause-did
 returns-then-has_kept-clause-did g c =
@@ -206,9 +249,7 @@ returns-clause-did g c =
     let none = none_asked g at.After-tell_if-2 in
     let as_told : lists g asked ≡ lists g told = none.0 ∙ none_found.0 in
     let last = round_left g at.After-tell_if-2 in
-    let end : Started (lists g told) (lists g now) left (counts g asked) (counts g now) first =
-    begins g left c.tell_if-2.result c.in_ok-tell_if-2.field-0 worker asked now (lists g told) as_told (mates g told c.tell_if.ensures.mates) c.in_ok-tell_if-2.was
-    c.if-branch-gt0-2.false last (λ made. (c.is_left-left.ensures.left made).1) c.tell_if-2.ensures.keys.gossip_out_numbers c.tell_if-2.ensures.mates in
+    let end = ended g c as_told last in
     let unmoved = unmoved_through (lists g worker) (lists g told) (lists g now) start.unmoved end.unmoved in
     let none_kept = ap (λ (lists : Lists). lists.state.kept) unmoved ∙ none_held worker.state.kept (sym c.has_kept.ensures.kept ∙ c.if-has_kept.false) in
     let found_none : Rose (counts g worker).gossip.nones (counts g now).gossip.nones =
@@ -221,19 +262,60 @@ returns-clause-did g c =
     either none.1 (λ held. ap is_some held_taken ∙ held)
     (λ found. rose_between (ap (λ box. (g.Q.Rx.answers box).nones) (sym (c.take_gossip.ensures.requests ∙ c.tell_if.ensures.requests ∙ c.resend.ensures.requests)))
     (ap (λ box. (g.Q.Rx.answers box).nones) c.tell_if-2.ensures.requests) found) in
-    let back = left_back due left (lists g worker) (lists g told) (lists g now) (counts g resent) (counts g told) (counts g asked) (counts g now) first c.tell_if-2.result start end
-    (subst (λ told. RoundsIf left c.tell_if-2.result told (lists g now) (counts g asked) (counts g now) first) as_told last) (λ made. (c.is_left-left.ensures.left made).0)
-    (λ none not_due. ap (λ (lists : Lists). dirty lists.state) (sym as_told) ∙ c.is_left-left.ensures.none none not_due)
-    (ap (λ out. map g.O.Tx.fulls (items_of out)) (c.take_request.ensures.gossip_out ∙ c.take_gossip.ensures.gossip_out))
-    (λ not_due. ap (λ (count : Counts). count.gossip_fulls) (not_counted due c.tell_if.result _ _ _ _ _ round not_due)) in
-    let gossip_back : 1 ≤ dirty now.state → SomeRose (counts g worker).gossip_fulls (counts g now).gossip_fulls = λ some.
-    subst (λ fulls. SomeRose fulls (counts g now).gossip_fulls) (ap (λ out. map g.O.Tx.fulls (items_of out)) c.resend.ensures.gossip_out) (back some).0 in
+    let back = left_back due left (lists g told) (lists g now) (came_back g c start end round last as_told)
+    (λ none not_due. ap (λ (lists : Lists). dirty lists.state) (sym as_told) ∙ c.is_left-left.ensures.none none not_due) end.unmoved in
     let held_back : IsTrue (is_some now.state.held) → SomeRose (counts g worker).reply_fulls (counts g now).reply_fulls = λ held.
     subst (SomeRose (counts g worker).reply_fulls)
     (ap (λ replies. map g.T.Tx.fulls (items_of replies)) (sym (c.tell_if-2.ensures.replies ∙ c.take_request.ensures.replies ∙ c.take_gossip.ensures.replies ∙ c.tell_if.ensures.replies)))
     (held_full worker.state.held resent.state.held _ _ _ _ c.in_ok-resend.field-0 c.if-branch.false c.in_ok-resend.ensures.resent (ap is_some (sym held_resent) ∙ held)) in
-    let long : length (lists g now).told ≡ length (lists g worker).told =
-    mates_stay g asked now c.tell_if-2.ensures.keys.gossip_out_numbers ∙ ap (λ (lists : Lists). length lists.told) as_told
-    ∙ mates_stay g resent told c.tell_if.ensures.keys.gossip_out_numbers ∙ ap (λ (lists : Lists). length lists.told) as_resent in
-    rw c.rests.ensures (rests_turns (lists g worker) (lists g now) (counts g worker) (counts g now) first unmoved none_kept found_none found_no_request gossip_back held_back
-    (λ some. (back some).1) long)
+    rw c.rests.ensures (rests_turns (lists g worker) (lists g now) (counts g worker) (counts g now) first unmoved none_kept found_none found_no_request back held_back)
+
+pub returns-then-branch-2-clause-senders : goal.returns-then-branch-2-clause-senders
+returns-then-branch-2-clause-senders g c =
+    let at = goal.at.returns-then-branch-2-clause-senders g c in
+    let start = begun g at.After-take_gossip (still g at.After-tell_if) (round_due g at.After-tell_if) in
+    on_none_sent c.work-then-branch-2.result _
+    (subst (λ out. StayOrCameBack c.args.self.now.ends.gossip_out out (lists g c.args.self.now) (room g c.args.self.now.ends.gossip_out))
+    (sym c.work-then-branch-2.ensures.gossip_out) (senders_due g at.After-take_gossip start))
+
+pub returns-then-branch-3-clause-senders : goal.returns-then-branch-3-clause-senders
+returns-then-branch-3-clause-senders g c =
+    let at = goal.at.returns-then-branch-3-clause-senders g c in
+    let start = begun g at.After-take_gossip (still g at.After-tell_if) (round_due g at.After-tell_if) in
+    on_none_sent c.work-then-branch-3.result _
+    (subst (λ out. StayOrCameBack c.args.self.now.ends.gossip_out out (lists g c.args.self.now) (room g c.args.self.now.ends.gossip_out))
+    (sym (c.work-then-branch-3.ensures.gossip_out ∙ c.take_request.ensures.gossip_out)) (senders_due g at.After-take_gossip start))
+
+pub returns-clause-senders : goal.returns-clause-senders
+returns-clause-senders g c =
+    let at = goal.at.returns-clause-senders g c in
+    let round = round_due g at.After-tell_if in
+    let start = begun g at.After-take_gossip (still g at.After-tell_if) round in
+    let as_told = (none_asked g at.After-tell_if-2).0 ∙ (no_gossip g at.After-take_request).0 in
+    let last = round_left g at.After-tell_if-2 in
+    let asked : c.take_request.new.self.ends.gossip_out ≡ c.tell_if.new.self.ends.gossip_out = c.take_request.ensures.gossip_out ∙ c.take_gossip.ensures.gossip_out in
+    on_none_sent {E = NoMemory} (Ok c.rests.result) _
+    (either (came_back g c start (ended g c as_told last) round last as_told)
+    (λ none. c.tell_if-2.ensures.gossip_out none.1 ∙ asked ∙ c.tell_if.ensures.gossip_out none.0 ∙ c.resend.ensures.gossip_out) (λ back. (back.some, back.no_room)))
+
+pub returns-clause-fewer : goal.returns-clause-fewer
+returns-clause-fewer g c finite met =
+    let at = goal.at.returns-clause-fewer g c in
+    let round = round_due g at.After-tell_if in
+    let start = begun g at.After-take_gossip (still g at.After-tell_if) round in
+    let none_found = no_gossip g at.After-take_request in
+    let as_told = (none_asked g at.After-tell_if-2).0 ∙ none_found.0 in
+    let end = ended g c as_told (round_left g at.After-tell_if-2) in
+    let as_first : c.tell_if.new.self.ends.gossip_in ≡ c.args.self.now.ends.gossip_in = c.tell_if.ensures.gossip_in ∙ c.resend.ensures.gossip_in in
+    let found = c.take_gossip.ensures.fewer finite (subst (λ box. AreMet (g.G.GossipRx.senders (g.G.GossipRx.key box)) (g.G.GossipRx.about box)) (sym as_first) met) in
+    omega (
+      arith,
+      found,
+      ap g.G.GossipRx.most as_first,
+      ap g.G.GossipRx.most (c.tell_if-2.ensures.gossip_in ∙ c.take_request.ensures.gossip_in),
+      ap (λ (lists : Lists). length (kept_batch lists.state.kept)) none_found.0,
+      ap (λ (lists : Lists). length (kept_batch lists.state.kept)) start.unmoved,
+      ap (λ (lists : Lists). length (kept_batch lists.state.kept)) end.unmoved,
+      ap (λ did. joined_in {E = NoMemory} (Ok did)) c.rests.ensures,
+      rests_joined c.tell_if-2.new.self.state,
+    )
