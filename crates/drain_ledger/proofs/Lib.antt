@@ -1,0 +1,11 @@
+pub mod AsksLemmas
+pub mod ClosingLemmas
+pub mod FinalPlacesLemmas
+pub mod FinalsLemmas
+pub mod FrontsSoundLemmas
+pub mod GossipTakenLemmas
+pub mod ListsLemmas
+pub mod MakingLemmas
+pub mod MatesLemmas
+pub mod RepliesTakenLemmas
+pub mod RequestsTakenLemmas

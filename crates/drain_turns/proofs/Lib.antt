@@ -1,0 +1,14 @@
+pub mod PairLemmas
+pub mod PairListsLemmas
+pub mod PairPlacesLemmas
+pub mod PassesGoingOn
+pub mod PassesHeldLemmas
+pub mod PassesLemmas
+pub mod PassesTurnLemmas
+pub mod ReadyLemmas
+pub mod ShownLemmas
+pub mod TurningBoxesLemmas
+pub mod TurningKeysLemmas
+pub mod TurningLemmas
+pub mod TurningOnceLemmas
+pub mod TurningRoomLemmas

@@ -1,0 +1,96 @@
+-- A worker that goes on: one thing that nothing changes, and one step after another.
+use Rattle.std.specs.Prelude.{ℕ, Bool, List, [], ◌++◌, Option}
+use Rattle.std.proofs.Common.{refl, sym, ap, ◌∙◌, append_assoc, arith}
+use Rattle.std.proofs.lemmas.List.{append-nil}
+use Rattle.mail_contract.specs.Standing.{About}
+use Rattle.mail_contract.proofs.StandsLemmas.{stands_through}
+use Rattle.store_msg.specs.Reply.{PlainReply}
+use Rattle.store_msg.specs.declared.request.Request.{Request}
+use Rattle.worker_core.specs.State.{Entries, IsFixed, KeysStay, PlainWorker, State}
+use Rattle.drain_turns.specs.Stretch.{GoesOn}
+use Rattle.drain_turns.specs.Turning.{HasGoneOn}
+
+fixed_through : {before between now : State} → IsFixed before between → IsFixed between now → IsFixed before now
+fixed_through first then = record {
+  me = then.me ∙ first.me;
+  round = then.round ∙ first.round;
+  placement = then.placement ∙ first.placement;
+  kinds = then.kinds ∙ first.kinds;
+}
+
+module _ {Q T O G QK TK OK GK : Type 0} {request_key : Q → QK} {reply_key : T → TK} {reply_number : T → ℕ}
+    {gossip_key : O → OK} {gossip_number : O → ℕ} {in_key : G → GK} where
+  keys_through : {before between now : PlainWorker Q T O G}
+      → KeysStay request_key reply_key reply_number gossip_key gossip_number in_key before between
+      → KeysStay request_key reply_key reply_number gossip_key gossip_number in_key between now
+      → KeysStay request_key reply_key reply_number gossip_key gossip_number in_key before now
+  keys_through first then = record {
+    requests_key = then.requests_key ∙ first.requests_key;
+    replies_keys = then.replies_keys ∙ first.replies_keys;
+    replies_numbers = then.replies_numbers ∙ first.replies_numbers;
+    gossip_out_keys = then.gossip_out_keys ∙ first.gossip_out_keys;
+    gossip_out_numbers = then.gossip_out_numbers ∙ first.gossip_out_numbers;
+    gossip_in_key = then.gossip_in_key ∙ first.gossip_in_key;
+  }
+
+  module _ {complete : Bool} {senders : QK → ℕ} {received : Q → List (ℕ × Request)} {about : Q → ℕ → About Request} {replied : T → List PlainReply}
+      {all_told : Bool} {mates : GK → ℕ} {got : G → ℕ → ℕ → Option Entries} {about_mates : G → ℕ → About Entries} where
+    -- a worker that nothing changed has gone on
+    pub gone_on_still : (worker : PlainWorker Q T O G)
+        → HasGoneOn request_key reply_key reply_number gossip_key gossip_number in_key complete senders received about replied all_told mates got about_mates worker worker
+    gone_on_still worker = record {
+      fixed = record { me = refl; round = refl; placement = refl; kinds = refl };
+      keys = record { requests_key = refl; replies_keys = refl; replies_numbers = refl; gossip_out_keys = refl; gossip_out_numbers = refl; gossip_in_key = refl };
+      replied_more = λ place. omega arith;
+      more = [];
+      received_is = sym (append-nil (received worker.ends.requests));
+      in_range = λ are. are;
+      stand = λ sender. (refl, refl);
+      settled = λ are. are;
+      got_more = λ sender place batch is. is;
+      got_in_range = λ are. are;
+      of_sent = λ sender is. is;
+    }
+
+    -- what it kept in one step and in the next it kept in both
+    pub gone_on_through : {before between now : PlainWorker Q T O G}
+        → HasGoneOn request_key reply_key reply_number gossip_key gossip_number in_key complete senders received about replied all_told mates got about_mates before between
+        → HasGoneOn request_key reply_key reply_number gossip_key gossip_number in_key complete senders received about replied all_told mates got about_mates between now
+        → HasGoneOn request_key reply_key reply_number gossip_key gossip_number in_key complete senders received about replied all_told mates got about_mates before now
+    gone_on_through {before} {between} {now} first then = record {
+      fixed = fixed_through first.fixed then.fixed;
+      keys = keys_through first.keys then.keys;
+      replied_more = λ place. omega (arith, first.replied_more place, then.replied_more place);
+      more = first.more ++ then.more;
+      received_is = then.received_is ∙ ap (λ those. those ++ then.more) first.received_is ∙ append_assoc (received before.ends.requests) first.more then.more;
+      in_range = λ are. then.in_range (first.in_range are);
+      stand = stands_through (about before.ends.requests) (about between.ends.requests) (about now.ends.requests) first.stand then.stand;
+      settled = λ are. then.settled (first.settled are);
+      got_more = λ sender place batch is. then.got_more sender place batch (first.got_more sender place batch is);
+      got_in_range = λ are. then.got_in_range (first.got_in_range are);
+      of_sent = λ sender is. then.of_sent sender (first.of_sent sender is);
+    }
+
+    pub goes_on_still : (worker : PlainWorker Q T O G)
+        → GoesOn request_key reply_key reply_number gossip_key gossip_number in_key complete senders received about replied all_told mates got about_mates worker worker
+    goes_on_still worker = record {
+      gone_on = gone_on_still worker;
+      gossip_stand = λ sender. (refl, refl);
+      left = omega arith;
+      to_serve = omega arith;
+      changed = λ none. omega arith;
+    }
+
+    pub goes_on_through : {before between now : PlainWorker Q T O G}
+        → GoesOn request_key reply_key reply_number gossip_key gossip_number in_key complete senders received about replied all_told mates got about_mates before between
+        → GoesOn request_key reply_key reply_number gossip_key gossip_number in_key complete senders received about replied all_told mates got about_mates between now
+        → GoesOn request_key reply_key reply_number gossip_key gossip_number in_key complete senders received about replied all_told mates got about_mates before now
+    goes_on_through {before} {between} {now} first then = record {
+      gone_on = gone_on_through first.gone_on then.gone_on;
+      gossip_stand =
+          stands_through (about_mates before.ends.gossip_in) (about_mates between.ends.gossip_in) (about_mates now.ends.gossip_in)
+          first.gossip_stand then.gossip_stand;
+      left = omega (arith, first.left, then.left);
+      to_serve = omega (arith, first.to_serve, then.to_serve);
+      changed = λ none. omega (arith, first.changed none, then.changed (omega (arith, none, first.left)));
+    }

@@ -1,0 +1,42 @@
+use Rattle.std.proofs.Common.{◌≡◌, ◌∙◌, ◌++◌, ℕ, List, OnOk, ap, drop, inl, inr, length, slice_get, subst, sym, take, Some}
+use Rattle.std.proofs.Math.Seq.{take-append_seam}
+use Rattle.mail_contract.specs.Boxes.{box_of}
+use Rattle.worker_core.specs.State.{PlainWorker}
+use Rattle.drain_turns.specs.Ready.{FindPlaces}
+use Rattle.drain_turns.specs.Turning.{IsDone}
+use Rattle.drain_turns.proofs.passes.turn_all.Given.{Over}
+use Rattle.drain_turns.proofs.passes.turn_all.Goals as goal
+use Rattle.drain_turns.proofs.passes.turn_all.Goals.{After-turn_passes}
+
+-- a slice of all items, put back, is all
+whole : {X : Type 0} (old now : List X) (n : ℕ) → n ≡ length old → length now ≡ length old → take n (now ++ drop (length now) old) ≡ now
+whole old now n many as_many = ap (λ n. take n (now ++ drop (length now) old)) (many ∙ sym as_many) ∙ take-append_seam now (drop (length now) old)
+
+abbrev Worker : Over → Type 0
+Worker g = PlainWorker g.row.Q.Denot g.row.T.Denot g.row.O.Denot g.row.G.Denot
+
+module _ (g : Over) (c : After-turn_passes g) where
+  -- and so it is of the workers that took their turns
+  all_put_back : take c.args.workers.now.len (c.turn_passes.new.workers ++ drop (length c.turn_passes.new.workers) c.args.workers.now.items) ≡ c.turn_passes.new.workers
+  all_put_back =
+      whole c.args.workers.now.items c.turn_passes.new.workers c.args.workers.now.len c.args.workers.now.ok.0
+      (c.turn_passes.ensures.gone_on.long ∙ ap length c.deref_mut.ensures.value)
+
+pub turn_passes-requires-clause-room : goal.turn_passes-requires-clause-room
+turn_passes-requires-clause-room g c = elim c.requires.room [
+  | inl full ↦ inl full
+  | inr finds ↦ inr (subst (FindPlaces g.G.GossipRx.keeps g.Q.Rx.about g.T.Tx.sent (λ its. g.Q.Rx.senders (g.Q.Rx.key its))) (sym c.deref_mut.ensures.value) finds)
+]
+
+pub returns-clause-gone_on : goal.returns-clause-gone_on
+returns-clause-gone_on g c = λ place before now before_there now_there.
+    let here = (goal.at.returns-clause-gone_on g c).After-turn_passes in
+    c.turn_passes.ensures.gone_on.gone_on place before now (ap (λ those. slice_get those place) c.deref_mut.ensures.value ∙ before_there)
+    (ap (λ those. slice_get those place) (sym (all_put_back g here)) ∙ now_there)
+
+pub returns-clause-done : goal.returns-clause-done
+returns-clause-done g c =
+    let here = (goal.at.returns-clause-done g c).After-turn_passes in
+    subst (λ (those : List (Worker g)). OnOk c.turn_passes.result
+    ((place : ℕ) (now : Worker g) → slice_get those place ≡ Some now → IsDone g.Q.Rx.keeps (box_of g.Q.Rx.received g.Q.Rx.answers g.Q.Rx.about) now))
+    (sym (all_put_back g here)) c.turn_passes.ensures.done

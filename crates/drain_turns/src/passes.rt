@@ -1,0 +1,189 @@
+//! The workers take their turns, one after another, until nothing is left to do.
+ghost use Rattle.std.specs.Prelude.{◌≡◌, ◌≢◌, ◌⊎◌, ◌<◌, ◌≤◌, ◌+◌, ℕ, false, if◌then◌else◌, length, slice_get, IfOk, IsTrue, OnOk, Some};
+ghost use Rattle.drain_turns.specs.Ready.{AreReady, AreShown, FindPlaces, FreesPlaces, HasHeard, HaveGoneOn, HaveHeard, HaveNoneLeft, Knows, MatesHeard, NeverFull, StandsOrIsShown, Steady, keys_left, left_to, steadies};
+ghost use Rattle.drain_turns.specs.Turning.{HasGoneOn, IsDone};
+ghost use Rattle.mail_contract.specs.Boxes.{box_of};
+ghost use Rattle.worker_core.specs.State.{PlainWorker, dirty};
+
+use crate::turning::turn_out;
+use lattice_laws::NoMemory;
+use mail_contract::{GossipRx, Rx, Tx};
+use store_msg::{Batch, Reply, Request};
+use worker_core::WorkerOver;
+
+/// Turns the workers in passes until each was Idle in one. In each pass every worker, ascending, is held
+/// beside each of its mates and then turned until it answers Idle or Blocked.
+pub fn turn_all<T: Tx<Reply>, O: Tx<Batch>, Q: Rx<Request>, G: GossipRx<Batch, From = O>>(
+    workers: &mut Vec<WorkerOver<Q, T, O, G>>,
+) -> Result<(), NoMemory>
+    requires finite { IsTrue G.keeps.finite }
+    requires ready { AreReady Q.keeps.complete (λ its. Q.senders (Q.key its)) Q.received Q.about
+        O.key O.number G.key G.pairs G.senders G.about workers.old.items }
+    requires room { NeverFull T O T.fulls O.fulls
+        ⊎ FindPlaces G.keeps Q.about T.sent (λ its. Q.senders (Q.key its)) workers.old.items }
+    ensures long { length workers.new.items ≡ length workers.old.items }
+    ensures gone_on { (place : ℕ) (before now : PlainWorker Q T O G)
+        → slice_get workers.old.items place ≡ Some before
+        → slice_get workers.new.items place ≡ Some now
+        → HasGoneOn Q.key T.key T.number O.key O.number G.key
+        Q.keeps.complete Q.senders Q.received Q.about T.sent
+        G.keeps.complete G.senders G.got G.about before now }
+    ensures gossip_stands { (place : ℕ) (before now : PlainWorker Q T O G)
+        → slice_get workers.old.items place ≡ Some before
+        → slice_get workers.new.items place ≡ Some now
+        → StandsOrIsShown (length workers.old.items) (place + 1)
+        (G.about before.ends.gossip_in) (G.about now.ends.gossip_in) }
+    ensures done { OnOk result ((place : ℕ) (now : PlainWorker Q T O G)
+        → slice_get workers.new.items place ≡ Some now
+        → IsDone Q.keeps (box_of Q.received Q.answers Q.about) now) }
+{
+    turn_passes(workers)
+}
+
+/// Turns the workers in passes until each was Idle in one.
+fn turn_passes<T: Tx<Reply>, O: Tx<Batch>, Q: Rx<Request>, G: GossipRx<Batch, From = O>>(
+    workers: &mut [WorkerOver<Q, T, O, G>],
+) -> Result<(), NoMemory>
+    requires finite { IsTrue G.keeps.finite }
+    requires ready { AreReady Q.keeps.complete (λ its. Q.senders (Q.key its)) Q.received Q.about
+        O.key O.number G.key G.pairs G.senders G.about workers.old }
+    requires room { NeverFull T O T.fulls O.fulls
+        ⊎ FindPlaces G.keeps Q.about T.sent (λ its. Q.senders (Q.key its)) workers.old }
+    ensures gone_on { HaveGoneOn Q.key T.key T.number O.key O.number G.key
+        Q.keeps.complete Q.senders Q.received Q.about T.sent
+        G.keeps.complete G.senders G.got G.about workers.old workers.new }
+    ensures done { OnOk result ((place : ℕ) (now : PlainWorker Q T O G)
+        → slice_get workers.new place ≡ Some now
+        → IsDone Q.keeps (box_of Q.received Q.answers Q.about) now) }
+{
+    let mut idle = pass(workers)?;
+    while !idle {
+        idle = pass(workers)?;
+    }
+    Ok(())
+}
+
+/// Holds each worker, ascending, beside its mates and turns it. Tells whether each was Idle.
+fn pass<T: Tx<Reply>, O: Tx<Batch>, Q: Rx<Request>, G: GossipRx<Batch, From = O>>(
+    workers: &mut [WorkerOver<Q, T, O, G>],
+) -> Result<bool, NoMemory>
+    requires finite { IsTrue G.keeps.finite }
+    requires ready { AreReady Q.keeps.complete (λ its. Q.senders (Q.key its)) Q.received Q.about
+        O.key O.number G.key G.pairs G.senders G.about workers.old }
+    ensures gone_on { HaveGoneOn Q.key T.key T.number O.key O.number G.key
+        Q.keeps.complete Q.senders Q.received Q.about T.sent
+        G.keeps.complete G.senders G.got G.about workers.old workers.new }
+    ensures done { IfOk result (λ idle. IsTrue idle → (place : ℕ) (now : PlainWorker Q T O G)
+        → slice_get workers.new place ≡ Some now
+        → IsDone Q.keeps (box_of Q.received Q.answers Q.about) now) }
+    ensures rests { FindPlaces G.keeps Q.about T.sent (λ its. Q.senders (Q.key its)) workers.old
+        → OnOk result (HaveNoneLeft (λ its. Q.senders (Q.key its)) Q.received Q.about
+        (steadies O.key O.number O.sent G.key G.got workers.new)) }
+    ensures hears { FreesPlaces G.keeps → OnOk result (HaveHeard
+        (steadies O.key O.number O.sent G.key G.got workers.new)) }
+    ensures fell { FindPlaces G.keeps Q.about T.sent (λ its. Q.senders (Q.key its)) workers.old
+        → HaveHeard (steadies O.key O.number O.sent G.key G.got workers.old)
+        → HaveNoneLeft (λ its. Q.senders (Q.key its)) Q.received Q.about
+        (steadies O.key O.number O.sent G.key G.got workers.old)
+        → IfOk result (λ idle. keys_left (steadies O.key O.number O.sent G.key G.got workers.new)
+        + (if idle then 0 else 1)
+        ≤ keys_left (steadies O.key O.number O.sent G.key G.got workers.old)) }
+    ensures never_full { NeverFull T O T.fulls O.fulls → IfOk result IsTrue }
+{
+    let mut idle = true;
+    for place in 0..workers.len() {
+        let its_idle = turn_at(workers, place)?;
+        idle = idle && its_idle;
+    }
+    Ok(idle)
+}
+
+/// Holds the worker at a place beside each of its mates and turns it until it answers Idle or Blocked. Tells
+/// whether it was Idle.
+fn turn_at<T: Tx<Reply>, O: Tx<Batch>, Q: Rx<Request>, G: GossipRx<Batch, From = O>>(
+    workers: &mut [WorkerOver<Q, T, O, G>],
+    place: usize,
+) -> Result<bool, NoMemory>
+    requires finite { IsTrue G.keeps.finite }
+    requires within { place < length workers.old }
+    requires ready { AreReady Q.keeps.complete (λ its. Q.senders (Q.key its)) Q.received Q.about
+        O.key O.number G.key G.pairs G.senders G.about workers.old }
+    ensures gone_on { HaveGoneOn Q.key T.key T.number O.key O.number G.key
+        Q.keeps.complete Q.senders Q.received Q.about T.sent
+        G.keeps.complete G.senders G.got G.about workers.old workers.new }
+    ensures others { (at : ℕ) → at ≢ place
+        → slice_get (steadies O.key O.number O.sent G.key G.got workers.new) at
+        ≡ slice_get (steadies O.key O.number O.sent G.key G.got workers.old) at }
+    ensures changed { (was now : Steady Q T O.Key G.Key)
+        → slice_get (steadies O.key O.number O.sent G.key G.got workers.old) place ≡ Some was
+        → slice_get (steadies O.key O.number O.sent G.key G.got workers.new) place ≡ Some now
+        → left_to (λ its. Q.senders (Q.key its)) Q.received Q.about was ≡ 0
+        → dirty now.state ≤ dirty was.state }
+    ensures idle { IfOk result (λ idle. IsTrue idle → (now : PlainWorker Q T O G)
+        → slice_get workers.new place ≡ Some now
+        → IsDone Q.keeps (box_of Q.received Q.answers Q.about) now) }
+    ensures rests { FindPlaces G.keeps Q.about T.sent (λ its. Q.senders (Q.key its)) workers.old
+        → OnOk result ((now : Steady Q T O.Key G.Key)
+        → slice_get (steadies O.key O.number O.sent G.key G.got workers.new) place ≡ Some now
+        → left_to (λ its. Q.senders (Q.key its)) Q.received Q.about now ≡ 0) }
+    ensures hears { FreesPlaces G.keeps → OnOk result ((other : ℕ) → other ≢ place
+        → HasHeard other place (steadies O.key O.number O.sent G.key G.got workers.new)) }
+    ensures fell { FindPlaces G.keeps Q.about T.sent (λ its. Q.senders (Q.key its)) workers.old
+        → MatesHeard place (steadies O.key O.number O.sent G.key G.got workers.old)
+        → IfOk result (λ idle. idle ≡ false → (was now : Steady Q T O.Key G.Key)
+        → slice_get (steadies O.key O.number O.sent G.key G.got workers.old) place ≡ Some was
+        → slice_get (steadies O.key O.number O.sent G.key G.got workers.new) place ≡ Some now
+        → left_to (λ its. Q.senders (Q.key its)) Q.received Q.about was ≡ 0
+        → dirty now.state + 1 ≤ dirty was.state) }
+    ensures never_full { NeverFull T O T.fulls O.fulls → IfOk result IsTrue }
+{
+    show_to_all(workers, place);
+    let worker = &mut workers[place];
+    let idle = turn_out(worker)?;
+    worker.attest();
+    Ok(idle)
+}
+
+/// Holds the worker at a place beside each of its mates.
+fn show_to_all<T: Tx<Reply>, O: Tx<Batch>, Q: Rx<Request>, G: GossipRx<Batch, From = O>>(
+    workers: &mut [WorkerOver<Q, T, O, G>],
+    place: usize,
+)
+    requires within { place < length workers.old }
+    requires ready { AreReady Q.keeps.complete (λ its. Q.senders (Q.key its)) Q.received Q.about
+        O.key O.number G.key G.pairs G.senders G.about workers.old }
+    ensures gone_on { HaveGoneOn Q.key T.key T.number O.key O.number G.key
+        Q.keeps.complete Q.senders Q.received Q.about T.sent
+        G.keeps.complete G.senders G.got G.about workers.old workers.new }
+    ensures steady { steadies O.key O.number O.sent G.key G.got workers.new
+        ≡ steadies O.key O.number O.sent G.key G.got workers.old }
+    ensures knows { (other : ℕ) (now : PlainWorker Q T O G) (mate : Steady Q T O.Key G.Key)
+        → other ≢ place → slice_get workers.new place ≡ Some now
+        → slice_get (steadies O.key O.number O.sent G.key G.got workers.new) other ≡ Some mate
+        → Knows O.clear O.unseen O.sent G.keeps G.about place other now mate }
+{
+    for other in 0..workers.len() {
+        if other != place {
+            show_pair(workers, place, other);
+        }
+    }
+}
+
+/// Holds the workers at two places beside each other.
+fn show_pair<T: Tx<Reply>, O: Tx<Batch>, Q: Rx<Request>, G: GossipRx<Batch, From = O>>(
+    workers: &mut [WorkerOver<Q, T, O, G>],
+    place: usize,
+    other: usize,
+)
+    requires within { (place < length workers.old) × (other < length workers.old) }
+    requires differ { other ≢ place }
+    requires ready { AreReady Q.keeps.complete (λ its. Q.senders (Q.key its)) Q.received Q.about
+        O.key O.number G.key G.pairs G.senders G.about workers.old }
+    ensures shown { AreShown O.key O.number O.sent O.clear O.unseen G.key G.keeps G.got G.about
+        place other workers.old workers.new }
+{
+    let low = place.min(other);
+    let high = place.max(other);
+    let (front, back) = workers.split_at_mut(high);
+    front[low].beside_mate(&mut back[0]);
+}
