@@ -1,26 +1,33 @@
 #!/usr/bin/env bash
-# Times the program on long scripts, and prints how long each run took: the longest script that it takes, 1,048,576
-# bytes with 4,096 commands, and scripts with a half and a quarter of its commands, whose reports are checked too; 2,048
-# puts of words of 60 bytes into one set with a get after each, and the same into one map (130 MB of report each); and
-# 4,096 puts by 16 sessions to one key.
+# Times the program on long scripts, and prints how long each run took: large work; the longest script that it takes,
+# 1,048,576 bytes with 4,096 commands, on 8 workers with 3 replicas a key, and scripts with a half and a quarter of its
+# commands, whose reports are checked too; as many commands on 128 keys with 8 replicas; 2,048 puts of words of 60 bytes
+# into one set with a get after each, and the same into one map (130 MB of report each); and 4,096 puts by 16 sessions to
+# one key with 8 replicas.
 set -u
 top=$(cd "$(dirname "$(readlink -f "$0")")/.." && pwd) || exit 1
 folder=$(mktemp -d) || exit 1
 trap 'rm -rf "$folder"' EXIT
 
-# A script with so many commands in 16 sessions on 120 keys of all kinds, filled up to so many bytes by comments.
+# A script with so many commands in 16 sessions of all levels on 128 keys of all kinds, each on so many of 8 workers,
+# filled up to so many bytes by comments.
 make_script() {
-    awk -v commands="$1" -v bytes="$2" 'BEGIN {
+    awk -v commands="$1" -v factor="$2" -v bytes="$3" 'BEGIN {
         split("max or set map last versions", kinds, " ")
-        text = "anna 1\nworkers 1\n"
-        for (k = 0; k < 120; k++)
+        split("eventual committed causal", levels, " ")
+        text = "anna 1\nworkers 8\nfactor " factor "\n"
+        for (k = 0; k < 128; k++)
             text = text "key k" k " " kinds[k % 6 + 1] "\n"
         each = commands / 16
         for (s = 0; s < 16; s++) {
-            text = text "session s" s " eventual\n"
+            text = text "session s" s " " levels[s % 3 + 1] "\n"
             for (c = 0; c < each; c++) {
-                k = (s * each + c) % 120
-                if (c % 4 == 3)
+                k = (s * each + c) % 128
+                if (s % 3 == 1 && c % 16 == 0)
+                    text = text "begin\n"
+                else if (s % 3 == 1 && c % 16 == 15)
+                    text = text "commit\n"
+                else if (c % 4 == 3)
                     text = text "get k" k "\n"
                 else if (k % 6 == 0)
                     text = text "put k" k " " c "\n"
@@ -29,7 +36,7 @@ make_script() {
                 else if (k % 6 == 3)
                     text = text "put k" k " f" c % 10 " " c "\n"
                 else
-                    text = text "put k" k " w" c "\n"
+                    text = text "put k" k " w" c % 50 "\n"
             }
         }
         text = text "end\n"
@@ -52,7 +59,7 @@ make_script() {
 # 2,048 puts of different words of 60 bytes to one key of this kind, with a get after each; a map's field has a number.
 make_words() {
     awk -v kind="$1" 'BEGIN {
-        printf "anna 1\nworkers 1\nkey k %s\nsession s eventual\n", kind
+        printf "anna 1\nworkers 8\nfactor 3\nkey k %s\nsession s eventual\n", kind
         for (c = 0; c < 2048; c++)
             printf "put k w%059d%s\nget k\n", c, kind == "map" ? " 7" : ""
         print "end"
@@ -62,7 +69,7 @@ make_words() {
 # 4,096 puts to one key, by 16 sessions.
 make_puts() {
     awk 'BEGIN {
-        print "anna 1\nworkers 1\nkey k max"
+        print "anna 1\nworkers 8\nfactor 8\nkey k max"
         for (s = 0; s < 16; s++) {
             print "session s" s " eventual"
             for (c = 0; c < 256; c++)
@@ -95,14 +102,22 @@ time_check() {
 }
 
 "$top/anna" run <"$top/examples/first.anna" >/dev/null || exit 1 # builds it where that is due
+begun=$(date +%s%N)
+for turn in 1 2 3 4 5; do
+    "$top/anna" big 7 >/dev/null || exit 1
+done
+ended=$(date +%s%N)
+echo "big 7: $(((ended - begun) / 5000000)) ms"
 for commands in 1024 2048 4096; do
-    make_script "$commands" $((commands * 256)) >"$folder/script"
-    time_run "$commands commands" 5
+    make_script "$commands" 3 $((commands * 256)) >"$folder/script"
+    time_run "$commands commands on 8 workers, 3 replicas a key" 5
     time_check "$commands commands"
 done
+make_script 4096 8 0 >"$folder/script"
+time_run "4096 commands on 8 workers, 8 replicas a key" 5
 for kind in set map; do
     make_words "$kind" >"$folder/script"
     time_run "2048 puts of words into one $kind with a get after each" 1
 done
 make_puts >"$folder/script"
-time_run "4096 puts by 16 sessions to one key" 50
+time_run "4096 puts by 16 sessions to one key on 8 workers" 50

@@ -1,40 +1,62 @@
 -- What a run owes, before it is written.
-use Rattle.std.specs.Prelude.{◌≡◌, ℕ, List, Option, Some, ⊤}
+use Rattle.std.specs.Prelude.{◌≡◌, ℕ, List, Option, Some, None, ⊤}
+use Rattle.big_work.specs.Big.{script_of}
 use Rattle.placement.specs.Config.{placed}
 use Rattle.session_known.specs.Legal.{IsLegal}
 use Rattle.session_known.specs.declared.report.Report as reports
 use Rattle.session_known.specs.declared.script.Script.{Script}
 use Rattle.anna_check.specs.Unlawful.{IsVerdict}
 use Rattle.anna_check.specs.declared.judge.Verdict.{Verdict}
-use Rattle.anna_run.specs.Run.{SourceUse, HasServed, IsFound, Owed, verdict_status, verdict_text}
-use Rattle.anna_run.specs.declared.run.Outcome.{Outcome}
-use Rattle.anna_run.specs.declared.run.Outcome.TheVariants.{Report, Line}
+use Rattle.anna_run.specs.Run.{Made, SourceUse, HasServed, HasWorked, IsFound, Owed, verdict_status, verdict_text}
+use Rattle.anna_run.specs.declared.run.OutcomeOver.{OutcomeOver}
+use Rattle.anna_run.specs.declared.run.OutcomeOver.TheVariants.{Line, Report, Summary}
+use Rattle.anna_run.specs.declared.run.Status.{Status}
 use Rattle.anna_run.specs.declared.run.Status.TheVariants.{Done, Unlawful}
 use Rattle.anna_run.specs.declared.words.Command.{Command}
-use Rattle.anna_run.specs.declared.words.Command.TheVariants.{Run}
+use Rattle.anna_run.specs.declared.words.Command.TheVariants.{Big, Check, Run}
+
+-- it is the report of a script that was read and run, or another line that is owed then
+abbrev pub IsOwedByRun : {D : Type 0} → (D → Made) → SourceUse → OutcomeOver D → Type 0
+IsOwedByRun made source (Report script drained) = HasServed source script (made drained)
+IsOwedByRun made source (Summary number script drained) = ⊥
+IsOwedByRun made source (Line status text) = Owed (Some Run) source None status text.items
+
+-- it is the summary of the large work of a number
+abbrev pub IsOwedByWork : {D : Type 0} → (D → Made) → ℕ → OutcomeOver D → Type 0
+IsOwedByWork made asked (Summary number script drained) = (number ≡ asked) × (script ≡ script_of asked) × HasWorked asked (made drained)
+IsOwedByWork made asked outcome = ⊥
+
+-- it is a line that is owed without a run
+abbrev pub IsOwedLine : {D : Type 0} → (Status → List ℕ → Type 0) → OutcomeOver D → Type 0
+IsOwedLine owed (Line status text) = owed status text.items
+IsOwedLine owed outcome = ⊥
 
 -- The outcome is one that is owed where these words were given and the source was used so.
-abbrev pub IsOwed : Option Command → SourceUse → Outcome → Type 0
-IsOwed command source (Report script report) = (command ≡ Some Run) × HasServed source script report
-IsOwed command source (Line status text) = Owed command source status text.items
+abbrev pub IsOwed : {D : Type 0} → (D → Made) → Option Command → SourceUse → OutcomeOver D → Type 0
+IsOwed made (Some Run) source outcome = IsOwedByRun made source outcome
+IsOwed made (Some (Big number)) source outcome = IsOwedByWork made number outcome
+IsOwed made (Some Check) source outcome = IsOwedLine (Owed (Some Check) source None) outcome
+IsOwed made None source outcome = IsOwedLine (Owed None source None) outcome
 
--- it is a line of text that is owed where this was found of the bytes
-abbrev pub IsOwedOf : List ℕ → Outcome → Type 0
-IsOwedOf bytes (Report script report) = ⊥
-IsOwedOf bytes (Line status text) = IsFound bytes status text.items
+module _ {D : Type 0} where
+  -- it is a line of text that is owed where this was found of the bytes
+  abbrev pub IsOwedOf : List ℕ → OutcomeOver D → Type 0
+  IsOwedOf bytes (Line status text) = IsFound bytes status text.items
+  IsOwedOf bytes outcome = ⊥
 
--- it is the line of the report's verdict
-abbrev pub TellsVerdict : Script → reports.Report → Outcome → Type 0
-TellsVerdict script report (Report served answered) = ⊥
-TellsVerdict script report (Line status text) = (verdict : Verdict) × IsVerdict (placed script.config) script report verdict × (status ≡ verdict_status verdict) × (text.items ≡ verdict_text script verdict)
+  -- it is the line of the report's verdict
+  abbrev pub TellsVerdict : Script → reports.Report → OutcomeOver D → Type 0
+  TellsVerdict script report (Line status text) =
+      (verdict : Verdict) × IsVerdict (placed script.config) script report verdict × (status ≡ verdict_status verdict) × (text.items ≡ verdict_text script verdict)
+  TellsVerdict script report outcome = ⊥
 
--- it says of the report whether it is legal
-abbrev pub TellsOf : Script → reports.Report → Outcome → Type 0
-TellsOf script report (Line Done text) = IsLegal script report
-TellsOf script report (Line Unlawful text) = IsLegal script report → ⊥
-TellsOf script report outcome = ⊥
+  -- it says of the report whether it is legal
+  abbrev pub TellsOf : Script → reports.Report → OutcomeOver D → Type 0
+  TellsOf script report (Line Done text) = IsLegal script report
+  TellsOf script report (Line Unlawful text) = IsLegal script report → ⊥
+  TellsOf script report outcome = ⊥
 
--- it is a report
-abbrev pub IsReport : Outcome → Type 0
-IsReport (Report script report) = ⊤
-IsReport (Line status text) = ⊥
+  -- it is a report
+  abbrev pub IsReport : OutcomeOver D → Type 0
+  IsReport (Report script drained) = ⊤
+  IsReport outcome = ⊥

@@ -1,13 +1,13 @@
 -- What the program owes, by its status.
-use Rattle.std.specs.Prelude.{◌≡◌, ℕ, ◌+◌, ◌<◌, ◌≤◌, ◌⊎◌, false, List, [], ◌∷◌, ◌++◌, take, drop, length, Option, Some, None, Result, Ok, Err, Vec, String, codes}
+use Rattle.std.specs.Prelude.{◌≡◌, ℕ, ◌+◌, ◌<◌, ◌≤◌, ◌⊎◌, List, [], ◌∷◌, ◌++◌, take, drop, length, Option, Some, None, Result, Ok, Err, Vec, String, codes, ⊤}
 use Rattle.std.specs.Global.{Global}
 use Rattle.std.specs.Fmt.{decimal}
 use Rattle.lattice_laws.specs.Counts.{Rose}
 use Rattle.outside.specs.Outside.{Ends, NoneLeft, Took, TookMost}
+use Rattle.outside.specs.declared.Failed.{Failed}
 use Rattle.placement.specs.Config.{placed}
-use Rattle.script_reader.specs.Grammar.{most_bytes, all_built, IsScript, IsRefused}
+use Rattle.script_reader.specs.Grammar.{most_bytes, IsScript, IsRefused}
 use Rattle.script_reader.specs.Split.{split_place}
-use Rattle.script_reader.specs.declared.built.Built.{Built}
 use Rattle.session_known.specs.Form.{HasForm}
 use Rattle.session_known.specs.Legal.{IsLegal}
 use Rattle.session_known.specs.declared.report.Report.{Report}
@@ -18,11 +18,20 @@ use Rattle.report_lines.specs.Text.{text_of}
 use Rattle.anna_check.specs.Unlawful.{IsVerdict}
 use Rattle.anna_check.specs.declared.judge.Verdict.{Verdict}
 use Rattle.anna_check.specs.declared.judge.Verdict.TheVariants as verdicts
+use Rattle.big_work.specs.Big.{script_of, summary_text}
+use Rattle.drain_ledger.specs.Drained.{IsDrained, ledger_in}
+use Rattle.drain_ledger.specs.declared.draining.DrainedOver.{DrainedOver}
+use Rattle.run_ledger.specs.Ledger.{Ledger}
+use Rattle.store_msg.specs.Reply.{PlainReply}
+use Rattle.store_msg.specs.declared.request.Request.{Request}
+use Rattle.worker_core.specs.State.{Entries}
 use Rattle.anna_run.specs.Words.{command_in}
 use Rattle.anna_run.specs.declared.words.Command.{Command}
-use Rattle.anna_run.specs.declared.words.Command.TheVariants.{Run, Check}
+use Rattle.anna_run.specs.declared.words.Command.TheVariants.{Big, Check, Run}
 use Rattle.anna_run.specs.declared.words.WordsFault.{WordsFault}
 use Rattle.anna_run.specs.declared.words.WordsFault.TheVariants as faults
+use Rattle.anna_run.specs.declared.run.PartsOver.{PartsOver}
+use Rattle.anna_run.specs.declared.run.PartsOver.TheVariants as parts
 use Rattle.anna_run.specs.declared.run.Status.{Status}
 use Rattle.anna_run.specs.declared.run.Status.TheVariants.{Done, Usage, Refused, Unlawful, ReadFault, WriteFault, NoMemory}
 
@@ -70,20 +79,50 @@ exit_number WriteFault = 5
 exit_number NoMemory = 6
 exit_number Unlawful = 7
 
+-- the status of a text that was written, or not
+abbrev pub write_status : Result (Unit {0}) Failed → Status
+write_status (Ok done) = Done
+write_status (Err failed) = WriteFault
+
 -- the greatest length of an input that is checked, in bytes
 abbrev pub most_checked : ℕ
 most_checked = 16777216
 
--- the most bytes that are taken: one more than the input may have, which tells that it is too long; none where the words are of no
--- accepted form
+-- the most bytes that are taken: one more than the input may have, which tells that it is too long; none where the words ask for no
+-- input, or are of no accepted form
 abbrev pub most_taken : Option Command → ℕ
 most_taken (Some Run) = most_bytes + 1
 most_taken (Some Check) = most_checked + 1
+most_taken (Some (Big number)) = 0
 most_taken None = 0
 
 -- no more than that was taken
 abbrev pub IsBounded : Option Command → SourceUse → Type 0
 IsBounded command source = (bytes : List ℕ) × (length bytes ≤ most_taken command) × Took source.left_before source.left_now bytes
+
+-- the words ask for no input
+abbrev pub TakesNothing : Option Command → Type 0
+TakesNothing (Some Run) = ⊥
+TakesNothing (Some Check) = ⊥
+TakesNothing (Some (Big number)) = ⊤
+TakesNothing None = ⊤
+
+-- ---- a run
+
+-- A run that was made, as contracts see it: its report, and what is in hand of its parties once it is drained.
+pub record Made : Type 0 where
+  pub report : Report
+  pub ledger : Ledger
+
+-- what a drained run is, over ends that tell what they handed out
+abbrev pub made_of : {Q G R QF QK QFK GF GK GFK RF RK RFK : Type 0} → (Q → List (ℕ × Request)) → (G → ℕ → ℕ → Option Entries) → (R → List (ℕ × PlainReply))
+    → DrainedOver Q G R QF QK QFK GF GK GFK RF RK RFK → Made
+made_of received got heard drained = record { report = drained.report; ledger = ledger_in received got heard drained.workers.items drained.replies.items }
+
+-- what the parts of a run are
+abbrev pub ran_of : {D : Type 0} → (D → Made) → PartsOver D → Option Made
+ran_of made parts.Nothing = None
+ran_of made (parts.Plain drained) = Some (made drained)
 
 abbrev pub usage_text : List ℕ
 usage_text = codes "usage: anna COMMAND" ++ 10 ∷ []
@@ -94,24 +133,30 @@ read_fault_text = codes "read fault" ++ 10 ∷ []
 abbrev pub refusal_text : ℕ → ℕ → List ℕ
 refusal_text line code = codes "refused line " ++ decimal line ++ codes ": code " ++ decimal code ++ 10 ∷ []
 
--- the forms of script that are served: one worker, and eventual sessions
-abbrev pub served_forms : Built
-served_forms = record { workers = false; levels = false }
-
--- The whole input was taken, it is a script, and the report is legal for it.
-pub record HasServed (source : SourceUse) (script : Script) (report : Report) : Type 0 where
+-- The whole input was taken, it is a script, and the report is legal for it: it came from a run of the script, of which this is in hand.
+pub record HasServed (source : SourceUse) (script : Script) (made : Made) : Type 0 where
   pub bytes : List ℕ
   pub taken : TookMost (most_taken (Some Run)) source.left_before source.left_now bytes
   pub whole : NoneLeft source.left_now
-  pub is_script : IsScript served_forms bytes script
-  pub is_legal : IsLegal script report
+  pub is_script : IsScript bytes script
+  pub is_legal : IsLegal script made.report
+  pub is_drained : IsDrained script made.report made.ledger
 
 -- The text is that of such a report.
-pub record IsServed (source : SourceUse) (text : List ℕ) : Type 0 where
+pub record IsServed (source : SourceUse) (made : Made) (text : List ℕ) : Type 0 where
   pub script : Script
-  pub report : Report
-  pub served : HasServed source script report
-  pub is_text : text ≡ text_of script report
+  pub served : HasServed source script made
+  pub is_text : text ≡ text_of script made.report
+
+-- The report is legal for the script of the large work of a number, and came from a run of it, of which this is in hand.
+pub record HasWorked (number : ℕ) (made : Made) : Type 0 where
+  pub is_legal : IsLegal (script_of number) made.report
+  pub is_drained : IsDrained (script_of number) made.report made.ledger
+
+-- The text is the summary of such a report.
+pub record IsWorked (number : ℕ) (made : Made) (text : List ℕ) : Type 0 where
+  pub worked : HasWorked number made
+  pub is_text : text ≡ summary_text number (script_of number) made.report
 
 -- The input, or its first bytes where it is too long, is refused, and the text says at which line and with which code.
 pub record IsRefusal (source : SourceUse) (text : List ℕ) : Type 0 where
@@ -119,7 +164,7 @@ pub record IsRefusal (source : SourceUse) (text : List ℕ) : Type 0 where
   pub line : ℕ
   pub code : ℕ
   pub taken : TookMost (most_taken (Some Run)) source.left_before source.left_now bytes
-  pub refused : IsRefused served_forms bytes line code
+  pub refused : IsRefused bytes line code
   pub is_text : text ≡ refusal_text line code
 
 -- ---- a check
@@ -145,7 +190,7 @@ verdict_text script (verdicts.Final key worker) = codes "unlawful final " ++ (ke
 -- in form.
 pub record AreChecked (bytes : List ℕ) (script : Script) (report : Report) : Type 0 where
   pub short : length bytes ≤ most_checked
-  pub is_script : IsScript all_built (take (split_place bytes) bytes) script
+  pub is_script : IsScript (take (split_place bytes) bytes) script
   pub in_form : HasForm script (placed script.config) report
   pub is_report : drop (split_place bytes) bytes ≡ text_of script report
 
@@ -172,14 +217,14 @@ pub record IsFoundNoScript (bytes text : List ℕ) : Type 0 where
   pub short : length bytes ≤ most_checked
   pub line : ℕ
   pub code : ℕ
-  pub refused : IsRefused all_built (take (split_place bytes) bytes) line code
+  pub refused : IsRefused (take (split_place bytes) bytes) line code
   pub is_text : text ≡ refusal_text line code
 
 -- those are a script, those after it are not the text of a report in form, and the text says at which line of theirs
 pub record IsFoundNoReport (bytes text : List ℕ) : Type 0 where
   pub short : length bytes ≤ most_checked
   pub script : Script
-  pub is_script : IsScript all_built (take (split_place bytes) bytes) script
+  pub is_script : IsScript (take (split_place bytes) bytes) script
   pub line : ℕ
   pub no_report : IsNoReport script (placed script.config) (drop (split_place bytes) bytes)
   pub first : IsFirstOutOfForm script (placed script.config) (drop (split_place bytes) bytes) line
@@ -198,29 +243,39 @@ pub record IsChecked (source : SourceUse) (status : Status) (text : List ℕ) : 
   pub taken : TookMost (most_taken (Some Check)) source.left_before source.left_now bytes
   pub found : IsFound bytes status text
 
--- Which text goes with which status, where these words were given and the source was used so.
-abbrev pub Owed : Option Command → SourceUse → Status → List ℕ → Type 0
-Owed (Some Run) source Done text = IsServed source text
-Owed (Some Run) source Refused text = IsRefusal source text
-Owed (Some Check) source Done text = IsChecked source Done text
-Owed (Some Check) source Unlawful text = IsChecked source Unlawful text
-Owed (Some Check) source Refused text = IsChecked source Refused text
-Owed (Some command) source ReadFault text = Rose source.faults_before source.faults_now × (text ≡ read_fault_text)
-Owed None source Usage text = IsUntouched source × (text ≡ usage_text)
-Owed command source status text = ⊥
+-- the source failed, and the text says so
+abbrev pub IsReadFault : SourceUse → List ℕ → Type 0
+IsReadFault source text = Rose source.faults_before source.faults_now × (text ≡ read_fault_text)
 
--- How a run ends: memory ran out, and the sink is as it was; or a text that is owed was written, and the run ends with the status that
--- goes with it, or a front of it was, and the run ends as the sink failed.
-abbrev pub IsEnd : Option Command → SourceUse → SinkUse → Status → Type 0
-IsEnd command source sink status =
-    ((status ≡ NoMemory) × IsUnwritten sink)
-    ⊎ Ends WriteFault (Owed command source) (Rose sink.faults_before sink.faults_now) sink.written_before sink.written_now status
+-- Which text goes with which status, where these words were given, the source was used so, and this run was made.
+abbrev pub Owed : Option Command → SourceUse → Option Made → Status → List ℕ → Type 0
+Owed (Some Run) source (Some made) Done text = IsServed source made text
+Owed (Some Run) source None Refused text = IsRefusal source text
+Owed (Some Run) source None ReadFault text = IsReadFault source text
+Owed (Some (Big number)) source (Some made) Done text = IsWorked number made text
+Owed (Some Check) source None Done text = IsChecked source Done text
+Owed (Some Check) source None Unlawful text = IsChecked source Unlawful text
+Owed (Some Check) source None Refused text = IsChecked source Refused text
+Owed (Some Check) source None ReadFault text = IsReadFault source text
+Owed None source None Usage text = text ≡ usage_text
+Owed command source ran status text = ⊥
 
--- Where a script that is served was asked to be run, and neither end failed, it was, unless memory ran out.
+-- How a run ends: memory ran out, no run is there, and the sink is as it was; or a text that is owed was written, and the run ends with
+-- the status that goes with it, or a front of it was, and the run ends as the sink failed.
+abbrev pub IsEnd : Option Command → SourceUse → SinkUse → Option Made → Status → Type 0
+IsEnd command source sink ran status =
+    ((status ≡ NoMemory) × (ran ≡ None) × IsUnwritten sink)
+    ⊎ Ends WriteFault (Owed command source ran) (Rose sink.faults_before sink.faults_now) sink.written_before sink.written_now status
+
+-- Where a script was asked to be run, and neither end failed, it was, unless memory ran out.
 abbrev pub IsComplete : Option Command → SourceUse → SinkUse → Status → Type 0
 IsComplete command source sink status =
-    (input : List ℕ) (script : Script) → command ≡ Some Run → source.left_before ≡ Some input → IsScript served_forms input script
+    (input : List ℕ) (script : Script) → command ≡ Some Run → source.left_before ≡ Some input → IsScript input script
     → IsFaultless source sink → (status ≡ Done) ⊎ (status ≡ NoMemory)
+
+-- and so the large work of a number
+abbrev pub IsWorkComplete : Option Command → SinkUse → Status → Type 0
+IsWorkComplete command sink status = (number : ℕ) → command ≡ Some (Big number) → (Rose sink.faults_before sink.faults_now → ⊥) → (status ≡ Done) ⊎ (status ≡ NoMemory)
 
 -- Where a report after its script was asked to be judged, and neither end failed, the status says whether the report is legal, unless
 -- memory ran out.
@@ -235,21 +290,22 @@ pub record KeepsCounts (source : SourceUse) (sink : SinkUse) : Type 0 where
   pub source_count : source.faults_before ≤ source.faults_now
   pub sink_count : sink.faults_before ≤ sink.faults_now
 
--- All that a run owes to whoever gave these words, by the ends that it used and the status that it ended with.
-pub record IsRun (command : Option Command) (source : SourceUse) (sink : SinkUse) (status : Status) : Type 0 where
-  pub ends : IsEnd command source sink status
+-- All that a run owes to whoever gave these words, by the ends that it used, the run that it made and the status that it ended with.
+pub record IsRun (command : Option Command) (source : SourceUse) (sink : SinkUse) (ran : Option Made) (status : Status) : Type 0 where
+  pub ends : IsEnd command source sink ran status
   pub bounded : IsBounded command source
-  pub untouched : command ≡ None → IsUntouched source
+  pub untouched : TakesNothing command → IsUntouched source
   pub complete : IsComplete command source sink status
+  pub works : IsWorkComplete command sink status
   pub judges : IsJudged command source sink status
   pub counts : KeepsCounts source sink
 
 -- the words that the program was given: some, or none that can be read
-abbrev pub IsRunOf : Result (Vec (String Global) Global) WordsFault → SourceUse → SinkUse → Status → Type 0
-IsRunOf (Ok words) source sink status = IsRun (command_in words.items) source sink status
-IsRunOf (Err faults.NotText) source sink status = IsRun None source sink status
-IsRunOf (Err faults.NoMemory) source sink status = (status ≡ NoMemory) × IsUntouched source × IsUnwritten sink
+abbrev pub IsRunOf : Result (Vec (String Global) Global) WordsFault → SourceUse → SinkUse → Option Made → Status → Type 0
+IsRunOf (Ok words) source sink ran status = IsRun (command_in words.items) source sink ran status
+IsRunOf (Err faults.NotText) source sink ran status = IsRun None source sink ran status
+IsRunOf (Err faults.NoMemory) source sink ran status = (status ≡ NoMemory) × (ran ≡ None) × IsUntouched source × IsUnwritten sink
 
 -- The program ends with the number of a status with which such a run ends.
 abbrev pub IsExitOf : Result (Vec (String Global) Global) WordsFault → SourceUse → SinkUse → ℕ → Type 0
-IsExitOf words source sink number = (status : Status) × (number ≡ exit_number status) × IsRunOf words source sink status
+IsExitOf words source sink number = (ran : Option Made) × (status : Status) × (number ≡ exit_number status) × IsRunOf words source sink ran status

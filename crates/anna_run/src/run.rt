@@ -7,26 +7,23 @@ ghost use Rattle.session_known.specs.Form.{HasForm};
 ghost use Rattle.session_known.specs.Script.{IsValidScript};
 ghost use Rattle.session_known.specs.declared.script.Script.{Script};
 ghost use Rattle.session_known.specs.declared.report.Report as reports;
-ghost use Rattle.anna_run.specs.Outcomes.{IsOwed, IsOwedOf, IsReport, TellsOf, TellsVerdict};
+ghost use Rattle.anna_run.specs.Outcomes.{IsOwed, IsOwedByWork, IsOwedOf, IsReport, TellsOf, TellsVerdict};
 ghost use Rattle.anna_run.specs.Words.{command_in};
-ghost use Rattle.anna_run.specs.Run.{use_of, sink_use_of, served_forms, exit_number, verdict_status, AreChecked, IsUntouched, IsBounded, IsEnd, IsComplete, IsJudged, KeepsCounts, IsRunOf, IsExitOf};
+ghost use Rattle.anna_run.specs.Run.{use_of, sink_use_of, exit_number, verdict_status, made_of, ran_of, write_status, AreChecked, IsUntouched, IsBounded, IsEnd, IsComplete, IsJudged, IsWorkComplete, KeepsCounts, IsRunOf, IsExitOf, TakesNothing};
 
 use crate::texts::{line, refusal, report_refusal, verdict_line};
 use crate::words::{Command, WordsFault, read_words};
 use anna_check::{Verdict, check};
+use big_work::{big_script, write_summary};
 use lattice_laws::NoMemory;
-use one_worker::serve::serve;
+use mail_contract::{GossipRx, PlainRx, Rx};
 use outside::{Failed, ReadFault, Sink, Source, finish, read_all};
 use report_text::{ReportFault, read_report, write_report};
-use script_reader::{Built, MOST_BYTES, ScriptFault, read_script, read_script_built, split_input};
+use script_reader::{MOST_BYTES, ScriptFault, read_script, split_input};
+use serial_run::{PlainDrained, serve};
 use session_known::{Report, Script};
 use std::alloc::Global;
-
-/// The forms of script that are served: one worker, and eventual sessions.
-const SERVED_FORMS: Built = Built {
-    workers: false,
-    levels: false,
-};
+use store_msg::{Batch, Reply, Request};
 
 /// The greatest length of an input that is checked, in bytes.
 const MOST_CHECKED: usize = 16_777_216;
@@ -70,23 +67,41 @@ impl Status {
     }
 }
 
+/// The run that was made, as it is once it is drained.
+#[derive(Drop)]
+pub enum PartsOver<D: Drop> {
+    /// None was.
+    Nothing,
+    /// One over plain mail.
+    Plain(D),
+}
+
+/// The run that was made.
+pub type Parts = PartsOver<PlainDrained>;
+
 /// What a run owes to whoever asked.
 #[derive(Drop)]
-enum Outcome {
-    /// The report of a script.
-    Report(Script, Report),
+enum OutcomeOver<D: Drop> {
+    /// The report of a script that was run.
+    Report(Script, D),
+    /// The summary of the large work of a number, which was run.
+    Summary(u64, Script, D),
     /// A line of text, and the status that goes with it.
     Line(Status, Vec<u8>),
 }
 
-/// Reads a script and serves it.
+type Outcome = OutcomeOver<PlainDrained>;
+
+/// Reads a script and runs it.
 fn run_script<S: Source>(alloc: Global, src: &mut S) -> Result<Outcome, NoMemory>
-    ensures owed { IfOk result (IsOwed (Some Command.Run)
-        (use_of S.left S.faults src.old src.new)) }
+    ensures owed { IfOk result (IsOwed (made_of
+        ⟦<PlainRx<Request> as Rx<Request>>⟧.received ⟦<PlainRx<Batch> as GossipRx<Batch>>⟧.got
+        ⟦<PlainRx<Reply> as Rx<Reply>>⟧.received)
+        (Some Command.Run) (use_of S.left S.faults src.old src.new)) }
     ensures bounded { IsBounded (Some Command.Run) (use_of S.left S.faults src.old src.new) }
     ensures count { S.faults src.old ≤ S.faults src.new }
     ensures complete { (input : List ℕ) (script : Script) → S.left src.old ≡ Some input
-        → IsScript served_forms input script
+        → IsScript input script
         → (Rose (S.faults src.old) (S.faults src.new) → ⊥) → IfOk result IsReport }
 {
     let bytes = match read_all(alloc, src, MOST_BYTES + 1) {
@@ -96,10 +111,10 @@ fn run_script<S: Source>(alloc: Global, src: &mut S) -> Result<Outcome, NoMemory
         }
         Err(ReadFault::NoMemory) => return Err(NoMemory),
     };
-    match read_script_built(alloc, &bytes, SERVED_FORMS) {
+    match read_script(alloc, &bytes) {
         Ok(script) => {
-            let report = serve(alloc, &script)?;
-            Ok(Outcome::Report(script, report))
+            let drained = serve(alloc, &script)?;
+            Ok(Outcome::Report(script, drained))
         }
         Err(ScriptFault::Refused { line, code }) => {
             Ok(Outcome::Line(Status::Refused, refusal(alloc, line, code)?))
@@ -108,10 +123,23 @@ fn run_script<S: Source>(alloc: Global, src: &mut S) -> Result<Outcome, NoMemory
     }
 }
 
+/// Runs the large work of a number.
+fn run_work(alloc: Global, number: u64) -> Result<Outcome, NoMemory>
+    ensures { IfOk result (IsOwedByWork (made_of
+        ⟦<PlainRx<Request> as Rx<Request>>⟧.received ⟦<PlainRx<Batch> as GossipRx<Batch>>⟧.got
+        ⟦<PlainRx<Reply> as Rx<Reply>>⟧.received) number) }
+{
+    let script = big_script(alloc, number)?;
+    let drained = serve(alloc, &script)?;
+    Ok(Outcome::Summary(number, script, drained))
+}
+
 /// Reads a script and the report after it, and judges the report.
 fn check_input<S: Source>(alloc: Global, src: &mut S) -> Result<Outcome, NoMemory>
-    ensures owed { IfOk result (IsOwed (Some Command.Check)
-        (use_of S.left S.faults src.old src.new)) }
+    ensures owed { IfOk result (IsOwed (made_of
+        ⟦<PlainRx<Request> as Rx<Request>>⟧.received ⟦<PlainRx<Batch> as GossipRx<Batch>>⟧.got
+        ⟦<PlainRx<Reply> as Rx<Reply>>⟧.received)
+        (Some Command.Check) (use_of S.left S.faults src.old src.new)) }
     ensures bounded { IsBounded (Some Command.Check) (use_of S.left S.faults src.old src.new) }
     ensures count { S.faults src.old ≤ S.faults src.new }
     ensures complete { (input : List ℕ) (script : Script) (report : reports.Report)
@@ -178,14 +206,16 @@ fn status_of(verdict: Verdict) -> Status
 
 /// What is owed to these words and this source.
 fn outcome_of<S: Source>(alloc: Global, words: &[String], src: &mut S) -> Result<Outcome, NoMemory>
-    ensures owed { IfOk result (IsOwed (command_in words.now)
-        (use_of S.left S.faults src.old src.new)) }
+    ensures owed { IfOk result (IsOwed (made_of
+        ⟦<PlainRx<Request> as Rx<Request>>⟧.received ⟦<PlainRx<Batch> as GossipRx<Batch>>⟧.got
+        ⟦<PlainRx<Reply> as Rx<Reply>>⟧.received)
+        (command_in words.now) (use_of S.left S.faults src.old src.new)) }
     ensures bounded { IsBounded (command_in words.now) (use_of S.left S.faults src.old src.new) }
-    ensures untouched { command_in words.now ≡ None
+    ensures untouched { TakesNothing (command_in words.now)
         → IsUntouched (use_of S.left S.faults src.old src.new) }
     ensures count { S.faults src.old ≤ S.faults src.new }
     ensures complete { (input : List ℕ) (script : Script) → command_in words.now ≡ Some Command.Run
-        → S.left src.old ≡ Some input → IsScript served_forms input script
+        → S.left src.old ≡ Some input → IsScript input script
         → (Rose (S.faults src.old) (S.faults src.new) → ⊥) → IfOk result IsReport }
     ensures judges { (input : List ℕ) (script : Script) (report : reports.Report)
         → command_in words.now ≡ Some Command.Check
@@ -194,6 +224,7 @@ fn outcome_of<S: Source>(alloc: Global, words: &[String], src: &mut S) -> Result
 {
     match read_words(words) {
         Some(Command::Run) => run_script(alloc, src),
+        Some(Command::Big(number)) => run_work(alloc, number),
         Some(Command::Check) => check_input(alloc, src),
         None => Ok(Outcome::Line(Status::Usage, line(alloc, "usage: anna COMMAND")?)),
     }
@@ -201,41 +232,72 @@ fn outcome_of<S: Source>(alloc: Global, words: &[String], src: &mut S) -> Result
 
 /// Does all that the program does: reads from the source what the words ask for, and writes to the sink.
 ///
-/// The words are those after the program's name; accepted is one word. `run` takes a script of at most
-/// 1,048,576 bytes, serves it and writes its report; served are scripts with one worker and eventual
-/// sessions, and the line of another is refused with code 2. `check` takes a script of any form directly
-/// followed by a report, at most 16,777,216 bytes, and writes whether the report is legal, or its first
-/// place that is not lawful. Where the words are of no accepted form the source is left alone, and where
-/// memory runs out nothing is written.
-pub fn run<S: Source, K: Sink>(alloc: Global, words: &[String], src: &mut S, sink: &mut K) -> Status
+/// The words are those after the program's name. `run` takes a script of at most 1,048,576 bytes, runs it
+/// and writes its report. `big N` runs the large work of a number, of 1 to 20 digits, and writes its summary;
+/// it leaves the source alone. `check` takes a script directly followed by a report, at most 16,777,216
+/// bytes, and writes whether the report is legal, or its first place that is not lawful. Where the words are
+/// of no accepted form the source is left alone, and where memory runs out nothing is written.
+///
+/// Beside the status comes the run that was made: at status 0, and where the sink failed on its text.
+pub fn run<S: Source, K: Sink>(
+    alloc: Global,
+    words: &[String],
+    src: &mut S,
+    sink: &mut K,
+) -> (Status, Parts)
     // The status says what was owed, and that it was written.
     ensures ends { IsEnd (command_in words.now) (use_of S.left S.faults src.old src.new)
-        (sink_use_of K.written K.faults sink.old sink.new) result }
+        (sink_use_of K.written K.faults sink.old sink.new)
+        (ran_of (made_of
+        ⟦<PlainRx<Request> as Rx<Request>>⟧.received ⟦<PlainRx<Batch> as GossipRx<Batch>>⟧.got
+        ⟦<PlainRx<Reply> as Rx<Reply>>⟧.received)
+        result.1) result.0 }
 
-    // No more than one byte more than the input may have is taken, and nothing at words of no accepted form.
+    // No more than one byte more than the input may have is taken, and nothing where no input is asked for.
     ensures bounded { IsBounded (command_in words.now) (use_of S.left S.faults src.old src.new) }
-    ensures untouched { command_in words.now ≡ None
+    ensures untouched { TakesNothing (command_in words.now)
         → IsUntouched (use_of S.left S.faults src.old src.new) }
 
-    // A script is served, unless an end failed or memory ran out.
+    // A script is run, unless an end failed or memory ran out, and so is the large work of a number.
     ensures complete { IsComplete (command_in words.now) (use_of S.left S.faults src.old src.new)
-        (sink_use_of K.written K.faults sink.old sink.new) result }
+        (sink_use_of K.written K.faults sink.old sink.new) result.0 }
+    ensures works { IsWorkComplete (command_in words.now)
+        (sink_use_of K.written K.faults sink.old sink.new) result.0 }
 
     // A report after its script is told to be legal, or not to be, unless an end failed or memory ran out.
     ensures judges { IsJudged (command_in words.now) (use_of S.left S.faults src.old src.new)
-        (sink_use_of K.written K.faults sink.old sink.new) result }
+        (sink_use_of K.written K.faults sink.old sink.new) result.0 }
 
     // No count of faults falls.
     ensures counts { KeepsCounts (use_of S.left S.faults src.old src.new)
         (sink_use_of K.written K.faults sink.old sink.new) }
 {
     match outcome_of(alloc, words, src) {
-        Ok(Outcome::Report(script, report)) => match write_report(&script, &report, sink) {
-            Ok(()) => Status::Done,
-            Err(Failed) => Status::WriteFault,
-        },
-        Ok(Outcome::Line(status, text)) => finish(sink, status, &text, Status::WriteFault),
-        Err(NoMemory) => Status::NoMemory,
+        Ok(Outcome::Report(script, drained)) => {
+            let status = written(write_report(&script, &drained.report, sink));
+            (status, Parts::Plain(drained))
+        }
+        Ok(Outcome::Summary(number, script, drained)) => {
+            let status = written(write_summary(number, &script, &drained.report, sink));
+            (status, Parts::Plain(drained))
+        }
+        Ok(Outcome::Line(status, text)) => {
+            (
+                finish(sink, status, &text, Status::WriteFault),
+                Parts::Nothing,
+            )
+        }
+        Err(NoMemory) => (Status::NoMemory, Parts::Nothing),
+    }
+}
+
+/// The status of a text that was written, or not.
+fn written(wrote: Result<(), Failed>) -> Status
+    ensures { result ≡ write_status wrote }
+{
+    match wrote {
+        Ok(()) => Status::Done,
+        Err(Failed) => Status::WriteFault,
     }
 }
 
@@ -246,14 +308,18 @@ fn run_given<S: Source, K: Sink>(
     words: Result<Vec<String>, WordsFault>,
     src: &mut S,
     sink: &mut K,
-) -> Status
+) -> (Status, Parts)
     ensures { IsRunOf words (use_of S.left S.faults src.old src.new)
-        (sink_use_of K.written K.faults sink.old sink.new) result }
+        (sink_use_of K.written K.faults sink.old sink.new)
+        (ran_of (made_of
+        ⟦<PlainRx<Request> as Rx<Request>>⟧.received ⟦<PlainRx<Batch> as GossipRx<Batch>>⟧.got
+        ⟦<PlainRx<Reply> as Rx<Reply>>⟧.received)
+        result.1) result.0 }
 {
     match words {
         Ok(words) => run(alloc, &words, src, sink),
         Err(WordsFault::NotText) => run(alloc, &[], src, sink),
-        Err(WordsFault::NoMemory) => Status::NoMemory,
+        Err(WordsFault::NoMemory) => (Status::NoMemory, Parts::Nothing),
     }
 }
 
@@ -267,7 +333,8 @@ pub fn exit_of<S: Source, K: Sink>(
     ensures { IsExitOf words (use_of S.left S.faults src.old src.new)
         (sink_use_of K.written K.faults sink.old sink.new) result }
 {
-    run_given(alloc, words, src, sink).number()
+    let (status, _) = run_given(alloc, words, src, sink);
+    status.number()
 }
 
 #[cfg(test)]

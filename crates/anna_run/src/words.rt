@@ -1,12 +1,16 @@
 //! What is asked for by the words after the program's name.
 ghost use Rattle.std.specs.Prelude.{◌≡◌};
-ghost use Rattle.anna_run.specs.Words.{command_in};
+ghost use Rattle.anna_run.specs.Words.{command_in, number_in};
+
+use script_reader::number;
 
 /// What the program can be asked for.
 #[derive(Clone, Copy, Debug, PartialEq, Eq)]
 pub enum Command {
     /// Run the script that comes in.
     Run,
+    /// Run the large work of a number.
+    Big(u64),
     /// Judge the report that comes in after its script.
     Check,
 }
@@ -20,13 +24,25 @@ pub enum WordsFault {
     NoMemory,
 }
 
-/// The command that the words name, where they are of an accepted form: `run` or `check`.
+/// The command that the words name, where they are of an accepted form: `run`, `check`, or `big` and a
+/// number of 1 to 20 decimal digits, at most 18,446,744,073,709,551,615.
 pub fn read_words(words: &[String]) -> Option<Command>
     ensures { result ≡ command_in words.now }
 {
     match words {
         [word] if word.as_str() == "run" => Some(Command::Run),
         [word] if word.as_str() == "check" => Some(Command::Check),
+        [word, number] if word.as_str() == "big" => Some(Command::Big(number_of(number)?)),
         _ => None,
     }
+}
+
+/// The number that a word of at most 20 digits writes.
+fn number_of(word: &str) -> Option<u64>
+    ensures { result ≡ number_in word.now }
+{
+    if word.len() > 20 {
+        return None;
+    }
+    number(word.as_bytes())
 }

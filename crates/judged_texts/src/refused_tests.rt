@@ -1,21 +1,15 @@
-//! Texts that are no scripts of one worker and eventual sessions.
+//! Texts that are no scripts.
 use lattice_laws::NoMemory;
-use script_reader::{Built, ScriptFault, read_script_built};
+use script_reader::{ScriptFault, read_script};
 use std::alloc::Global;
 use std::test::Fail;
 
-/// Scripts of one worker, with eventual sessions.
-const ONE_WORKER: Built = Built {
-    workers: false,
-    levels: false,
-};
-
 /// Texts, each with the line at which it is refused, and the code.
-const REFUSED: [(&str, u32, u8); 29] = [
+const REFUSED: [(&str, u32, u8); 26] = [
     // No header.
     ("anna 2\nworkers 1\nend\n", 1, 1),
     ("\nworkers 1\nend\n", 2, 1),
-    // A first word that may not stand there, other words than it may have, a form that is not served.
+    // A first word that may not stand there, or other words than it may have.
     ("anna 1\nkey a max\nend\n", 2, 2),
     ("anna 1\nworkers 1\nkey a list\nend\n", 3, 2),
     (
@@ -26,21 +20,6 @@ const REFUSED: [(&str, u32, u8); 29] = [
     (
         "anna 1\nworkers 1\nkey a max\nsession s eventual\nawait a s 0\nend\n",
         5,
-        2,
-    ),
-    (
-        "anna 1\nworkers 2\nkey a max\nsession s eventual\nput a 5\nput a 3\nget a\nend\n",
-        2,
-        2,
-    ),
-    (
-        "anna 1\nworkers 1\nkey a max\nsession s committed\nend\n",
-        4,
-        2,
-    ),
-    (
-        "anna 1\nworkers 1\nkey a max\nsession s eventual\nget a\nsession t causal\nend\n",
-        6,
         2,
     ),
     // No number, or one that is too great.
@@ -124,7 +103,7 @@ const REFUSED: [(&str, u32, u8); 29] = [
 
 /// Where a text is refused and by which code, and nothing where it is read.
 fn refused(alloc: Global, text: &str) -> Result<Option<(u32, u8)>, NoMemory> {
-    match read_script_built(alloc, text.as_bytes(), ONE_WORKER) {
+    match read_script(alloc, text.as_bytes()) {
         Ok(_) => Ok(None),
         Err(ScriptFault::Refused { line, code }) => Ok(Some((line, code))),
         Err(ScriptFault::NoMemory) => Err(NoMemory),

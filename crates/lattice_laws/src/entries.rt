@@ -82,7 +82,7 @@ pub fn join_entries<K: MapKey, L: AllFit>(
     ensures ascending { IfOk result
         (λ all. IsTrue (is_sorted K.cmp (plain_entries L.plain all.items))) }
 {
-    let mut all = Vec::new(alloc);
+    let mut all = Vec::with_capacity(alloc, mine.len().max(theirs.len()))?;
     let mut of_mine = 0;
     let mut of_theirs = 0;
     while of_mine < mine.len() || of_theirs < theirs.len() {
@@ -101,7 +101,7 @@ pub fn copy_entries<K: MapKey, L: AllFit>(
     ensures { IfOk result
         (λ copies. plain_entries L.plain copies.items ≡ plain_entries L.plain entries.now) }
 {
-    let mut copies = Vec::new(alloc);
+    let mut copies = Vec::with_capacity(alloc, entries.len())?;
     for entry in entries {
         copies.push(copy_entry(entry)?)?;
     }

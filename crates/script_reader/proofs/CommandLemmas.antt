@@ -22,7 +22,7 @@ use Rattle.placement.specs.declared.ring.Point.{Point}
 use Rattle.session_known.specs.declared.script.Line.{Line}
 use Rattle.session_known.specs.declared.script.SessionPlan.{SessionPlan}
 use Rattle.script_reader.specs.Entries.{Shows}
-use Rattle.script_reader.specs.Faults.{Context, code_of, keys_of, level_of, last_level, commands_of, is_committed, is_declared, is_replica, kind_of_key, may_follow, may_have, suits, is_served, lacks_word, lacks_number, lacks_name, repeats, is_unknown, misfits, passes_limit, breaks_transaction}
+use Rattle.script_reader.specs.Faults.{Context, code_of, keys_of, level_of, last_level, commands_of, is_committed, is_declared, is_replica, kind_of_key, may_follow, may_have, suits, lacks_word, lacks_number, lacks_name, repeats, is_unknown, misfits, passes_limit, breaks_transaction}
 use Rattle.script_reader.proofs.FaultsLaws.{code_limit, code_transaction, code_none}
 use Rattle.script_reader.specs.Keywords.{is_factor, is_round}
 use Rattle.script_reader.specs.Reader.{so_far, plans_of, begun_of, with_added, begun_after_line, AreKept, IsKept, SuitsPlace, IsFaultOf, HasRead, HasAdded, Reads, IsKeyAt, MayBound, IsBoundFault}
@@ -54,7 +54,6 @@ line_last line (first ∷ second ∷ plans) plan = ap (λ more. first ∷ more) 
 -- what a reader holds, but for its sessions
 abbrev with_plans : Reader → List SessionPlan → Bool → Context
 with_plans reader plans begun = record {
-  built = reader.built;
   named = reader.named;
   has_header = reader.has_header;
   has_workers = reader.has_workers;
@@ -67,7 +66,6 @@ with_plans reader plans begun = record {
 -- a reader with other sessions
 abbrev pub with_state : Reader → Sessions → Reader
 with_state reader sessions = record {
-  built = reader.built;
   named = reader.named;
   has_header = reader.has_header;
   has_workers = reader.has_workers;
@@ -142,7 +140,6 @@ or_false false c none = sym none
 -- what is seen with a line more is what the command says
 added_is_after : (old : Reader) (keyword : Keyword) (words : List (List ℕ)) (line : Line) → IsKept old → IsInSession (so_far old) → SaysLine (so_far old) keyword words line
     → record {
-      built = old.built;
       named = old.named;
       has_header = old.has_header;
       has_workers = old.has_workers;
@@ -159,7 +156,7 @@ added_is_after old keyword words line kept stands says =
     let script : with_sessions (with_line line (so_far old).script.sessions) (so_far old).script ≡ script_after (so_far old) keyword words =
     ap (λ (line : Line). with_sessions (with_line line (so_far old).script.sessions) (so_far old).script) (sym says.said) ∙ sym says.script in
     let begun : begun_after_line (so_far old).begun line ≡ begun_after (so_far old).begun keyword = sym says.begun in
-    λ i. record { built = old.built; named = old.named; has_header = header i; has_workers = workers i; has_factor = factor i; has_round = round i; script = script i; begun = begun i }
+    λ i. record { named = old.named; has_header = header i; has_workers = workers i; has_factor = factor i; has_round = round i; script = script i; begun = begun i }
 
 -- a command that was added, or for which there was no memory
 pub command_read : (old new : Reader) (result : Result (Unit {0}) LineFault) (keyword : Keyword) (words : List (List ℕ)) (line : Line) → IsKept old → IsInSession (so_far old) → SaysLine (so_far old) keyword words line
@@ -337,7 +334,7 @@ end_read reader kept stands ended =
     record {
       kept = kept;
       faultless = code_none _ _ _ stands.header stands.word refl refl refl refl refl refl ended;
-      added = λ i. record { built = reader.built; named = reader.named; has_header = header i; has_workers = both i; has_factor = factor i; has_round = round i; script = (so_far reader).script; begun = (so_far reader).begun };
+      added = λ i. record { named = reader.named; has_header = header i; has_workers = both i; has_factor = factor i; has_round = round i; script = (so_far reader).script; begun = (so_far reader).begun };
     }
 
 -- ---- where a line may stand
@@ -352,11 +349,7 @@ and_there false rest none = refl
 
 -- a line that does not suit its session
 pub unsuited : (context : Context) (keyword : Keyword) (words : List (List ℕ)) → suits (level_of context) keyword words ≡ false → lacks_word context keyword words ≡ true
-unsuited context keyword words fails = ap not (and_there (may_follow context keyword) _ (and_there (may_have keyword words) _ (and_here (suits (level_of context) keyword words) (is_served context.built keyword words) fails)))
-
--- a line of a form that is not served
-pub unserved : (context : Context) (keyword : Keyword) (words : List (List ℕ)) → is_served context.built keyword words ≡ false → lacks_word context keyword words ≡ true
-unserved context keyword words fails = ap not (and_there (may_follow context keyword) _ (and_there (may_have keyword words) _ (and_there (suits (level_of context) keyword words) (is_served context.built keyword words) fails)))
+unsuited context keyword words fails = ap not (and_there (may_follow context keyword) _ (and_there (may_have keyword words) (suits (level_of context) keyword words) fails))
 
 pub header_stands : (has is : Bool) → is ≡ true → (not has && not is) ≡ false
 header_stands true is stands = refl
@@ -389,7 +382,6 @@ no_workers false has_header headed none = sym none
 -- a reader after the header
 abbrev pub with_header : Reader → Reader
 with_header reader = record {
-  built = reader.built;
   named = reader.named;
   has_header = true;
   has_workers = reader.has_workers;
@@ -411,7 +403,7 @@ first_read reader version kept stands =
     record {
       kept = record { headed = λ _. refl; fresh = kept.fresh; valid = kept.valid; names = kept.names; kinds = kept.kinds; few_keys = kept.few_keys; sessions = kept.sessions };
       faultless = code_none _ _ _ stands.header stands.word refl refl refl refl refl refl refl;
-      added = λ i. record { built = reader.built; named = reader.named; has_header = true; has_workers = workers i; has_factor = factor i; has_round = round i; script = (so_far reader).script; begun = (so_far reader).begun };
+      added = λ i. record { named = reader.named; has_header = true; has_workers = workers i; has_factor = factor i; has_round = round i; script = (so_far reader).script; begun = (so_far reader).begun };
     }
 
 -- a header that was read

@@ -20,7 +20,7 @@ use Rattle.session_known.specs.declared.script.Level.TheVariants.{Eventual}
 use Rattle.session_known.specs.declared.script.Line.{Line}
 use Rattle.session_known.specs.declared.script.SessionPlan.{SessionPlan}
 use Rattle.script_reader.specs.Entries.{AreKeyWords, AreSessionWords}
-use Rattle.script_reader.specs.Faults.{Context, level_of, sessions_of, may_follow, may_have, suits, is_served, is_declared, has_repeat, is_within, code_of}
+use Rattle.script_reader.specs.Faults.{Context, level_of, sessions_of, may_follow, may_have, suits, is_declared, has_repeat, is_within, code_of}
 use Rattle.script_reader.proofs.FaultsLaws.{code_number, code_name, code_twice, code_unknown, code_limit, code_transaction, code_none}
 use Rattle.script_reader.specs.Reader.{so_far, plans_of, begun_of, AreKept, IsKept, SuitsPlace, IsFaultOf, IsNameFault, HasRead, Reads, HasOpened}
 use Rattle.script_reader.specs.Said.{place_of, with_name, pins_said}
@@ -38,13 +38,13 @@ use Rattle.script_reader.proofs.PinLemmas.{AreNumbers, either_first}
 
 -- ---- tests
 
-first_held : (a b c d : Bool) → not (a && (b && (c && d))) ≡ false → a ≡ true
-first_held true b c d is = refl
-first_held false b c d is = absurd cc
+first_held : (a b c : Bool) → not (a && (b && c)) ≡ false → a ≡ true
+first_held true b c is = refl
+first_held false b c is = absurd cc
 
 -- a line that may stand may follow those before it
 pub follows : (context : Context) (keyword : Keyword) (words : List (List ℕ)) → SuitsPlace context keyword words → may_follow context keyword ≡ true
-follows context keyword words stands = first_held (may_follow context keyword) (may_have keyword words) (suits (level_of context) keyword words) (is_served context.built keyword words) stands.word
+follows context keyword words stands = first_held (may_follow context keyword) (may_have keyword words) (suits (level_of context) keyword words) stands.word
 
 or_false : (a : Bool) → a ≡ (a || false)
 or_false true = refl
@@ -134,7 +134,6 @@ workers_read reader word n kept stands is inside =
       };
       faultless = code_none _ _ _ stands.header stands.word (is_number_is word n is) refl refl refl refl (lies_within 1 8 n word is inside) refl;
       added = λ i. record {
-        built = reader.built;
         named = reader.named;
         has_header = follow.0 i;
         has_workers = sym follow.0 i;
@@ -188,7 +187,6 @@ factor_read reader word n kept stands is once inside =
       };
       faultless = code_none _ _ _ stands.header stands.word (is_number_is word n is) refl once refl refl (lies_within 1 reader.config.workers n word is inside) refl;
       added = λ i. record {
-        built = reader.built;
         named = reader.named;
         has_header = headed i;
         has_workers = (follow.0 ∙ sym headed) i;
@@ -224,7 +222,6 @@ round_read reader word n kept stands is once inside =
       kept = record { headed = kept.headed; fresh = kept.fresh; valid = kept.valid; names = kept.names; kinds = kept.kinds; few_keys = kept.few_keys; sessions = kept.sessions };
       faultless = code_none _ _ _ stands.header stands.word (is_number_is word n is) refl once refl refl (lies_within 1 64 n word is inside) refl;
       added = λ i. record {
-        built = reader.built;
         named = reader.named;
         has_header = headed i;
         has_workers = (follow.0 ∙ sym headed) i;
@@ -294,7 +291,6 @@ session_read old new words name plan kept are stands named once few ended name_i
       kept = opened.kept;
       faultless = code_none _ _ _ stands.header stands.word refl (ap not named) once refl refl (at_least_is few) ended;
       added = opened.added ∙ (λ i. record {
-        built = old.built;
         named = old.named;
         has_header = headed i;
         has_workers = (has ∙ sym headed) i;
@@ -336,7 +332,6 @@ opened_first reader plan placement done kept has empty first placed_is none = re
     );
   };
   added = λ i. record {
-    built = reader.built;
     named = reader.named;
     has_header = reader.has_header;
     has_workers = reader.has_workers;
@@ -470,7 +465,6 @@ key_read reader words name kind pins numbers names kinds keys key kept are stand
           (ap (λ said. is_declared (so_far reader) name || has_repeat said) said ∙ once)
           (ap (list_any (λ pin. not (is_within 1 reader.config.workers pin))) said ∙ known) refl (at_least_is few) refl;
       added = λ i. record {
-        built = reader.built;
         named = reader.named;
         has_header = headed i;
         has_workers = (has ∙ sym headed) i;

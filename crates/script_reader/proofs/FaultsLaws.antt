@@ -1,7 +1,7 @@
 -- Which condition gives a line its code: where it has none, no condition holds, and otherwise the first that holds gives it.
 use Rattle.std.specs.Prelude.{◌≡◌, ℕ, Bool, true, false, cond, not, ◌&&◌, List, Option, Some, None}
 use Rattle.std.proofs.Common.{refl}
-use Rattle.script_reader.specs.Faults.{Context, level_of, may_follow, may_have, suits, is_served, lacks_header, lacks_word, lacks_number, lacks_name, repeats, is_unknown, misfits, passes_limit, breaks_transaction, code_of}
+use Rattle.script_reader.specs.Faults.{Context, level_of, may_follow, may_have, suits, lacks_header, lacks_word, lacks_number, lacks_name, repeats, is_unknown, misfits, passes_limit, breaks_transaction, code_of}
 use Rattle.script_reader.specs.declared.code.Code.{Code}
 use Rattle.script_reader.specs.declared.code.Code.TheVariants as codes_of
 use Rattle.script_reader.specs.declared.keyword.Keyword.{Keyword}
@@ -77,24 +77,22 @@ limit_fine context keyword words none = (fine context keyword words none).limit_
 pub transaction_fine : (context : Context) (keyword : Keyword) (words : List (List ℕ)) → code_of context keyword words ≡ None → breaks_transaction context keyword ≡ false
 transaction_fine context keyword words none = (fine context keyword words none).transaction_is
 
--- four conditions hold
-record AreHeld (follows has_words suited served : Bool) : Type 0 where
+-- three conditions hold
+record AreHeld (follows has_words suited : Bool) : Type 0 where
   follows_is : follows ≡ true
   has_words_is : has_words ≡ true
   suited_is : suited ≡ true
-  served_is : served ≡ true
 
--- where four conditions hold together, each does
-all_held : (follows has_words suited served : Bool) → not (follows && (has_words && (suited && served))) ≡ false → AreHeld follows has_words suited served
-all_held true true true true none = record { follows_is = refl; has_words_is = refl; suited_is = refl; served_is = refl }
-all_held true true true false none = absurd cc
-all_held true true false served none = absurd cc
-all_held true false suited served none = absurd cc
-all_held false has_words suited served none = absurd cc
+-- where three conditions hold together, each does
+all_held : (follows has_words suited : Bool) → not (follows && (has_words && suited)) ≡ false → AreHeld follows has_words suited
+all_held true true true none = record { follows_is = refl; has_words_is = refl; suited_is = refl }
+all_held true true false none = absurd cc
+all_held true false suited none = absurd cc
+all_held false has_words suited none = absurd cc
 
--- a statement with no code may stand where it does, with its words, in its session, and is served
-held : (context : Context) (keyword : Keyword) (words : List (List ℕ)) → code_of context keyword words ≡ None → AreHeld (may_follow context keyword) (may_have keyword words) (suits (level_of context) keyword words) (is_served context.built keyword words)
-held context keyword words none = all_held (may_follow context keyword) (may_have keyword words) (suits (level_of context) keyword words) (is_served context.built keyword words) (word_fine context keyword words none)
+-- a statement with no code may stand where it does, with its words, in its session
+held : (context : Context) (keyword : Keyword) (words : List (List ℕ)) → code_of context keyword words ≡ None → AreHeld (may_follow context keyword) (may_have keyword words) (suits (level_of context) keyword words)
+held context keyword words none = all_held (may_follow context keyword) (may_have keyword words) (suits (level_of context) keyword words) (word_fine context keyword words none)
 
 -- a statement with no code may stand where it does
 pub follow_fine : (context : Context) (keyword : Keyword) (words : List (List ℕ)) → code_of context keyword words ≡ None → may_follow context keyword ≡ true

@@ -8,8 +8,8 @@ use Rattle.std.proofs.lemmas.List.Elements.{filter_map-append}
 use Rattle.std.proofs.lemmas.List.Folds.{list_any-append}
 use Rattle.std.proofs.lemmas.List.Sums.{fold-append}
 use Rattle.script_reader.specs.Codes.{number_of_code}
-use Rattle.script_reader.specs.Faults.{Setting, Context, context_of, code_of, code_said, code_after, is_text_byte}
-use Rattle.script_reader.specs.Grammar.{AreInOrder, IsFirstFault, IsEndMissing, IsScriptOf}
+use Rattle.script_reader.specs.Faults.{Context, context_of, code_of, code_said, code_after, is_text_byte}
+use Rattle.script_reader.specs.Grammar.{AreInOrder, IsFirstFault, IsEndMissing, IsScriptOf, sessions_named}
 use Rattle.script_reader.proofs.GrammarLaws.{two_cuts}
 use Rattle.script_reader.specs.Keywords.{is_end, is_session}
 use Rattle.script_reader.specs.LineReads.{HasReadLine, IsWhyNoLines, named_after, says_end, fault_at}
@@ -113,17 +113,17 @@ before_end lines line rest none end =
 -- ---- lines in order
 
 -- lines in order and one that is not at fault
-pub in_order_push : (setting : Setting) (before : List (List ℕ)) (line : List ℕ) → AreInOrder setting before → code_after setting before line ≡ None → AreInOrder setting (before ++ line ∷ [])
-in_order_push setting before line all is = λ front back each e.
-    elim (two_cuts before line [] front each back e) as (λ _. code_after setting front each ≡ None) [
-      | inl same ↦ subst (λ lines. code_after setting lines each ≡ None) same.0 (subst (λ l. code_after setting before l ≡ None) same.1 is)
+pub in_order_push : (named before : List (List ℕ)) (line : List ℕ) → AreInOrder named before → code_after named before line ≡ None → AreInOrder named (before ++ line ∷ [])
+in_order_push named before line all is = λ front back each e.
+    elim (two_cuts before line [] front each back e) as (λ _. code_after named front each ≡ None) [
+      | inl same ↦ subst (λ lines. code_after named lines each ≡ None) same.0 (subst (λ l. code_after named before l ≡ None) same.1 is)
       | inr (inl (between, later)) ↦ absurd (omega (arith, ap length e, ap length later, length-append before (line ∷ []), length-append front (each ∷ back), length-append before (line ∷ between)))
       | inr (inr (between, sooner)) ↦ all front between each sooner
     ]
 
 -- no lines are in order
-pub none_in_order : (setting : Setting) → AreInOrder setting []
-none_in_order setting = λ front back each e. let long = ap length e ∙ length-append front (each ∷ back) in absurd (omega arith)
+pub none_in_order : (named : List (List ℕ)) → AreInOrder named []
+none_in_order named = λ front back each e. let long = ap length e ∙ length-append front (each ∷ back) in absurd (omega arith)
 
 text_fine : (text : Bool) (code : Option Code) → cond (not text) (Some codes_of.Byte) code ≡ None → code ≡ None
 text_fine true code none = none
@@ -137,19 +137,19 @@ said_fine context false line statement none = (refl, text_fine (list_all is_text
 -- ---- read one after another
 
 -- The first lines were read.
-pub record HasReadLines (setting : Setting) (lines : List (List ℕ)) (n : ℕ) (reader : Reader) (ended : Bool) : Type 0 where
+pub record HasReadLines (named lines : List (List ℕ)) (n : ℕ) (reader : Reader) (ended : Bool) : Type 0 where
   pub kept : IsKept reader
-  pub holds : so_far reader ≡ context_of setting (statements_of (take n lines))
+  pub holds : so_far reader ≡ context_of named (statements_of (take n lines))
   pub ended_is : ended ≡ has_end (take n lines)
-  pub in_order : AreInOrder setting (take n lines)
+  pub in_order : AreInOrder named (take n lines)
 
 -- what is held after these lines is what they say
-code_here : (setting : Setting) (lines : List (List ℕ)) (n : ℕ) (reader : Reader) (ended : Bool) (line : List ℕ) → HasReadLines setting lines n reader ended → code_said (so_far reader) ended line (statement_of line) ≡ code_after setting (take n lines) line
-code_here setting lines n reader ended line read = λ i. code_said (read.holds i) (read.ended_is i) line (statement_of line)
+code_here : (named lines : List (List ℕ)) (n : ℕ) (reader : Reader) (ended : Bool) (line : List ℕ) → HasReadLines named lines n reader ended → code_said (so_far reader) ended line (statement_of line) ≡ code_after named (take n lines) line
+code_here named lines n reader ended line read = λ i. code_said (read.holds i) (read.ended_is i) line (statement_of line)
 
 -- no line was read
-pub read_none : (setting : Setting) (lines : List (List ℕ)) (reader : Reader) → IsKept reader → so_far reader ≡ context_of setting [] → HasReadLines setting lines 0 reader false
-read_none setting lines reader kept holds = record { kept = kept; holds = holds; ended_is = refl; in_order = none_in_order setting }
+pub read_none : (named lines : List (List ℕ)) (reader : Reader) → IsKept reader → so_far reader ≡ context_of named [] → HasReadLines named lines 0 reader false
+read_none named lines reader kept holds = record { kept = kept; holds = holds; ended_is = refl; in_order = none_in_order named }
 
 -- what is left begins with the next line
 rest_at : (lines : List (List ℕ)) (n : ℕ) (line : List ℕ) → n < length lines → line ≡ get_or lines n [] → drop n lines ≡ line ∷ drop (n + 1) lines
@@ -160,63 +160,63 @@ rest_at lines n line within at =
 length-take_le : (n : ℕ) (lines : List (List ℕ)) → n < length lines → length (take n lines) ≡ n
 length-take_le n lines within = omega (arith, length-take n lines)
 
-read_code : (setting : Setting) (lines : List (List ℕ)) (n : ℕ) (reader : Reader) (ended : Bool) (line : List ℕ) (why : Code) → HasReadLines setting lines n reader ended → n < length lines → line ≡ get_or lines n [] → code_said (so_far reader) ended line (statement_of line) ≡ Some why → IsFirstFault setting lines (n + 1) (number_of_code why)
-read_code setting lines n reader ended line why read within at fault = record {
+read_code : (named lines : List (List ℕ)) (n : ℕ) (reader : Reader) (ended : Bool) (line : List ℕ) (why : Code) → HasReadLines named lines n reader ended → n < length lines → line ≡ get_or lines n [] → code_said (so_far reader) ended line (statement_of line) ≡ Some why → IsFirstFault named lines (n + 1) (number_of_code why)
+read_code named lines n reader ended line why read within at fault = record {
   before = take n lines;
   line = line;
   after = drop (n + 1) lines;
   place = sym (take-append-drop n lines) ∙ ap (λ back. take n lines ++ back) (rest_at lines n line within at);
   in_order = read.in_order;
   why = why;
-  fault = sym (code_here setting lines n reader ended line read) ∙ fault;
+  fault = sym (code_here named lines n reader ended line read) ∙ fault;
   counted = ap (λ k. k + 1) (sym (length-take_le n lines within));
   code_is = refl;
 }
 
 -- A line is at fault after those that were read.
-pub read_fault : (setting : Setting) (lines : List (List ℕ)) (n : ℕ) (reader : Reader) (ended : Bool) (line : List ℕ) (fault : LineFault) → HasReadLines setting lines n reader ended → n < length lines → line ≡ get_or lines n [] → IsFaultOf (code_said (so_far reader) ended line (statement_of line)) fault → IsWhyNoLines setting lines (fault_at (n + 1) fault)
-read_fault setting lines n reader ended line (line_faults.Code why) read within at fault = inl (read_code setting lines n reader ended line why read within at fault)
-read_fault setting lines n reader ended line line_faults.NoMemory read within at fault = tt
+pub read_fault : (named lines : List (List ℕ)) (n : ℕ) (reader : Reader) (ended : Bool) (line : List ℕ) (fault : LineFault) → HasReadLines named lines n reader ended → n < length lines → line ≡ get_or lines n [] → IsFaultOf (code_said (so_far reader) ended line (statement_of line)) fault → IsWhyNoLines named lines (fault_at (n + 1) fault)
+read_fault named lines n reader ended line (line_faults.Code why) read within at fault = inl (read_code named lines n reader ended line why read within at fault)
+read_fault named lines n reader ended line line_faults.NoMemory read within at fault = tt
 
 -- what the lines say, whatever the line says
-pub held_after : (setting : Setting) (front : List (List ℕ)) (reader new : Reader) (ended now : Bool) (line : List ℕ) (said : Option Statement) → statement_of line ≡ said → IsKept reader → so_far reader ≡ context_of setting (statements_of front) → ended ≡ has_end front → HasReadLine reader new ended now line said
-    → IsKept new × (so_far new ≡ context_of setting (statements_of (front ++ line ∷ []))) × (now ≡ has_end (front ++ line ∷ [])) × (code_said (so_far reader) ended line said ≡ None)
-held_after setting front reader new ended now line None is kept holds ended_is read =
+pub held_after : (named front : List (List ℕ)) (reader new : Reader) (ended now : Bool) (line : List ℕ) (said : Option Statement) → statement_of line ≡ said → IsKept reader → so_far reader ≡ context_of named (statements_of front) → ended ≡ has_end front → HasReadLine reader new ended now line said
+    → IsKept new × (so_far new ≡ context_of named (statements_of (front ++ line ∷ []))) × (now ≡ has_end (front ++ line ∷ [])) × (code_said (so_far reader) ended line said ≡ None)
+held_after named front reader new ended now line None is kept holds ended_is read =
     let more : statements_of (front ++ line ∷ []) ≡ statements_of front = statements_push front line ∙ ap (λ s. statements_of front ++ cons_option s []) is ∙ append-nil (statements_of front) in
-    (subst IsKept (sym read.0) kept, ap so_far read.0 ∙ holds ∙ ap (context_of setting) (sym more), read.1 ∙ ended_is ∙ ap (list_any is_end_line) (sym more), refl)
-held_after setting front reader new ended now line (Some statement) is kept holds ended_is read =
+    (subst IsKept (sym read.0) kept, ap so_far read.0 ∙ holds ∙ ap (context_of named) (sym more), read.1 ∙ ended_is ∙ ap (list_any is_end_line) (sym more), refl)
+held_after named front reader new ended now line (Some statement) is kept holds ended_is read =
     let more : statements_of (front ++ line ∷ []) ≡ statements_of front ++ statement ∷ [] = statements_push front line ∙ ap (λ s. statements_of front ++ cons_option s []) is in
     let fine = said_fine (so_far reader) ended line statement read.0 in
-    let code : code_of (context_of setting (statements_of front)) statement.keyword statement.words ≡ None = ap (λ context. code_of context statement.keyword statement.words) (sym holds) ∙ fine.1 in (
+    let code : code_of (context_of named (statements_of front)) statement.keyword statement.words ≡ None = ap (λ context. code_of context statement.keyword statement.words) (sym holds) ∙ fine.1 in (
       read.1,
-      read.2 ∙ ap (λ context. next_context context statement.keyword statement.words) holds ∙ sym (context_after setting (statements_of front) statement code) ∙ ap (context_of setting) (sym more),
+      read.2 ∙ ap (λ context. next_context context statement.keyword statement.words) holds ∙ sym (context_after named (statements_of front) statement code) ∙ ap (context_of named) (sym more),
       read.3 ∙ ap (λ t. t || says_end (Some statement)) (sym fine.0 ∙ ended_is) ∙ ap (λ s. has_end front || says_end s) (sym is) ∙ sym (end_push front line),
       read.0,
     )
 
 -- One more line was read.
-pub read_more : (setting : Setting) (lines : List (List ℕ)) (n : ℕ) (reader new : Reader) (ended now : Bool) (line : List ℕ) → HasReadLines setting lines n reader ended → n < length lines → line ≡ get_or lines n [] → HasReadLine reader new ended now line (statement_of line) → HasReadLines setting lines (n + 1) new now
-read_more setting lines n reader new ended now line read within at is =
+pub read_more : (named lines : List (List ℕ)) (n : ℕ) (reader new : Reader) (ended now : Bool) (line : List ℕ) → HasReadLines named lines n reader ended → n < length lines → line ≡ get_or lines n [] → HasReadLine reader new ended now line (statement_of line) → HasReadLines named lines (n + 1) new now
+read_more named lines n reader new ended now line read within at is =
     let next : take (n + 1) lines ≡ take n lines ++ line ∷ [] = take_more lines n [] within ∙ ap (λ l. take n lines ++ l ∷ []) (sym at) in
-    let held = held_after setting (take n lines) reader new ended now line (statement_of line) refl read.kept read.holds read.ended_is is in
+    let held = held_after named (take n lines) reader new ended now line (statement_of line) refl read.kept read.holds read.ended_is is in
     record {
       kept = held.0;
-      holds = held.1 ∙ ap (λ front. context_of setting (statements_of front)) (sym next);
+      holds = held.1 ∙ ap (λ front. context_of named (statements_of front)) (sym next);
       ended_is = held.2 ∙ ap has_end (sym next);
-      in_order = subst (AreInOrder setting) (sym next) (in_order_push setting (take n lines) line read.in_order (sym (code_here setting lines n reader ended line read) ∙ held.3));
+      in_order = subst (AreInOrder named) (sym next) (in_order_push named (take n lines) line read.in_order (sym (code_here named lines n reader ended line read) ∙ held.3));
     }
 
 -- All lines were read, and there is no end.
-pub read_missing : (setting : Setting) (lines : List (List ℕ)) (n : ℕ) (reader : Reader) (ended : Bool) → HasReadLines setting lines n reader ended → n ≡ length lines → ended ≡ false → (at : ℕ) → at ≡ length lines + 1 → IsEndMissing setting lines at 10
-read_missing setting lines n reader ended read all none at counted =
+pub read_missing : (named lines : List (List ℕ)) (n : ℕ) (reader : Reader) (ended : Bool) → HasReadLines named lines n reader ended → n ≡ length lines → ended ≡ false → (at : ℕ) → at ≡ length lines + 1 → IsEndMissing named lines at 10
+read_missing named lines n reader ended read all none at counted =
     let whole : take n lines ≡ lines = take_all n lines (omega arith) in
-    record { in_order = subst (AreInOrder setting) whole read.in_order; no_end = ap has_end (sym whole) ∙ sym read.ended_is ∙ none; counted = counted; code_is = refl }
+    record { in_order = subst (AreInOrder named) whole read.in_order; no_end = ap has_end (sym whole) ∙ sym read.ended_is ∙ none; counted = counted; code_is = refl }
 
 -- All lines were read, and there is an end.
-pub read_script : (setting : Setting) (lines : List (List ℕ)) (n : ℕ) (reader : Reader) (ended : Bool) → HasReadLines setting lines n reader ended → n ≡ length lines → ended ≡ true → IsScriptOf setting lines (so_far reader).script
-read_script setting lines n reader ended read all end =
+pub read_script : (named lines : List (List ℕ)) (n : ℕ) (reader : Reader) (ended : Bool) → HasReadLines named lines n reader ended → n ≡ length lines → ended ≡ true → IsScriptOf named lines (so_far reader).script
+read_script named lines n reader ended read all end =
     let whole : take n lines ≡ lines = take_all n lines (omega arith) in
-    record { in_order = subst (AreInOrder setting) whole read.in_order; ended = ap has_end (sym whole) ∙ sym read.ended_is ∙ end; says = ap (λ context. context.script) read.holds ∙ ap (λ front. script_said setting.named (statements_of front)) whole }
+    record { in_order = subst (AreInOrder named) whole read.in_order; ended = ap has_end (sym whole) ∙ sym read.ended_is ∙ end; says = ap (λ context. context.script) read.holds ∙ ap (λ front. script_said named (statements_of front)) whole }
 
 -- ---- lines after references
 
@@ -235,13 +235,13 @@ named_more lines n line names new end within at named none is no_end added =
 
 -- the sessions up to the first end line
 pub named_at_end : (lines : List (List ℕ)) (n : ℕ) (line : List ℕ) (names new : List (List ℕ)) (end : Bool) → n < length lines → line ≡ get_or lines n [] → names ≡ named_in (statements_of (take n lines)) → has_end (take n lines) ≡ false → end ≡ says_end (statement_of line) → end ≡ true → new ≡ named_after names (statement_of line)
-    → new ≡ named_in (before_first is_end_line (statements_of lines))
+    → new ≡ sessions_named lines
 named_at_end lines n line names new end within at named none is ends added =
     let whole : take n lines ++ line ∷ drop (n + 1) lines ≡ lines = ap (λ back. take n lines ++ back) (sym (rest_at lines n line within at)) ∙ take-append-drop n lines in
     added ∙ end_names names (statement_of line) (sym is ∙ ends) ∙ named ∙ ap named_in (sym (before_end (take n lines) line (drop (n + 1) lines) none (sym is ∙ ends)) ∙ ap (λ all. before_first is_end_line (statements_of all)) whole)
 
 -- the sessions of lines without an end line
-pub named_all : (lines : List (List ℕ)) (n : ℕ) (names : List (List ℕ)) → length lines ≤ n → names ≡ named_in (statements_of (take n lines)) → has_end (take n lines) ≡ false → names ≡ named_in (before_first is_end_line (statements_of lines))
+pub named_all : (lines : List (List ℕ)) (n : ℕ) (names : List (List ℕ)) → length lines ≤ n → names ≡ named_in (statements_of (take n lines)) → has_end (take n lines) ≡ false → names ≡ sessions_named lines
 named_all lines n names all named none =
     let whole : take n lines ≡ lines = take_all n lines all in
     named ∙ ap (λ front. named_in (statements_of front)) whole ∙ ap named_in (sym (before_none is_end_line (statements_of lines) (ap has_end (sym whole) ∙ none)))

@@ -4,7 +4,6 @@ pub mod DeclaredLemmas
 pub mod EqLemmas
 pub mod FaultsLaws
 pub mod FedLemmas
-pub mod FormsLaws
 pub mod GrammarLaws
 pub mod GrammarLemmas
 pub mod LineLemmas

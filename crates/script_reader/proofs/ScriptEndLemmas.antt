@@ -10,15 +10,14 @@ use Rattle.std.proofs.lemmas.List.Elements.{filter_map-append}
 use Rattle.std.proofs.lemmas.List.Splits.{length-slice_split}
 use Rattle.std.proofs.lemmas.Slice.Eq.{bytes_eq-Decides}
 use Rattle.session_known.specs.declared.script.Script.{Script}
-use Rattle.script_reader.specs.Faults.{Setting, Context, context_of, code_of, code_said, code_after}
+use Rattle.script_reader.specs.Faults.{Context, context_of, code_of, code_said, code_after}
 use Rattle.script_reader.proofs.FaultsLaws.{word_fine}
-use Rattle.script_reader.specs.Grammar.{AreInOrder, IsScript, setting_of}
+use Rattle.script_reader.specs.Grammar.{AreInOrder, IsScript, sessions_named}
 use Rattle.script_reader.specs.Keywords.{keyword_of, is_end}
 use Rattle.script_reader.specs.LineReads.{says_end}
 use Rattle.script_reader.specs.Lines.{Statement, is_line_feed, script_lines, words_of, statement_in, statement_of, statements_of, is_end_line, has_end}
 use Rattle.script_reader.specs.Said.{named_in, script_said}
 use Rattle.script_reader.specs.Split.{are_end_alone, is_end_alone, bytes_to_end, split_place}
-use Rattle.script_reader.specs.declared.built.Built.{Built}
 use Rattle.script_reader.specs.declared.keyword.Keyword.{Keyword}
 use Rattle.script_reader.specs.declared.keyword.Keyword.TheVariants.{End}
 use Rattle.script_reader.proofs.FedLemmas.{fed, fed_append, place_at, split_after, fed_split, front_split, lines_fed}
@@ -61,9 +60,9 @@ words_alone context line [] fine = refl
 words_alone context line (first ∷ words) fine = said_alone context line first words (slice_index first 0 == 35) refl fine
 
 -- a line that is not at fault, with no end before it, is an end line where its only word is `end`
-line_alone : (setting : Setting) (before : List (List ℕ)) (line : List ℕ) → has_end before ≡ false → code_after setting before line ≡ None → says_end (statement_of line) ≡ are_end_alone (words_of line)
-line_alone setting before line none fine =
-    words_alone (context_of setting (statements_of before)) line (words_of line) (subst (λ ended. code_said (context_of setting (statements_of before)) ended line (statement_of line) ≡ None) none fine)
+line_alone : (named before : List (List ℕ)) (line : List ℕ) → has_end before ≡ false → code_after named before line ≡ None → says_end (statement_of line) ≡ are_end_alone (words_of line)
+line_alone named before line none fine =
+    words_alone (context_of named (statements_of before)) line (words_of line) (subst (λ ended. code_said (context_of named (statements_of before)) ended line (statement_of line) ≡ None) none fine)
 
 -- the word `end` says something
 end_says : (word : List ℕ) → bytes_eq word (codes "end") ≡ true → is_some (statement_in (word ∷ [])) ≡ true
@@ -83,13 +82,13 @@ silent_line context line None fine = refl
 silent_line context line (Some statement) fine = absurd cc
 
 -- after an end, lines in order say nothing
-silent_after : (setting : Setting) (front rest : List (List ℕ)) → AreInOrder setting (front ++ rest) → has_end front ≡ true → statements_of rest ≡ []
-silent_after setting front [] order ended = refl
-silent_after setting front (line ∷ rest) order ended =
-    let context : Context = context_of setting (statements_of front) in
+silent_after : (named front rest : List (List ℕ)) → AreInOrder named (front ++ rest) → has_end front ≡ true → statements_of rest ≡ []
+silent_after named front [] order ended = refl
+silent_after named front (line ∷ rest) order ended =
+    let context : Context = context_of named (statements_of front) in
     let none : statement_of line ≡ None = silent_line context line (statement_of line) (subst (λ ended. code_said context ended line (statement_of line) ≡ None) ended (order front rest line refl)) in
     ap (λ said. cons_option said (statements_of rest)) none
-    ∙ silent_after setting (front ++ line ∷ []) rest (subst (AreInOrder setting) (sym (append_assoc front (line ∷ []) rest)) order) (end_push front line ∙ ap (λ ended. ended || says_end (statement_of line)) ended)
+    ∙ silent_after named (front ++ line ∷ []) rest (subst (AreInOrder named) (sym (append_assoc front (line ∷ []) rest)) order) (end_push front line ∙ ap (λ ended. ended || says_end (statement_of line)) ended)
 
 -- The first of the lines whose only word is `end`, after which no line says anything.
 pub record HasEndAlone (lines : List (List ℕ)) : Type 0 where
@@ -102,19 +101,19 @@ pub record HasEndAlone (lines : List (List ℕ)) : Type 0 where
   pub silent : statements_of (map strip_carriage_return after) ≡ []
 
 -- a line that is the end, or is before it
-end_here : (setting : Setting) (front : List (List ℕ)) (line : List ℕ) (lines : List (List ℕ)) (ends : Bool) → is_end_alone line ≡ ends
-    → AreInOrder setting ((front ++ strip_carriage_return line ∷ []) ++ map strip_carriage_return lines) → has_end (front ++ strip_carriage_return line ∷ []) ≡ ends
+end_here : (named front : List (List ℕ)) (line : List ℕ) (lines : List (List ℕ)) (ends : Bool) → is_end_alone line ≡ ends
+    → AreInOrder named ((front ++ strip_carriage_return line ∷ []) ++ map strip_carriage_return lines) → has_end (front ++ strip_carriage_return line ∷ []) ≡ ends
     → (has_end (front ++ strip_carriage_return line ∷ []) ≡ false → HasEndAlone lines) → HasEndAlone (line ∷ lines)
-end_here setting front line lines true is order ended next = record {
+end_here named front line lines true is order ended next = record {
   before = [];
   end = line;
   after = lines;
   place = refl;
   none = refl;
   ends = is;
-  silent = silent_after setting (front ++ strip_carriage_return line ∷ []) (map strip_carriage_return lines) order ended;
+  silent = silent_after named (front ++ strip_carriage_return line ∷ []) (map strip_carriage_return lines) order ended;
 }
-end_here setting front line lines false is order ended next =
+end_here named front line lines false is order ended next =
     let at : HasEndAlone lines = next ended in
     record {
       before = line ∷ at.before;
@@ -127,16 +126,16 @@ end_here setting front line lines false is order ended next =
     }
 
 -- lines in order that have an end
-end_after : (setting : Setting) (front lines : List (List ℕ)) → AreInOrder setting (front ++ map strip_carriage_return lines) → has_end front ≡ false → has_end (front ++ map strip_carriage_return lines) ≡ true → HasEndAlone lines
-end_after setting front [] order none some = absurd (true≢false (sym some ∙ ap has_end (append-nil front) ∙ none))
-end_after setting front (line ∷ lines) order none some =
+end_after : (named front lines : List (List ℕ)) → AreInOrder named (front ++ map strip_carriage_return lines) → has_end front ≡ false → has_end (front ++ map strip_carriage_return lines) ≡ true → HasEndAlone lines
+end_after named front [] order none some = absurd (true≢false (sym some ∙ ap has_end (append-nil front) ∙ none))
+end_after named front (line ∷ lines) order none some =
     let stripped : List ℕ = strip_carriage_return line in
     let rest : List (List ℕ) = map strip_carriage_return lines in
     let moved : (front ++ stripped ∷ []) ++ rest ≡ front ++ stripped ∷ rest = append_assoc front (stripped ∷ []) rest in
-    let order_moved : AreInOrder setting ((front ++ stripped ∷ []) ++ rest) = subst (AreInOrder setting) (sym moved) order in
+    let order_moved : AreInOrder named ((front ++ stripped ∷ []) ++ rest) = subst (AreInOrder named) (sym moved) order in
     let ended : has_end (front ++ stripped ∷ []) ≡ is_end_alone line =
-    end_push front stripped ∙ ap (λ ended. ended || says_end (statement_of stripped)) none ∙ line_alone setting front stripped none (order front rest stripped refl) in
-    end_here setting front line lines (is_end_alone line) refl order_moved ended (λ none. end_after setting (front ++ stripped ∷ []) lines order_moved none (ap has_end moved ∙ some))
+    end_push front stripped ∙ ap (λ ended. ended || says_end (statement_of stripped)) none ∙ line_alone named front stripped none (order front rest stripped refl) in
+    end_here named front line lines (is_end_alone line) refl order_moved ended (λ none. end_after named (front ++ stripped ∷ []) lines order_moved none (ap has_end moved ∙ some))
 
 -- ---- a script that ends with a line feed
 
@@ -145,10 +144,10 @@ lines_of_script : (text : List ℕ) → script_lines (text ++ 10 ∷ []) ≡ map
 lines_of_script text = lines_fed (text ++ 10 ∷ []) (slice_split is_line_feed text) (split_after text [])
 
 -- they have an end
-end_of_script : (built : Built) (text : List ℕ) (script : Script) → IsScript built (text ++ 10 ∷ []) script → HasEndAlone (slice_split is_line_feed text)
-end_of_script built text script is =
-    end_after (setting_of built (script_lines (text ++ 10 ∷ []))) [] (slice_split is_line_feed text)
-    (subst (AreInOrder (setting_of built (script_lines (text ++ 10 ∷ [])))) (lines_of_script text) is.lines.in_order) refl (ap has_end (sym (lines_of_script text)) ∙ is.lines.ended)
+end_of_script : (text : List ℕ) (script : Script) → IsScript (text ++ 10 ∷ []) script → HasEndAlone (slice_split is_line_feed text)
+end_of_script text script is =
+    end_after (sessions_named (script_lines (text ++ 10 ∷ []))) [] (slice_split is_line_feed text)
+    (subst (AreInOrder (sessions_named (script_lines (text ++ 10 ∷ [])))) (lines_of_script text) is.lines.in_order) refl (ap has_end (sym (lines_of_script text)) ∙ is.lines.ended)
 
 -- the lines of an input that begins with it
 cut_after : (text more : List ℕ) (at : HasEndAlone (slice_split is_line_feed text)) → slice_split is_line_feed (text ++ 10 ∷ more) ≡ at.before ++ at.end ∷ (at.after ++ slice_split is_line_feed more)
@@ -164,9 +163,9 @@ place_after_end text more at =
     ap bytes_to_end (cut_after text more at) ∙ place_at at.before at.end (at.after ++ slice_split is_line_feed more) at.none at.ends (some_after text more at)
 
 -- at the same place as by itself
-pub same_place : (built : Built) (text more : List ℕ) (script : Script) → IsScript built (text ++ 10 ∷ []) script → split_place (text ++ 10 ∷ more) ≡ split_place (text ++ 10 ∷ [])
-same_place built text more script is =
-    let at = end_of_script built text script is in
+pub same_place : (text more : List ℕ) (script : Script) → IsScript (text ++ 10 ∷ []) script → split_place (text ++ 10 ∷ more) ≡ split_place (text ++ 10 ∷ [])
+same_place text more script is =
+    let at = end_of_script text script is in
     place_after_end text more at ∙ sym (place_after_end text [] at)
 
 -- where a list with a last element is cut, nothing is after the cut, or the last
@@ -190,34 +189,34 @@ silent_last between last ends silent =
     no_last (statements_of (map strip_carriage_return between)) (statement_of stripped) (alone_says (words_of stripped) ends) none
 
 -- whole, where its last line is its end
-pub split_whole : (built : Built) (text more : List ℕ) (script : Script) (lines : List (List ℕ)) (last : List ℕ) → IsScript built (text ++ 10 ∷ []) script → slice_split is_line_feed text ≡ lines ++ last ∷ [] → is_end_alone last ≡ true → split_place (text ++ 10 ∷ more) ≡ length text + 1
-split_whole built text more script lines last is cut ends =
-    let at : HasEndAlone (slice_split is_line_feed text) = end_of_script built text script is in
+pub split_whole : (text more : List ℕ) (script : Script) (lines : List (List ℕ)) (last : List ℕ) → IsScript (text ++ 10 ∷ []) script → slice_split is_line_feed text ≡ lines ++ last ∷ [] → is_end_alone last ≡ true → split_place (text ++ 10 ∷ more) ≡ length text + 1
+split_whole text more script lines last is cut ends =
+    let at : HasEndAlone (slice_split is_line_feed text) = end_of_script text script is in
     elim (last_after lines last at.before at.end at.after (sym cut ∙ at.place)) as (λ _. split_place (text ++ 10 ∷ more) ≡ length text + 1) [
       | inl none ↦ place_after_end text more at ∙ ap (λ after. fed (at.before ++ at.end ∷ after)) (sym none) ∙ ap fed (sym at.place) ∙ fed_split text
       | inr (between, after) ↦ absurd (silent_last between last ends (ap (λ after. statements_of (map strip_carriage_return after)) (sym after) ∙ at.silent))
     ]
 
 -- a front of a script after which no line says anything is that script
-front_is_script : (built : Built) (text front : List ℕ) (script : Script) (rest : List (List ℕ)) → script_lines text ≡ script_lines front ++ rest → statements_of rest ≡ [] → length front ≤ length text → IsScript built text script → IsScript built front script
-front_is_script built text front script rest lines silent short is =
+front_is_script : (text front : List ℕ) (script : Script) (rest : List (List ℕ)) → script_lines text ≡ script_lines front ++ rest → statements_of rest ≡ [] → length front ≤ length text → IsScript text script → IsScript front script
+front_is_script text front script rest lines silent short is =
     let same : statements_of (script_lines text) ≡ statements_of (script_lines front) =
     ap statements_of lines ∙ filter_map-append statement_of (script_lines front) rest ∙ ap (λ others. statements_of (script_lines front) ++ others) silent ∙ append-nil (statements_of (script_lines front)) in
-    let named : (setting_of built (script_lines text)) ≡ (setting_of built (script_lines front)) = ap (λ statements. record { built = built; named = named_in (before_first is_end_line statements) }) same in
+    let named : sessions_named (script_lines text) ≡ sessions_named (script_lines front) = ap (λ statements. named_in (before_first is_end_line statements)) same in
     record {
       short = omega (arith, is.short);
       lines = record {
-        in_order = λ before after line e. subst (λ setting. code_after setting before line ≡ None) named
+        in_order = λ before after line e. subst (λ names. code_after names before line ≡ None) named
             (is.lines.in_order before (after ++ rest) line (lines ∙ ap (λ lines. lines ++ rest) e ∙ append_assoc before (line ∷ after) rest));
         ended = ap (list_any is_end_line) (sym same) ∙ is.lines.ended;
-        says = is.lines.says ∙ (λ i. script_said (named i).named (same i));
+        says = is.lines.says ∙ (λ i. script_said (named i) (same i));
       };
     }
 
 -- what is split off is the script
-pub split_script : (built : Built) (text more : List ℕ) (script : Script) → IsScript built (text ++ 10 ∷ []) script → IsScript built (take (split_place (text ++ 10 ∷ more)) (text ++ 10 ∷ more)) script
-split_script built text more script is =
-    let at : HasEndAlone (slice_split is_line_feed text) = end_of_script built text script is in
+pub split_script : (text more : List ℕ) (script : Script) → IsScript (text ++ 10 ∷ []) script → IsScript (take (split_place (text ++ 10 ∷ more)) (text ++ 10 ∷ more)) script
+split_script text more script is =
+    let at : HasEndAlone (slice_split is_line_feed text) = end_of_script text script is in
     let ending : List (List ℕ) = at.before ++ at.end ∷ [] in
     let front : List ℕ = take (fed ending) (text ++ 10 ∷ more) in
     let whole : slice_split is_line_feed text ≡ ending ++ at.after = at.place ∙ sym (append_assoc at.before (at.end ∷ []) at.after) in
@@ -227,4 +226,4 @@ split_script built text more script is =
     let lines : script_lines (text ++ 10 ∷ []) ≡ script_lines front ++ map strip_carriage_return at.after =
     lines_of_script text ∙ ap (map strip_carriage_return) whole ∙ map-append strip_carriage_return ending at.after ∙ ap (λ lines. lines ++ map strip_carriage_return at.after) (sym front_lines) in
     let short : length front ≤ length (text ++ 10 ∷ []) = omega (arith, length-take (fed ending) (text ++ 10 ∷ more), fed_append ending at.after, fed_split text, ap fed whole, length-append text (10 ∷ [])) in
-    subst (λ n. IsScript built (take n (text ++ 10 ∷ more)) script) (sym (place_after_end text more at)) (front_is_script built (text ++ 10 ∷ []) front script (map strip_carriage_return at.after) lines at.silent short is)
+    subst (λ n. IsScript (take n (text ++ 10 ∷ more)) script) (sym (place_after_end text more at)) (front_is_script (text ++ 10 ∷ []) front script (map strip_carriage_return at.after) lines at.silent short is)

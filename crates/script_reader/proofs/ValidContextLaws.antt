@@ -10,7 +10,7 @@ use Rattle.composed_value.specs.declared.kind.Kind.{Kind}
 use Rattle.placement.specs.Config.{IsOneOf, ArePins, placed}
 use Rattle.placement.specs.Name.{IsName}
 use Rattle.placement.specs.declared.config.KeyPlace.{KeyPlace}
-use Rattle.script_reader.specs.Faults.{Setting, Context, context_of, keys_of, level_of, commands_of, is_declared, is_causal, is_committed, may_follow, may_have, suits, lacks_name, repeats, is_unknown, misfits, passes_limit, breaks_transaction, code_of}
+use Rattle.script_reader.specs.Faults.{Context, context_of, keys_of, level_of, commands_of, is_declared, is_causal, is_committed, may_follow, may_have, suits, lacks_name, repeats, is_unknown, misfits, passes_limit, breaks_transaction, code_of}
 use Rattle.script_reader.proofs.FaultsLaws.{word_fine, name_fine, twice_fine, unknown_fine, kind_fine, limit_fine, transaction_fine}
 use Rattle.script_reader.specs.Lines.{Statement}
 use Rattle.script_reader.specs.Said.{key_said, kind_in, pins_said, number_in, line_said}
@@ -45,11 +45,10 @@ faultless context keyword words none =
     let all = not-false _ (word_fine context keyword words none) in
     let follows = and_parts (may_follow context keyword) _ all in
     let has = and_parts (may_have keyword words) _ follows.1 in
-    let suited = and_parts (suits (level_of context) keyword words) _ has.1 in
     record {
       follows = follows.0;
       has = has.0;
-      suited = suited.0;
+      suited = has.1;
       named = name_fine context keyword words none;
       twice = twice_fine context keyword words none;
       unknown = unknown_fine context keyword words none;
@@ -59,8 +58,8 @@ faultless context keyword words none =
     }
 
 -- where no line stands before, the context is valid
-pub start : (setting : Setting) → IsValidContext (context_of setting [])
-start setting = record {
+pub start : (named : List (List ℕ)) → IsValidContext (context_of named [])
+start named = record {
   header = λ has. absurd (false≢true has);
   workers = λ has. absurd (false≢true has);
   bare = λ no. (omega arith, omega arith, refl);

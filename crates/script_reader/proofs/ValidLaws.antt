@@ -2,7 +2,7 @@
 use Rattle.std.specs.Prelude.{◌≡◌, ◌≢◌, ℕ, ◌+◌, ◌<◌, ◌≤◌, Bool, true, false, cond, IsTrue, IsFalse, List, [], ◌∷◌, ◌++◌, map, fold, length, take, None, All, AllPairs}
 use Rattle.std.specs.List.{list_any, before_first, position_or_len}
 use Rattle.std.specs.Str.{bytes_eq}
-use Rattle.std.proofs.Common.{zero, suc, refl, sym, subst, ◌∙◌, arith}
+use Rattle.std.proofs.Common.{zero, suc, sym, subst, ◌∙◌, arith}
 use Rattle.std.proofs.lemmas.Bool.{false≢true, cond_both}
 use Rattle.std.proofs.lemmas.List.{length_push, length-map, get_or-map}
 use Rattle.std.proofs.lemmas.List.Elements.{All-nil, All-cons, All-weaker}
@@ -12,15 +12,14 @@ use Rattle.placement.proofs.ConfigLemmas.{is_placement}
 use Rattle.placement.specs.Name.{IsName}
 use Rattle.placement.specs.declared.config.KeyPlace.{KeyPlace}
 use Rattle.script_reader.proofs.FrontLaws.{holds_after}
-use Rattle.script_reader.specs.Faults.{Setting, Context, context_of, code_of}
-use Rattle.script_reader.specs.Grammar.{IsScript, IsScriptOf, setting_of}
+use Rattle.script_reader.specs.Faults.{Context, context_of, code_of}
+use Rattle.script_reader.specs.Grammar.{IsScript, IsScriptOf, sessions_named}
 use Rattle.script_reader.specs.Keywords.{is_end, is_session}
 use Rattle.script_reader.specs.Lines.{Statement, script_lines, statements_of, those, word, is_end_line}
 use Rattle.script_reader.specs.Said.{named_in, sessions_said, with_name}
 use Rattle.script_reader.specs.Steps.{next_context}
 use Rattle.script_reader.proofs.ValidContext.{AreApart, AreLed, IsValidContext, Leads, Stands}
 use Rattle.script_reader.proofs.ValidContextLaws.{start, step, ended}
-use Rattle.script_reader.specs.declared.built.Built.{Built}
 use Rattle.script_reader.specs.declared.keyword.Keyword.{Keyword}
 use Rattle.script_reader.specs.declared.keyword.Keyword.TheVariants.{End}
 use Rattle.session_known.specs.Script.{AreEnded, IsValidScript, MayStand}
@@ -149,14 +148,14 @@ valid_closed context valid closed named =
     }
 
 -- The script that the lines of a text say is valid.
-of_lines : (setting : Setting) (lines : List (List ℕ)) (script : Script) → setting.named ≡ named_in (before_first is_end_line (statements_of lines)) → IsScriptOf setting lines script → IsValidScript script (placed script.config)
-of_lines setting lines script named is =
-    let front = holds_after IsFront front_step setting lines (record { valid = start setting; closed = λ any. absurd (false≢true any) }) is.in_order in
-    let context = context_of setting (statements_of lines) in
-    let enough = named_are _ _ setting.named (statements_of lines) in
-    let room : length context.named ≤ length context.script.sessions = subst (λ names. length names ≤ length context.script.sessions) (sym named) enough in
+of_lines : (lines : List (List ℕ)) (script : Script) → IsScriptOf (sessions_named lines) lines script → IsValidScript script (placed script.config)
+of_lines lines script is =
+    let named = sessions_named lines in
+    let front = holds_after IsFront front_step named lines (record { valid = start named; closed = λ any. absurd (false≢true any) }) is.in_order in
+    let context = context_of named (statements_of lines) in
+    let room = named_are _ _ named (statements_of lines) in
     subst (λ said. IsValidScript said (placed said.config)) (sym is.says) (valid_closed context front.valid (front.closed is.ended) room)
 
 -- A script that the grammar accepts is valid.
-pub script_is_valid : (built : Built) (text : List ℕ) (script : Script) → IsScript built text script → IsValidScript script (placed script.config)
-script_is_valid built text script is = of_lines (setting_of built (script_lines text)) (script_lines text) script refl is.lines
+pub script_is_valid : (text : List ℕ) (script : Script) → IsScript text script → IsValidScript script (placed script.config)
+script_is_valid text script is = of_lines (script_lines text) script is.lines

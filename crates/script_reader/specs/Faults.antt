@@ -14,20 +14,14 @@ use Rattle.script_reader.specs.Keywords.{is_factor, is_round, is_command, is_beg
 use Rattle.script_reader.specs.Lines.{Statement, those, statement_of, statements_of, has_end}
 use Rattle.script_reader.specs.Said.{place_of, pins_said, payload_for, script_said}
 use Rattle.script_reader.specs.Words.{is_name, is_number, number_of, kind_said, level_said, is_payload_too_great}
-use Rattle.script_reader.specs.declared.built.Built.{Built}
 use Rattle.script_reader.specs.declared.code.Code.{Code}
 use Rattle.script_reader.specs.declared.code.Code.TheVariants as codes_of
 use Rattle.script_reader.specs.declared.keyword.Keyword.{Keyword}
 use Rattle.script_reader.specs.declared.keyword.Keyword.TheVariants.{Anna, Workers, Factor, Round, Key, Session, Put, Get, Await, Begin, Commit, Abort, End}
 
--- what is given besides the lines before: which forms are served, and the sessions that an await may name, also later ones
-pub record Setting : Type 0 where
-  pub built : Built
-  pub named : List (List ℕ)
-
 -- What the lines before a line say, as far as it matters there: the script so far, and what cannot be seen in it.
 pub record Context : Type 0 where
-  pub built : Built
+  -- the sessions that an await may name, also later ones
   pub named : List (List ℕ)
   pub has_header : Bool
   pub has_workers : Bool
@@ -42,15 +36,15 @@ last_begins [] = false
 last_begins (statement ∷ []) = is_begin statement.keyword
 last_begins (statement ∷ other ∷ statements) = last_begins (other ∷ statements)
 
-abbrev pub context_of : Setting → List Statement → Context
-context_of setting before = record {
-  built = setting.built;
-  named = setting.named;
+-- what these lines say, where an await may name these sessions
+abbrev pub context_of : List (List ℕ) → List Statement → Context
+context_of named before = record {
+  named = named;
   has_header = nat_lt 0 (length before);
   has_workers = nat_lt 1 (length before);
   has_factor = nat_lt 0 (length (those is_factor before));
   has_round = nat_lt 0 (length (those is_round before));
-  script = script_said setting.named before;
+  script = script_said named before;
   begun = last_begins (those is_boundary before);
 }
 
@@ -96,10 +90,6 @@ is_causal level = false
 abbrev pub is_committed : Level → Bool
 is_committed Committed = true
 is_committed level = false
-
-abbrev pub is_eventual : Level → Bool
-is_eventual Eventual = true
-is_eventual level = false
 
 -- ---- header: the first line with words is not `anna 1`
 
@@ -149,15 +139,9 @@ suits level Await words = is_causal level
 suits level Get (key ∷ worker ∷ words) = not (is_causal level)
 suits level keyword words = true
 
--- the form is one that is served
-abbrev pub is_served : Built → Keyword → List (List ℕ) → Bool
-is_served built Workers (number ∷ words) = built.workers || not (is_within 2 8 (number_of number))
-is_served built Session (name ∷ level ∷ words) = built.levels || (option_map_or is_eventual (level_said level) true)
-is_served built keyword words = true
-
 abbrev pub lacks_word : Context → Keyword → List (List ℕ) → Bool
 lacks_word context keyword words =
-    not (may_follow context keyword && (may_have keyword words && (suits (level_of context) keyword words && is_served context.built keyword words)))
+    not (may_follow context keyword && (may_have keyword words && suits (level_of context) keyword words))
 
 -- ---- number: a word that must be a number is none, or the number of a payload is too great
 
@@ -261,6 +245,6 @@ code_said context ended line (Some statement) =
     if ended then Some codes_of.AfterEnd else
     (if not (list_all is_text_byte line) then Some codes_of.Byte else code_of context statement.keyword statement.words)
 
--- The code of a line at fault after these lines.
-abbrev pub code_after : Setting → List (List ℕ) → List ℕ → Option Code
-code_after setting before line = code_said (context_of setting (statements_of before)) (has_end before) line (statement_of line)
+-- The code of a line at fault after these lines, where an await may name these sessions.
+abbrev pub code_after : List (List ℕ) → List (List ℕ) → List ℕ → Option Code
+code_after named before line = code_said (context_of named (statements_of before)) (has_end before) line (statement_of line)

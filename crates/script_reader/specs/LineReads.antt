@@ -1,7 +1,7 @@
 -- How lines are read one after another.
 use Rattle.std.specs.Prelude.{◌≡◌, ℕ, Bool, false, if◌then◌else◌, List, ◌⊎◌, Option, Some, None, ⊤}
 use Rattle.script_reader.specs.Codes.{number_of_code}
-use Rattle.script_reader.specs.Faults.{Setting, code_said}
+use Rattle.script_reader.specs.Faults.{code_said}
 use Rattle.script_reader.specs.Grammar.{IsFirstFault, IsEndMissing}
 use Rattle.script_reader.specs.Keywords.{is_end, is_session}
 use Rattle.script_reader.specs.Lines.{Statement, word}
@@ -36,6 +36,6 @@ fault_at line (line_faults.Code code) = Refused line (number_of_code code)
 fault_at line line_faults.NoMemory = NoMemory
 
 -- The fault says why the lines are no script; of want of memory nothing is said.
-abbrev pub IsWhyNoLines : Setting → List (List ℕ) → ScriptFault → Type 0
-IsWhyNoLines setting lines (Refused at code) = IsFirstFault setting lines at code ⊎ IsEndMissing setting lines at code
-IsWhyNoLines setting lines NoMemory = ⊤
+abbrev pub IsWhyNoLines : List (List ℕ) → List (List ℕ) → ScriptFault → Type 0
+IsWhyNoLines named lines (Refused at code) = IsFirstFault named lines at code ⊎ IsEndMissing named lines at code
+IsWhyNoLines named lines NoMemory = ⊤

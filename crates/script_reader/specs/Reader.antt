@@ -31,7 +31,6 @@ begun_of (Some sessions) = sessions.begun
 -- what the reader holds, as what the lines before say
 abbrev pub so_far : Reader → Context
 so_far reader = record {
-  built = reader.built;
   named = reader.named;
   has_header = reader.has_header;
   has_workers = reader.has_workers;

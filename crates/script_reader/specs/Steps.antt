@@ -80,7 +80,6 @@ begun_after begun keyword = begun
 -- what the lines say with one more
 abbrev pub next_context : Context → Keyword → List (List ℕ) → Context
 next_context context keyword words = record {
-  built = context.built;
   named = context.named;
   has_header = true;
   has_workers = context.has_header;

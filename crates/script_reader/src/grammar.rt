@@ -1,19 +1,17 @@
 //! Reads scripts.
 ghost use Rattle.std.specs.Prelude.{◌≡◌, ℕ, ◌≤◌, ◌^◌, ◌+◌, None, Some, length, map, IfOk, IfErr, MatchOption, MatchResult};
-ghost use Rattle.std.specs.List.{before_first, list_all};
+ghost use Rattle.std.specs.List.{list_all};
 ghost use Rattle.placement.specs.Config.{placed};
 ghost use Rattle.session_known.specs.Script.{IsValidScript};
 ghost use Rattle.session_known.specs.declared.script.Script.{Script};
 ghost use Rattle.script_reader.specs.Codes.{number_of_code};
 ghost use Rattle.script_reader.specs.Faults.{code_said, is_text_byte as text_byte};
-ghost use Rattle.script_reader.specs.Grammar.{IsScript, IsScriptOf, IsRefused, IsWhyNoScript, IsReadAs, IsRefusedAs, HasForms, setting_of, all_built};
+ghost use Rattle.script_reader.specs.Grammar.{IsScript, IsScriptOf, IsRefused, IsWhyNoScript, IsReadAs, IsRefusedAs, sessions_named};
 ghost use Rattle.script_reader.specs.LineReads.{HasReadLine, IsWhyNoLines, named_after, says_end, fault_at as fault_there};
-ghost use Rattle.script_reader.specs.Lines.{statement_in, statement_of, statements_of, is_end_line};
+ghost use Rattle.script_reader.specs.Lines.{statement_in, statement_of};
 ghost use Rattle.script_reader.specs.Reader.{so_far, IsKept, IsFaultOf};
-ghost use Rattle.script_reader.specs.Said.{named_in};
 ghost use Rattle.script_reader.specs.Words.{texts};
 
-use crate::built::Built;
 use crate::code::Code;
 use crate::fault::ScriptFault;
 use crate::keyword::Keyword;
@@ -66,8 +64,7 @@ fn add_session<'a>(alloc: Global, names: &mut Names<'a>, line: &'a [u8]) -> Resu
 
 /// The sessions that an await may name: those of all session lines before the first end line.
 fn session_names<'a>(alloc: Global, lines: &[&'a [u8]]) -> Result<Names<'a>, NoMemory>
-    ensures { IfOk result (λ names. names
-        ≡ named_in (before_first is_end_line (statements_of (map (λ line. line.now) lines.now)))) }
+    ensures { IfOk result (λ names. names ≡ sessions_named (map (λ line. line.now) lines.now)) }
 {
     let mut names = Names::new(alloc);
     for line in lines {
@@ -115,15 +112,15 @@ fn read_line<'a>(
 }
 
 /// Reads the lines of a script, one after another.
-fn read_lines(alloc: Global, lines: &[&[u8]], built: Built) -> Result<Script, ScriptFault>
+fn read_lines(alloc: Global, lines: &[&[u8]]) -> Result<Script, ScriptFault>
     requires { length lines.now ≤ 2 ^ 20 + 1 }
-    ensures script { IfOk result (IsScriptOf (setting_of built (map (λ line. line.now) lines.now))
+    ensures script { IfOk result (IsScriptOf (sessions_named (map (λ line. line.now) lines.now))
         (map (λ line. line.now) lines.now)) }
     ensures refused { IfErr result (IsWhyNoLines
-        (setting_of built (map (λ line. line.now) lines.now)) (map (λ line. line.now) lines.now)) }
+        (sessions_named (map (λ line. line.now) lines.now)) (map (λ line. line.now) lines.now)) }
 {
     let names = session_names(alloc, lines)?;
-    let mut reader = Reader::new(alloc, built, names);
+    let mut reader = Reader::new(alloc, names);
     let mut ended = false;
     for (i, line) in lines.iter().enumerate() {
         match read_line(alloc, &mut reader, ended, line) {
@@ -159,56 +156,36 @@ fn refused(line: usize, code: Code) -> ScriptFault
     }
 }
 
-/// Reads a script, where these forms are served.
+/// Reads a script.
 ///
 /// Refused is exactly what is no script: more than 1,048,576 bytes (code 12 at line 0), else the first
 /// line at fault with the least code whose condition holds, else a script with no end (code 10 after
 /// its last line). Takes time linear in the bytes on average: names are found by their hashes.
-pub fn read_script_built(alloc: Global, bytes: &[u8], built: Built) -> Result<Script, ScriptFault>
-    ensures script { IfOk result (IsScript built bytes.now) }
-    ensures refused { IfErr result (IsWhyNoScript built bytes.now) }
+pub fn read_script(alloc: Global, bytes: &[u8]) -> Result<Script, ScriptFault>
+    ensures script { IfOk result (IsScript bytes.now) }
+    ensures refused { IfErr result (IsWhyNoScript bytes.now) }
 
     // What is read is valid.
     ensures valid { IfOk result (λ script. IsValidScript script (placed script.config)) }
 
-    // And it has only forms that are served.
-    ensures forms { IfOk result (HasForms built) }
-
     // What is a script is read as that script, and what is refused is refused so.
-    ensures accepts { (script : Script) → IsScript built bytes.now script → IsReadAs script result }
+    ensures accepts { (script : Script) → IsScript bytes.now script → IsReadAs script result }
     ensures refuses { (line code : ℕ)
-        → IsRefused built bytes.now line code → IsRefusedAs line code result }
+        → IsRefused bytes.now line code → IsRefusedAs line code result }
 {
-    read_text(alloc, bytes, built)
+    read_text(alloc, bytes)
 }
 
-/// Reads a text, where these forms are served.
-fn read_text(alloc: Global, bytes: &[u8], built: Built) -> Result<Script, ScriptFault>
-    ensures script { IfOk result (IsScript built bytes.now) }
-    ensures refused { IfErr result (IsWhyNoScript built bytes.now) }
+/// Reads a text.
+fn read_text(alloc: Global, bytes: &[u8]) -> Result<Script, ScriptFault>
+    ensures script { IfOk result (IsScript bytes.now) }
+    ensures refused { IfErr result (IsWhyNoScript bytes.now) }
 {
     if bytes.len() > MOST_BYTES {
         return Err(refused(0, Code::TooLong));
     }
     let lines = lines_of(alloc, bytes)?;
-    read_lines(alloc, &lines, built)
-}
-
-/// Reads a script. The same as [`read_script_built`] with all forms served.
-pub fn read_script(alloc: Global, bytes: &[u8]) -> Result<Script, ScriptFault>
-    ensures script { IfOk result (IsScript all_built bytes.now) }
-    ensures refused { IfErr result (IsWhyNoScript all_built bytes.now) }
-    ensures valid { IfOk result (λ script. IsValidScript script (placed script.config)) }
-    ensures accepts { (script : Script)
-        → IsScript all_built bytes.now script → IsReadAs script result }
-    ensures refuses { (line code : ℕ)
-        → IsRefused all_built bytes.now line code → IsRefusedAs line code result }
-{
-    let built = Built {
-        workers: true,
-        levels: true,
-    };
-    read_script_built(alloc, bytes, built)
+    read_lines(alloc, &lines)
 }
 
 #[cfg(test)]

@@ -10,7 +10,6 @@
 //! on from [`outside`], so that a crate above need not name it.
 #![tactic(auto)]
 
-mod built;
 mod code;
 mod entry;
 mod fault;
@@ -24,9 +23,9 @@ mod reader;
 mod split;
 mod words;
 
-pub use built::Built;
 pub use fault::ScriptFault;
-pub use grammar::{MOST_BYTES, read_script, read_script_built};
+pub use grammar::{MOST_BYTES, read_script};
 pub use outside;
 pub use session_known::{Answer, FinalCell, Level, Line, Report, Script, SessionPlan, Shown};
 pub use split::{scripts_are_split_off, split_input};
+pub use words::number;

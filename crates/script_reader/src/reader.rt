@@ -5,17 +5,14 @@ mod declared;
 
 ghost use Rattle.std.specs.Prelude.{◌≡◌, [], IfOk, MatchResult};
 ghost use Rattle.script_reader.specs.Entries.{Shows};
-ghost use Rattle.script_reader.specs.Faults.{code_of, context_of, may_follow, level_of, is_header as header_is, suits as level_suits, is_served as served};
+ghost use Rattle.script_reader.specs.Faults.{code_of, context_of, may_follow, level_of, is_header as header_is, suits as level_suits};
 ghost use Rattle.script_reader.specs.Reader.{so_far, plans_of, IsKept, IsFaultOf, SuitsPlace, Reads};
 ghost use Rattle.script_reader.specs.Words.{texts};
 
-use crate::built::Built;
 use crate::code::Code;
 use crate::entry::{Bare, Entry, tell_apart};
 use crate::keyword::Keyword;
 use crate::names::Names;
-use crate::pins::is_within;
-use crate::words::{level, number};
 use composed_value::Kind;
 use lattice_laws::{Items, NoMemory};
 use placement::{Config, Placement};
@@ -84,7 +81,6 @@ pub(crate) struct Sessions {
 /// What the lines of a script say that were read so far.
 #[derive(Drop)]
 pub(crate) struct Reader<'a> {
-    pub(crate) built: Built,
     /// The sessions that an await may name.
     pub(crate) named: Names<'a>,
     pub(crate) has_header: bool,
@@ -143,7 +139,7 @@ impl<'a> Reader<'a> {
         let Some(entry) = tell_apart(keyword, words) else {
             return Err(LineFault::Code(Code::Word));
         };
-        if !suits(self.level(), keyword, words) || !is_served(self.built, keyword, words) {
+        if !suits(self.level(), keyword, words) {
             return Err(LineFault::Code(Code::Word));
         }
         Ok(entry)
@@ -186,13 +182,11 @@ impl<'a> Reader<'a> {
     }
 
     /// A reader that has read no line. Takes no memory.
-    pub(crate) fn new(alloc: Global, built: Built, named: Names<'a>) -> Reader<'a>
+    pub(crate) fn new(alloc: Global, named: Names<'a>) -> Reader<'a>
         ensures kept { IsKept result }
-        ensures nothing { so_far result ≡ context_of
-            (record { built = built; named = named.entry }) [] }
+        ensures nothing { so_far result ≡ context_of named.entry [] }
     {
         Reader {
-            built,
             named,
             has_header: false,
             has_workers: false,
@@ -215,7 +209,6 @@ impl<'a> Reader<'a> {
         ensures { IfOk result (λ script. script ≡ (so_far self.entry).script) }
     {
         let Reader {
-            built: _,
             named: _,
             has_header: _,
             has_workers: _,
@@ -265,21 +258,6 @@ fn suits(level: Level, keyword: Keyword, words: &[&[u8]]) -> bool
     match keyword {
         Keyword::Await => level == Level::Causal,
         Keyword::Get => words.len() < 2 || level != Level::Causal,
-        _ => true,
-    }
-}
-
-/// Whether the line is of a form that is served.
-fn is_served(built: Built, keyword: Keyword, words: &[&[u8]]) -> bool
-    ensures { result ≡ served built keyword (texts words.now) }
-{
-    match (keyword, words) {
-        (Keyword::Workers, [word, ..]) => {
-            built.workers || !is_within(2, 8, number(word).unwrap_or(0))
-        }
-        (Keyword::Session, [_, word, ..]) => {
-            built.levels || !matches!(level(word), Some(Level::Committed | Level::Causal))
-        }
         _ => true,
     }
 }

@@ -5,7 +5,6 @@ ghost use Rattle.session_known.specs.declared.script.Script.{Script};
 ghost use Rattle.script_reader.specs.Grammar.{IsScript};
 ghost use Rattle.script_reader.specs.Lines.{is_line_feed};
 ghost use Rattle.script_reader.specs.Split.{is_end_alone as says_end_alone, split_place};
-ghost use Rattle.script_reader.specs.declared.built.Built.{Built};
 
 use crate::lines::without_return;
 use std::iter::once;
@@ -54,19 +53,19 @@ pub fn split_input(bytes: &[u8]) -> usize
 /// Blank lines and comments that it has after its end line stay with what follows.
 pub fn scripts_are_split_off()
     // What stands before the place is that script.
-    ensures script { (built : Built) (text more : List ℕ) (script : Script)
-        → IsScript built (text ++ 10 ∷ []) script
-        → IsScript built (take (split_place (text ++ 10 ∷ more)) (text ++ 10 ∷ more)) script }
+    ensures script { (text more : List ℕ) (script : Script)
+        → IsScript (text ++ 10 ∷ []) script
+        → IsScript (take (split_place (text ++ 10 ∷ more)) (text ++ 10 ∷ more)) script }
 
     // The place is the one in the script by itself.
-    ensures same { (built : Built) (text more : List ℕ) (script : Script)
-        → IsScript built (text ++ 10 ∷ []) script
+    ensures same { (text more : List ℕ) (script : Script)
+        → IsScript (text ++ 10 ∷ []) script
         → split_place (text ++ 10 ∷ more) ≡ split_place (text ++ 10 ∷ []) }
 
     // It is after the whole script, where the script's last line is its end line.
-    ensures whole { (built : Built) (text more : List ℕ) (script : Script)
+    ensures whole { (text more : List ℕ) (script : Script)
         (lines : List (List ℕ)) (last : List ℕ)
-        → IsScript built (text ++ 10 ∷ []) script
+        → IsScript (text ++ 10 ∷ []) script
         → slice_split is_line_feed text ≡ lines ++ last ∷ [] → IsTrue (says_end_alone last)
         → split_place (text ++ 10 ∷ more) ≡ length text + 1 }
 {}

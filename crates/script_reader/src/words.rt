@@ -33,8 +33,9 @@ fn is_numeral(word: &[u8]) -> bool
     !word.is_empty() && word.iter().all(|byte| byte.is_ascii_digit())
 }
 
-/// The number that a word writes, where it is one.
-pub(crate) fn number(word: &[u8]) -> Option<u64>
+/// The number that a word writes, where it is one: decimal digits, leading zeros among them, that say at
+/// most 18446744073709551615. Takes no memory.
+pub fn number(word: &[u8]) -> Option<u64>
     ensures { result ≡ number_said word.now }
 {
     if !is_numeral(word) {
@@ -75,5 +76,29 @@ pub(crate) fn level(word: &[u8]) -> Option<Level>
         b"committed" => Some(Level::Committed),
         b"causal" => Some(Level::Causal),
         _ => None,
+    }
+}
+
+#[cfg(test)]
+mod tests {
+    use super::*;
+
+    #[test]
+    fn reads_numbers(rt: HostRuntime) {
+        // A word and the number that it writes.
+        let cases = [
+            (b"0".as_slice(), Some(0)),
+            (b"007", Some(7)),
+            (b"18446744073709551615", Some(u64::MAX)),
+            (b"018446744073709551615", Some(u64::MAX)),
+            (b"18446744073709551616", None),
+            (b"", None),
+            (b"+1", None),
+            (b"-1", None),
+            (b"1x", None),
+        ];
+        for (word, want) in cases {
+            assert_eq!(rt; number(word), want, "{word:?}");
+        }
     }
 }

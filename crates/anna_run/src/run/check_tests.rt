@@ -23,7 +23,7 @@ fn check_on(alloc: Global, input: Vec<u8>) -> Result<(Status, Vec<u8>), NoMemory
     words.push(String::from_str(alloc, "check")?)?;
     let mut src = SureSource::new(input);
     let mut sink = SureSink::new(alloc, 1_000)?;
-    let status = run(alloc, &words, &mut src, &mut sink);
+    let (status, _) = run(alloc, &words, &mut src, &mut sink);
     Ok((status, sink.written().to_vec(alloc)?))
 }
 
@@ -109,14 +109,14 @@ fn a_check_may_meet_faults(rt: HostRuntime) -> Result<(), Fail> {
     let mut src = MemSource::new(input.to_vec(rt.alloc())?, [1].to_vec(rt.alloc())?);
     let mut sink = SureSink::new(rt.alloc(), 1_000)?;
     assert_eq!(rt;
-        run(rt.alloc(), &words, &mut src, &mut sink),
+        run(rt.alloc(), &words, &mut src, &mut sink).0,
         Status::ReadFault
     );
     assert_eq!(rt; sink.written(), b"read fault\n".as_slice());
     let mut src = SureSource::new(input);
     let mut sink = MemSink::new(rt.alloc(), [1].to_vec(rt.alloc())?)?;
     assert_eq!(rt;
-        run(rt.alloc(), &words, &mut src, &mut sink),
+        run(rt.alloc(), &words, &mut src, &mut sink).0,
         Status::WriteFault
     );
     assert!(rt; sink.written().is_empty());

@@ -20,13 +20,18 @@ fn words_of(alloc: Global, line: &str) -> Result<Vec<String>, NoMemory> {
     Ok(words)
 }
 
-/// Runs `run` on an input, and says how it ended and what was written.
-fn run_on(alloc: Global, input: &[u8]) -> Result<(Status, Vec<u8>), NoMemory> {
-    let words = words_of(alloc, "run")?;
+/// Runs the program with these words on an input, and says how it ended and what was written.
+fn ended(alloc: Global, words: &str, input: &[u8]) -> Result<(Status, Vec<u8>), NoMemory> {
+    let words = words_of(alloc, words)?;
     let mut src = SureSource::new(input.to_vec(alloc)?);
     let mut sink = SureSink::new(alloc, 1_000_000)?;
-    let status = run(alloc, &words, &mut src, &mut sink);
+    let (status, _) = run(alloc, &words, &mut src, &mut sink);
     Ok((status, sink.written().to_vec(alloc)?))
+}
+
+/// Runs a script, and says how that ended and what was written.
+fn run_on(alloc: Global, input: &[u8]) -> Result<(Status, Vec<u8>), NoMemory> {
+    ended(alloc, "run", input)
 }
 
 #[test]
@@ -85,96 +90,151 @@ fn a_get_shows_what_was_put_before_it(rt: HostRuntime) -> Result<(), Fail> {
     Ok(())
 }
 
-// ---- several sessions, all kinds
+// ---- several workers and sessions
 
-/// The sessions of a script, each line beside the line of the report that goes with it.
-///
-/// `bob` reads before it writes: its version overtakes the one that it has seen, and its Lamport
-/// numbers go on above it. `eve` writes without reading: its version stands beside, listed after
-/// since its clock begins with a later session, and a word under a lesser Lamport number is not the
-/// last. `amy` has seen both versions, and overtakes them. `kim` asks for nothing.
-const SHOP: [(&str, &str); 33] = [
-    ("session zoe eventual", "session zoe eventual"),
-    ("put seat A1", "put seat 1 at 1"),
-    ("put hits 7", "put hits 1 at 2"),
-    ("put open on", "put open 1 at 3"),
-    ("put tags red", "put tags 1 at 4"),
-    ("put tags blue", "put tags 2 at 5"),
-    ("put ages tom 30", "put ages 1 at 6"),
-    ("put name Zoe", "put name 1 at 7"),
-    ("put text draft", "put text 1 at 8"),
-    ("put text first", "put text 2 at 9"),
+/// Scripts whose reports are the same on every schedule, and those reports.
+const SETTLED: [(&str, &str); 6] = [
+    // Two replicas converge, one of which took no put of its own.
     (
-        "get text",
-        "get text @1 clock zoe:2 top 9 value first(zoe:2)",
+        "anna 1\nworkers 2\nkey a max at 1 2\nsession s eventual\nput a 4\nsession t eventual\nput a 9\nput a 2\nend\n",
+        "anna report 1\nsession s eventual\nput a 1 at 1\nsession t eventual\nput a 1 at 1\nput a 2 at 2\nfinal\na @1 clock s:1,t:2 top 2 value 9\na @2 clock s:1,t:2 top 2 value 9\nend\n",
     ),
-    ("session bob eventual", "session bob eventual"),
+    // A session is shown by its home what it put there before, and nothing that it puts later.
     (
-        "get text",
-        "get text @1 clock zoe:2 top 9 value first(zoe:2)",
+        "anna 1\nworkers 2\nkey a set at 2 1\nsession s eventual\nput a x\nget a\nput a y\nget a\nend\n",
+        "anna report 1\nsession s eventual\nput a 1 at 1\nget a @2 clock s:1 top 1 value {x}\nput a 2 at 2\nget a @2 clock s:2 top 2 value {x,y}\nfinal\na @1 clock s:2 top 2 value {x,y}\na @2 clock s:2 top 2 value {x,y}\nend\n",
     ),
-    ("put text second", "put text 1 at 10"),
-    ("put ages tom 25", "put ages 1 at 11"),
-    ("put ages eve 41", "put ages 2 at 12"),
+    // Two causal sessions wait for each other's puts.
     (
-        "get ages",
-        "get ages @1 clock zoe:1,bob:2 top 12 value {eve=41,tom=30}",
+        "anna 1\nworkers 2\nkey a max at 1\nkey b max at 2\nsession s causal\nput a 1\nawait b t 1\nput a 2\nsession t causal\nawait a s 1\nput b 7\nend\n",
+        "anna report 1\nsession s causal\nput a 1 at 1\nawait b t 1 @2 clock t:1 top 2 value 7 needs a{s:1}\nput a 2 at 3\nsession t causal\nawait a s 1 @1 clock s:1 top 1 value 1 needs -\nput b 1 at 2\nfinal\na @1 clock s:2 top 3 value 2\nb @2 clock t:1 top 2 value 7\nend\n",
     ),
-    ("put name Bob", "put name 1 at 13"),
+    // A transaction is dropped, another one committed under one Lamport number.
     (
-        "get name 1",
-        "get name @1 clock zoe:1,bob:1 top 13 value Bob/13/bob/0",
+        "anna 1\nworkers 1\nkey a max\nkey l last\nsession s committed\nbegin\nput a 5\nput l red\nabort\nbegin\nput a 5\nput l red\ncommit\nget l\nend\n",
+        "anna report 1\nsession s committed\nbegin\nput a held\nput l held\nabort 2\nbegin\nput a held\nput l held\ncommit 2 at 1\nget l @1 clock s:1 top 1 value red/1/s/1\nfinal\na @1 clock s:1 top 1 value 5\nl @1 clock s:1 top 1 value red/1/s/1\nend\n",
     ),
-    ("session eve eventual", "session eve eventual"),
-    ("put seat C3", "put seat 1 at 1"),
-    ("put text other", "put text 1 at 2"),
-    ("put name Eve", "put name 1 at 3"),
+    // A held put is not shown before its commit.
     (
-        "get text",
-        "get text @1 clock zoe:2,bob:1,eve:1 top 10 value second(zoe:2,bob:1)|other(eve:1)",
+        "anna 1\nworkers 1\nkey a max\nsession s committed\nbegin\nput a 5\nget a\ncommit\nget a\nend\n",
+        "anna report 1\nsession s committed\nbegin\nput a held\nget a @1 clock - top 0 value none\ncommit 1 at 1\nget a @1 clock s:1 top 1 value 5\nfinal\na @1 clock s:1 top 1 value 5\nend\n",
     ),
-    ("put hits 5", "put hits 1 at 11"),
-    ("get hits", "get hits @1 clock zoe:1,eve:1 top 11 value 7"),
-    ("put tags green", "put tags 1 at 12"),
+    // Nothing is asked for.
     (
-        "get tags",
-        "get tags @1 clock zoe:2,eve:1 top 12 value {blue,green,red}",
+        "anna 1\nworkers 2\nfactor 2\nend\n",
+        "anna report 1\nfinal\nend\n",
     ),
-    ("get open", "get open @1 clock zoe:1 top 3 value on"),
-    ("session amy eventual", "session amy eventual"),
-    (
-        "get text",
-        "get text @1 clock zoe:2,bob:1,eve:1 top 10 value second(zoe:2,bob:1)|other(eve:1)",
-    ),
-    ("put text merged", "put text 1 at 11"),
-    ("session kim eventual", "session kim eventual"),
 ];
 
-const SHOP_FINALS: &str =
-    "final\nhits @1 clock zoe:1,eve:1 top 11 value 7\nopen @1 clock zoe:1 top 3 value on\ntags @1 clock zoe:2,eve:1 top 12 value {blue,green,red}\nages @1 clock zoe:1,bob:2 top 12 value {eve=41,tom=30}\nname @1 clock zoe:1,bob:1,eve:1 top 13 value Bob/13/bob/0\nseat @1 clock zoe:1,eve:1 top 1 value C3/1/eve/0\ntext @1 clock zoe:2,bob:1,eve:1,amy:1 top 11 value merged(zoe:2,bob:1,eve:1,amy:1)\nidle @1 clock - top 0 value none\nend\n";
+#[test]
+fn reports_of_every_schedule(rt: HostRuntime) -> Result<(), Fail> {
+    for (script, report) in SETTLED {
+        let (status, text) = run_on(rt.alloc(), script.as_bytes())?;
+        assert_eq!(rt; status, Status::Done);
+        assert_eq!(rt; text.as_slice(), report.as_bytes());
+    }
+    Ok(())
+}
 
-/// Puts a line at the end of a text.
-fn push_line(text: &mut String, line: &str) -> Result<(), NoMemory> {
-    text.push_str(line)?;
-    text.push_str("\n")?;
+/// Whether a line stands in a text.
+fn has_line(text: &[u8], line: &str) -> bool {
+    text.split(|byte| *byte == b'\n')
+        .any(|one| one == line.as_bytes())
+}
+
+#[test]
+fn another_replica_may_be_behind(rt: HostRuntime) -> Result<(), Fail> {
+    let script = "anna 1\nworkers 2\nkey a max at 1 2\nsession s eventual\nput a 5\nget a 2\nend\n";
+    let (status, text) = run_on(rt.alloc(), script.as_bytes())?;
+    assert_eq!(rt; status, Status::Done);
+    assert!(rt;
+        has_line(&text, "get a @2 clock - top 0 value none")
+            || has_line(&text, "get a @2 clock s:1 top 1 value 5")
+    );
     Ok(())
 }
 
 #[test]
-fn sessions_one_after_another_on_keys_of_all_kinds(rt: HostRuntime) -> Result<(), Fail> {
-    let head =
-        "anna 1\nworkers 1\nfactor 1\nround 2\nkey hits max at 1\nkey open or\nkey tags set\nkey ages map\nkey name last\nkey seat last\nkey text versions\nkey idle map\n";
-    let mut script = String::from_str(rt.alloc(), head)?;
-    let mut report = String::from_str(rt.alloc(), "anna report 1\n")?;
-    for (line, answer) in SHOP {
-        push_line(&mut script, line)?;
-        push_line(&mut report, answer)?;
-    }
-    push_line(&mut script, "end")?;
-    report.push_str(SHOP_FINALS)?;
+fn a_chain_of_causes(rt: HostRuntime) -> Result<(), Fail> {
+    let script =
+        "anna 1\nworkers 3\nkey a max at 1 2 3\nkey b max at 2\nsession s causal\nput a 5\nsession t causal\nawait a s 1\nput b 6\nsession u causal\nawait b t 1\nget a\nend\n";
     let (status, text) = run_on(rt.alloc(), script.as_bytes())?;
     assert_eq!(rt; status, Status::Done);
-    assert_eq!(rt; text.as_slice(), report.as_bytes());
+    assert!(rt; has_line(&text, "await b t 1 @2 clock t:1 top 2 value 6 needs a{s:1}"));
+    assert!(rt;
+        has_line(&text, "get a @1 clock s:1 top 1 value 5 needs -")
+            || has_line(&text, "get a @2 clock s:1 top 1 value 5 needs -")
+            || has_line(&text, "get a @3 clock s:1 top 1 value 5 needs -")
+    );
+    Ok(())
+}
+
+#[test]
+fn what_never_comes_is_given_up(rt: HostRuntime) -> Result<(), Fail> {
+    let script =
+        "anna 1\nworkers 1\nkey a max\nsession s causal\nawait a t 3\nsession t eventual\nput a 5\nend\n";
+    let (status, text) = run_on(rt.alloc(), script.as_bytes())?;
+    assert_eq!(rt; status, Status::Done);
+    assert!(rt; has_line(&text, "await a t 3 gave up after 8 @1 clock t:1"));
+    Ok(())
+}
+
+/// A small shop, with keys of all kinds and sessions of all levels.
+const SHOP: &str =
+    "# a small shop\r\nanna 1\r\nworkers 4\r\nfactor 3\r\nround 2\r\nkey cart set\r\nkey hits map\r\nkey profile last\r\nkey stock max\r\nkey sale or\r\nkey notes versions\r\n\r\nsession ann eventual\r\nput cart milk\r\nput cart bread\r\nput hits home 3\r\nsession bob eventual\r\nput hits home 5\r\nput hits about 1\r\nget cart\r\nsession cid committed\r\nbegin\r\nput profile blue\r\nput stock 40\r\ncommit\r\nsession dee committed\r\nbegin\r\nput stock 90\r\nabort\r\nput sale on\r\nsession eve causal\r\nput notes draft\r\nawait stock cid 1\r\nget cart\r\nsession fay causal\r\nput notes final\r\nget notes\r\nend\r\n";
+
+/// The first answers of its report, which no schedule changes, and a text for each key: how often it stands
+/// in the final cells, which are three of each key.
+const SHOP_ANSWERS: &str =
+    "anna report 1\nsession ann eventual\nput cart 1 at 1\nput cart 2 at 2\nput hits 1 at 3\nsession bob eventual\n";
+
+const SHOP_FINALS: [(&str, &str); 6] = [
+    ("cart @", " clock ann:2 top 2 value {bread,milk}"),
+    ("hits @", " clock ann:1,bob:2 top 3 value {about=1,home=5}"),
+    ("profile @", " clock cid:1 top 1 value blue/1/cid/0"),
+    ("stock @", " clock cid:1 top 1 value 40"),
+    ("sale @", " clock dee:1 top 1 value on"),
+    (
+        "notes @",
+        " clock eve:1,fay:1 top 1 value draft(eve:1)|final(fay:1)",
+    ),
+];
+
+#[test]
+fn sessions_of_all_levels_on_keys_of_all_kinds(rt: HostRuntime) -> Result<(), Fail> {
+    let (status, text) = run_on(rt.alloc(), SHOP.as_bytes())?;
+    assert_eq!(rt; status, Status::Done);
+    assert!(rt; text.starts_with(SHOP_ANSWERS.as_bytes()));
+    for line in ["put profile held", "put stock held", "commit 2 at 1"] {
+        assert!(rt; has_line(&text, line), "{line}");
+    }
+    for (front, back) in SHOP_FINALS {
+        let finals = text
+            .split(|byte| *byte == b'\n')
+            .filter(|line| line.starts_with(front.as_bytes()) && line.ends_with(back.as_bytes()))
+            .count();
+        assert_eq!(rt; finals, 3, "{front}");
+    }
+    // The report is legal for its script.
+    let mut both = SHOP.as_bytes().to_vec(rt.alloc())?;
+    both.extend_from_slice(&text)?;
+    let (status, text) = ended(rt.alloc(), "check", &both)?;
+    assert_eq!(rt; status, Status::Done);
+    assert_eq!(rt; text.as_slice(), b"legal\n".as_slice());
+    Ok(())
+}
+
+// ---- large work
+
+#[test]
+fn large_work_is_the_same_each_time(rt: HostRuntime) -> Result<(), Fail> {
+    let (status, first) = ended(rt.alloc(), "big/7", b"")?;
+    assert_eq!(rt; status, Status::Done);
+    assert!(rt; first.starts_with(b"anna big 7\ncommands 3200\nputs "));
+    assert_eq!(rt; first.as_slice().split(|byte| *byte == b'\n').count(), 37);
+    let (status, again) = ended(rt.alloc(), "big/007", b"")?;
+    assert_eq!(rt; status, Status::Done);
+    assert_eq!(rt; again.as_slice(), first.as_slice());
     Ok(())
 }
 
@@ -262,7 +322,7 @@ fn as_many_bytes_as_there_may_be(rt: HostRuntime) -> Result<(), Fail> {
 fn is_refused(alloc: Global, words: &[String]) -> Result<bool, NoMemory> {
     let mut src = SureSource::new(FIRST.as_bytes().to_vec(alloc)?);
     let mut sink = SureSink::new(alloc, 1_000)?;
-    let status = run(alloc, words, &mut src, &mut sink);
+    let (status, _) = run(alloc, words, &mut src, &mut sink);
     let mut into = [0u8; 200];
     let left = src.take(&mut into);
     Ok(
@@ -285,6 +345,13 @@ fn words_of_no_accepted_form(rt: HostRuntime) -> Result<(), Fail> {
         "run ",
         "--run",
         "runs",
+        "big",
+        "big/",
+        "big/x",
+        "big/+7",
+        "big/7/7",
+        "big/18446744073709551616",
+        "big/000000000000000000007",
     ] {
         let words = words_of(rt.alloc(), line)?;
         assert!(rt; is_refused(rt.alloc(), &words)?, "{line:?}");
@@ -293,6 +360,13 @@ fn words_of_no_accepted_form(rt: HostRuntime) -> Result<(), Fail> {
 }
 
 // ---- faults outside
+
+/// Puts a line at the end of a text.
+fn push_line(text: &mut String, line: &str) -> Result<(), NoMemory> {
+    text.push_str(line)?;
+    text.push_str("\n")?;
+    Ok(())
+}
 
 /// Gives its bytes one at a time, and tells none of them.
 #[derive(Drop)]
@@ -331,7 +405,7 @@ fn each_read_fails_in_turn(rt: HostRuntime) -> Result<(), Fail> {
         let mut src = Slow(MemSource::new(input, [call].to_vec(rt.alloc())?));
         let mut sink = SureSink::new(rt.alloc(), 1_000)?;
         assert_eq!(rt;
-            run(rt.alloc(), &words, &mut src, &mut sink),
+            run(rt.alloc(), &words, &mut src, &mut sink).0,
             Status::ReadFault
         );
         assert_eq!(rt; sink.written(), b"read fault\n".as_slice());
@@ -339,7 +413,10 @@ fn each_read_fails_in_turn(rt: HostRuntime) -> Result<(), Fail> {
     let input = FIRST.as_bytes().to_vec(rt.alloc())?;
     let mut src = Slow(MemSource::new(input, Vec::new(rt.alloc())));
     let mut sink = SureSink::new(rt.alloc(), 1_000)?;
-    assert_eq!(rt; run(rt.alloc(), &words, &mut src, &mut sink), Status::Done);
+    assert_eq!(rt;
+        run(rt.alloc(), &words, &mut src, &mut sink).0,
+        Status::Done
+    );
     assert_eq!(rt; sink.written(), FIRST_REPORT.as_bytes());
     Ok(())
 }
@@ -352,7 +429,7 @@ fn each_write_fails_in_turn(rt: HostRuntime) -> Result<(), Fail> {
         let mut src = SureSource::new(FIRST.as_bytes().to_vec(rt.alloc())?);
         let mut sink = Narrow(MemSink::new(rt.alloc(), [call].to_vec(rt.alloc())?)?);
         assert_eq!(rt;
-            run(rt.alloc(), &words, &mut src, &mut sink),
+            run(rt.alloc(), &words, &mut src, &mut sink).0,
             Status::WriteFault
         );
         assert!(rt; FIRST_REPORT.as_bytes().starts_with(sink.0.written()));
@@ -372,7 +449,7 @@ fn faults_outside(rt: HostRuntime) -> Result<(), Fail> {
     ] {
         let mut src = SureSource::new(FIRST.as_bytes().to_vec(rt.alloc())?);
         let mut sink = MemSink::new(rt.alloc(), [failing].to_vec(rt.alloc())?)?;
-        assert_eq!(rt; run(rt.alloc(), &words, &mut src, &mut sink), status);
+        assert_eq!(rt; run(rt.alloc(), &words, &mut src, &mut sink).0, status);
         assert_eq!(rt; sink.written(), written.as_bytes());
     }
     Ok(())
@@ -404,7 +481,7 @@ fn a_long_report_is_written_in_blocks(rt: HostRuntime) -> Result<(), Fail> {
     ] {
         let mut src = SureSource::new(script.as_bytes().to_vec(rt.alloc())?);
         let mut sink = MemSink::new(rt.alloc(), [failing].to_vec(rt.alloc())?)?;
-        assert_eq!(rt; run(rt.alloc(), &words, &mut src, &mut sink), status);
+        assert_eq!(rt; run(rt.alloc(), &words, &mut src, &mut sink).0, status);
         assert_eq!(rt; sink.written().len(), length);
         assert!(rt; report.as_bytes().starts_with(sink.written()));
     }
@@ -420,7 +497,7 @@ fn the_first_read_fails(rt: HostRuntime) -> Result<(), Fail> {
     );
     let mut sink = MemSink::new(rt.alloc(), Vec::new(rt.alloc()))?;
     assert_eq!(rt;
-        run(rt.alloc(), &words, &mut src, &mut sink),
+        run(rt.alloc(), &words, &mut src, &mut sink).0,
         Status::ReadFault
     );
     assert_eq!(rt; sink.written(), b"read fault\n".as_slice());

@@ -5,11 +5,6 @@ use composed_value::{Kind, Payload};
 use session_known::{Level, Line};
 use std::test::Fail;
 
-const ALL: Built = Built {
-    workers: true,
-    levels: true,
-};
-
 /// The refusal of a text at a line with a code.
 fn refusal(line: u32, code: u8) -> Option<ScriptFault> {
     Some(ScriptFault::Refused { line, code })
@@ -143,40 +138,6 @@ fn refuses_the_first_line_at_fault(rt: HostRuntime) -> Result<(), Fail> {
     for (text, line, code) in cases {
         let fault = read_script(rt.alloc(), text.as_bytes()).err();
         assert_eq!(rt; fault, refusal(line, code), "{text:?}");
-    }
-    Ok(())
-}
-
-#[test]
-fn serves_the_forms_that_are_built(rt: HostRuntime) -> Result<(), Fail> {
-    let one = Built {
-        workers: false,
-        levels: true,
-    };
-    let eventual = Built {
-        workers: true,
-        levels: false,
-    };
-    let cases = [
-        ("anna 1\nworkers 02\nend", one, refusal(2, 2)),
-        ("anna 1\nworkers 9\nend", one, refusal(2, 8)),
-        ("anna 1\nworkers 1\nsession s causal\nend", one, None),
-        ("anna 1\nworkers 8\nsession s eventual\nend", eventual, None),
-        (
-            "anna 1\nworkers 1\nsession s causal\nend",
-            eventual,
-            refusal(3, 2),
-        ),
-        (
-            "anna 1\nworkers 1\nsession s committed\nend",
-            eventual,
-            refusal(3, 2),
-        ),
-        ("anna 1\nworkers 8\nsession s committed\nend", ALL, None),
-    ];
-    for (text, built, want) in cases {
-        let fault = read_script_built(rt.alloc(), text.as_bytes(), built).err();
-        assert_eq!(rt; fault, want, "{text:?}");
     }
     Ok(())
 }

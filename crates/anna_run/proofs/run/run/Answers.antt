@@ -1,55 +1,42 @@
-use Rattle.std.proofs.Common.{◌≡◌, Option, inl, inr, refl, sym, subst}
-use Rattle.placement.specs.Config.{placed}
-use Rattle.placement.proofs.ConfigLemmas.{placement_is}
-use Rattle.script_reader.proofs.ValidLaws.{script_is_valid}
-use Rattle.session_known.specs.Form.{HasForm, HasFormSomewhere}
-use Rattle.session_known.specs.declared.report.Report.{Report}
-use Rattle.session_known.specs.declared.script.Script.{Script}
-use Rattle.report_lines.specs.Text.{text_of}
-use Rattle.anna_run.specs.Outcomes.{IsOwed}
-use Rattle.anna_run.specs.Run.{SourceUse, HasServed, Owed, served_forms}
-use Rattle.anna_run.specs.declared.run.Outcome.{Outcome}
-use Rattle.anna_run.specs.declared.run.Outcome.TheVariants as outcomes
-use Rattle.anna_run.specs.declared.run.Status.TheVariants.{Done}
-use Rattle.anna_run.specs.declared.words.Command.{Command}
+use Rattle.std.proofs.Common.{inl, sym, subst, ◌∙◌}
+use Rattle.anna_run.proofs.RunLemmas.{can_sum_up, can_write, is_done, line_ends, lined, owed_as, owed_report, owed_summary, served, text_ends, worked}
+use Rattle.anna_run.specs.Run.{IsEnd}
+use Rattle.anna_run.specs.declared.run.OutcomeOver.TheVariants as outcomes
 use Rattle.anna_run.proofs.run.run.Goals as goal
-
--- a report that is served can be written
-can_write : (source : SourceUse) (script : Script) (report : Report) → HasServed source script report → HasFormSomewhere script report
-can_write source script report served =
-    let legal = served.is_legal in (
-      placed script.config,
-      script_is_valid served_forms served.bytes script served.is_script,
-      subst (λ table. HasForm script table report) (placement_is script.config legal.table legal.placed) legal.legal.form,
-    )
-
--- and is owed
-owed_report : (command : Option Command) (source : SourceUse) (script : Script) (report : Report) → IsOwed command source (outcomes.Report script report) → Owed command source Done (text_of script report)
-owed_report command source script report owed =
-    subst (λ (asked : Option Command). Owed asked source Done (text_of script report)) (sym owed.0) (record { script = script; report = report; served = owed.1; is_text = refl })
-
--- what is owed of an outcome that is a report
-owed_as : (command : Option Command) (source : SourceUse) (outcome : Outcome) (script : Script) (report : Report) → outcome ≡ outcomes.Report script report → IsOwed command source outcome → IsOwed command source (outcomes.Report script report)
-owed_as command source outcome script report same owed = subst (IsOwed command source) same owed
 
 pub write_report-requires : goal.write_report-requires
 write_report-requires g c =
-    let owed = owed_as _ _ _ c.in-Ok-Report.script c.in-Ok-Report.report c.in-Ok-Report.field-0-is c.in-Ok-Report.ensures.owed in
-    record { valid = can_write _ c.in-Ok-Report.script c.in-Ok-Report.report owed.1 }
+    let owed = owed_as _ _ _ _ (outcomes.Report c.in-Ok-Report.script c.in-Ok-Report.drained) c.in-Ok-Report.field-0-is c.in-Ok-Report.ensures.owed in
+    record { valid = can_write _ c.in-Ok-Report.script _ (served _ _ _ c.in-Ok-Report.script c.in-Ok-Report.drained owed).1 }
+
+pub write_summary-requires : goal.write_summary-requires
+write_summary-requires g c =
+    let its = c.in-Ok-Summary in
+    let owed = owed_as _ _ _ _ (outcomes.Summary its.number its.script its.drained) its.field-0-is its.ensures.owed in
+    let is = worked _ _ _ its.number its.script its.drained owed in
+    record { legal = can_sum_up its.number its.script _ is.1 is.2 }
 
 pub returns-in-Ok-Report-clause-ends : goal.returns-in-Ok-Report-clause-ends
 returns-in-Ok-Report-clause-ends g c =
-    let script = c.in-Ok-Report.script in
-    let report = c.in-Ok-Report.report in
-    let owed = owed_as _ _ _ script report c.in-Ok-Report.field-0-is c.in-Ok-Report.ensures.owed in
-    inr (Done, text_of script report, owed_report _ _ script report owed, inr (refl, c.in-Err-write_report.ensures.cause.1, c.in-Err-write_report.ensures.wrote))
+    let its = c.in-Ok-Report in
+    let owed = owed_as _ _ _ _ (outcomes.Report its.script its.drained) its.field-0-is its.ensures.owed in
+    subst (IsEnd _ _ _ _) (sym c.written-status.ensures)
+    (text_ends _ _ _ _ _ c.write_report.result (owed_report _ _ _ its.script its.drained owed) c.write_report.ensures.cause c.write_report.ensures.wrote)
 
-pub returns-in-Ok-clause-ends : goal.returns-in-Ok-clause-ends
-returns-in-Ok-clause-ends g c =
-    let script = c.in-Ok-Report.script in
-    let report = c.in-Ok-Report.report in
-    let owed = owed_as _ _ _ script report c.in-Ok-Report.field-0-is c.in-Ok-Report.ensures.owed in
-    inr (Done, text_of script report, owed_report _ _ script report owed, inl (refl, c.in-Ok.ensures.wrote))
+pub returns-in-Ok-Summary-clause-ends : goal.returns-in-Ok-Summary-clause-ends
+returns-in-Ok-Summary-clause-ends g c =
+    let its = c.in-Ok-Summary in
+    let owed = owed_as _ _ _ _ (outcomes.Summary its.number its.script its.drained) its.field-0-is its.ensures.owed in
+    subst (IsEnd _ _ _ _) (sym c.written-status-in-Ok-Summary.ensures)
+    (text_ends _ _ _ _ _ c.write_summary.result (owed_summary _ _ _ its.number its.script its.drained owed) c.write_summary.ensures.cause c.write_summary.ensures.wrote)
 
-pub returns-clause-ends : goal.returns-clause-ends
-returns-clause-ends g c = inl (refl, record { written = refl; faults = refl })
+pub returns-in-Ok-Summary-clause-works : goal.returns-in-Ok-Summary-clause-works
+returns-in-Ok-Summary-clause-works g c = λ number asked sure.
+    inl (c.written-status-in-Ok-Summary.ensures ∙ is_done _ _ c.write_summary.result c.write_summary.ensures.cause sure)
+
+pub returns-in-Ok-Line-clause-ends : goal.returns-in-Ok-Line-clause-ends
+returns-in-Ok-Line-clause-ends g c =
+    let its = c.in-Ok-Line in
+    let owed = owed_as _ _ _ _ (outcomes.Line its.status its.text) its.field-0-is its.ensures.owed in
+    let is = lined _ _ _ its.status its.text owed in
+    line_ends _ _ _ its.status _ _ _ c.deref.ensures.value is c.finish.ensures.wrote

@@ -1,0 +1,9 @@
+pub mod CellsLemmas
+pub mod DrawnLemmas
+pub mod LeastLemmas
+pub mod PutsLemmas
+pub mod SmallLemmas
+pub mod SpelledLemmas
+pub mod TextLemmas
+pub mod ValidLemmas
+pub mod WroteLemmas

@@ -1,2 +1,0 @@
-pub mod OneMap
-pub mod Serving

@@ -1,0 +1,4 @@
+pub mod AllEnds
+pub mod Dealt
+pub mod Fresh
+pub mod Parties

@@ -1,0 +1,94 @@
+//! All ends of a run's parties, of one making.
+ghost use Rattle.std.specs.Prelude.{◌≡◌, ℕ, ◌+◌, ◌≤◌, false, true, All, map, slice_get, IfOk, Some};
+ghost use Rattle.drain_turns.specs.Ready.{IsMate};
+ghost use Rattle.party_ends.specs.AllEnds.{AreAllEnds};
+ghost use Rattle.party_ends.specs.Dealt.{AreNew, IsEmptyBoxOf, IsEmptyWeakBoxOf};
+ghost use Rattle.placement.specs.Config.{IsOneOf};
+
+use crate::assembling::{session_ends, worker_ends};
+use crate::making::{make_all, make_all_weak};
+use crate::settling::{settle_owns, spare_boxes};
+use crate::{MakesGossip, MakesMail};
+use lattice_laws::NoMemory;
+use mail_contract::{GossipRx, Rx, Tx};
+use std::alloc::Global;
+use store_msg::{Batch, Reply, Request, SessionEndsOver, WorkerEndsOver};
+
+/// So many boxes, and so many rows of their senders, maybe none.
+fn make_rows<M, S: Tx<M>, Q: Rx<M, From = S>, P: MakesMail<M, Mailbox = Q>>(
+    post: &P,
+    alloc: Global,
+    boxes: u16,
+    rows: u16,
+) -> Result<(Vec<Vec<S>>, Vec<Q>), NoMemory>
+    ensures new { IfOk result (λ made. AreNew S.key S.number S.sent
+        Q.pairs Q.key Q.about false rows boxes
+        (map (λ row. row.items) made.0.items) made.1.items) }
+    ensures empty { IfOk result (λ made. All (IsEmptyBoxOf (IsOneOf rows)
+        Q.key Q.senders Q.received Q.about) made.1.items) }
+{
+    if rows == 0 {
+        let spare = spare_boxes(post, alloc, boxes)?;
+        return Ok((Vec::new(alloc), spare));
+    }
+    make_all(post, alloc, boxes, rows)
+}
+
+/// So many weak boxes, each with a row of senders to the others.
+fn make_mates<M, O: Tx<M>, G: GossipRx<M, From = O>, P: MakesGossip<M, Mailbox = G>>(
+    post: &P,
+    alloc: Global,
+    mates: u16,
+) -> Result<(Vec<Vec<O>>, Vec<G>), NoMemory>
+    requires { 1 ≤ mates }
+    ensures new { IfOk result (λ made. AreNew O.key O.number O.sent
+        G.pairs G.key G.about true mates mates
+        (map (λ row. row.items) made.0.items) made.1.items) }
+    ensures empty { IfOk result (λ made. (place : ℕ) (mailbox : G)
+        → slice_get made.1.items place ≡ Some mailbox
+        → IsEmptyWeakBoxOf (IsMate mates (place + 1)) G.key G.senders G.got G.about mailbox) }
+{
+    let (rows, boxes) = make_all_weak(post, alloc, mates, mates)?;
+    let mut rows = rows;
+    let mut boxes = boxes;
+    settle_owns(&mut rows, &mut boxes);
+    Ok((rows, boxes))
+}
+
+/// The ends of so many workers, and those of so many sessions, both ascending.
+///
+/// A worker has a box of requests with a sender for each session, and a box of gossip with a sender for each
+/// other worker, a session a box of replies with a sender for each worker. The senders of a party are
+/// ascending by whom they send to, and at each box they have the party's number, from 1. A sender that is
+/// for nobody is taken in by its box at once.
+pub fn all_ends<
+    S: Tx<Request>,
+    T: Tx<Reply>,
+    O: Tx<Batch>,
+    Q: Rx<Request, From = S>,
+    G: GossipRx<Batch, From = O>,
+    R: Rx<Reply, From = T>,
+    P: MakesMail<Request, Mailbox = Q>
+        + MakesMail<Reply, Mailbox = R>
+        + MakesGossip<Batch, Mailbox = G>,
+>(
+    post: &P,
+    alloc: Global,
+    workers: u16,
+    sessions: u16,
+) -> Result<(Vec<WorkerEndsOver<Q, T, O, G>>, Vec<SessionEndsOver<S, R>>), NoMemory>
+    requires { 1 ≤ workers }
+    ensures { IfOk result (λ ends. AreAllEnds
+        S.key S.number S.sent T.key T.number T.sent O.key O.number O.sent
+        Q.key Q.pairs Q.senders Q.received Q.about
+        G.key G.pairs G.senders G.got G.about
+        R.key R.pairs R.senders R.received R.about
+        workers sessions ends.0.items ends.1.items) }
+{
+    let (asks, requests) = make_rows::<Request, S, Q, P>(post, alloc, workers, sessions)?;
+    let (answers, replies) = make_all::<Reply, T, R, P>(post, alloc, sessions, workers)?;
+    let (tells, gossip) = make_mates(post, alloc, workers)?;
+    let its_workers = worker_ends(alloc, requests, answers, tells, gossip)?;
+    let its_sessions = session_ends(alloc, asks, replies)?;
+    Ok((its_workers, its_sessions))
+}

@@ -1,0 +1,43 @@
+//! How a box and its senders are made.
+ghost use Rattle.std.specs.Prelude.{◌≤◌, IfOk};
+ghost use Rattle.party_ends.specs.Fresh.{IsFresh, IsFreshWeak};
+
+use lattice_laws::NoMemory;
+use mail_contract::{GossipRx, Rx};
+use std::alloc::Global;
+
+/// Makes boxes of one kind of mail.
+pub trait MakesMail<M> {
+    /// The end of a receiver.
+    type Mailbox: Rx<M>;
+
+    /// A box and so many senders, at least one, which are numbered from 1 in the order of the vector.
+    fn make(
+        &self,
+        alloc: Global,
+        senders: u16,
+    ) -> Result<(Vec<<Self::Mailbox as Rx<M>>::From>, Self::Mailbox), NoMemory>
+        requires { 1 ≤ senders }
+        ensures { IfOk result (λ ends. IsFresh
+            Self.Mailbox.From.number Self.Mailbox.From.sent Self.Mailbox.From.key
+            Self.Mailbox.key Self.Mailbox.pairs Self.Mailbox.senders
+            Self.Mailbox.received Self.Mailbox.about senders ends.0.items ends.1) };
+}
+
+/// Makes weak boxes of one kind of mail.
+pub trait MakesGossip<M> {
+    /// The weak end of a receiver.
+    type Mailbox: GossipRx<M>;
+
+    /// A weak box and so many senders, at least one, which are numbered from 1 in the order of the vector.
+    fn make_weak(
+        &self,
+        alloc: Global,
+        senders: u16,
+    ) -> Result<(Vec<<Self::Mailbox as GossipRx<M>>::From>, Self::Mailbox), NoMemory>
+        requires { 1 ≤ senders }
+        ensures { IfOk result (λ ends. IsFreshWeak
+            Self.Mailbox.From.number Self.Mailbox.From.sent Self.Mailbox.From.key
+            Self.Mailbox.key Self.Mailbox.pairs Self.Mailbox.senders
+            Self.Mailbox.got Self.Mailbox.about senders ends.0.items ends.1) };
+}

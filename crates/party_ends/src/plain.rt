@@ -1,0 +1,45 @@
+//! Plain mail is made.
+use crate::{MakesGossip, MakesMail};
+use lattice_laws::NoMemory;
+use mail_contract::{PlainRx, PlainTx, plain};
+use std::alloc::Global;
+use store_msg::{Batch, Reply, Request};
+
+/// Makes boxes of plain mail, for one thread.
+pub struct PlainMaker;
+
+impl MakesMail<Request> for PlainMaker {
+    type Mailbox = PlainRx<Request>;
+
+    fn make(
+        &self,
+        alloc: Global,
+        senders: u16,
+    ) -> Result<(Vec<PlainTx<Request>>, PlainRx<Request>), NoMemory> {
+        plain(alloc, senders)
+    }
+}
+
+impl MakesMail<Reply> for PlainMaker {
+    type Mailbox = PlainRx<Reply>;
+
+    fn make(
+        &self,
+        alloc: Global,
+        senders: u16,
+    ) -> Result<(Vec<PlainTx<Reply>>, PlainRx<Reply>), NoMemory> {
+        plain(alloc, senders)
+    }
+}
+
+impl MakesGossip<Batch> for PlainMaker {
+    type Mailbox = PlainRx<Batch>;
+
+    fn make_weak(
+        &self,
+        alloc: Global,
+        senders: u16,
+    ) -> Result<(Vec<PlainTx<Batch>>, PlainRx<Batch>), NoMemory> {
+        plain(alloc, senders)
+    }
+}

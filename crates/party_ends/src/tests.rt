@@ -1,0 +1,158 @@
+//! All ends, and all parties, over plain mail.
+ghost use Rattle.std.specs.Prelude.{◌≡◌, ◌∷◌, [], All, length, IfOk};
+ghost use Rattle.placement.specs.Config.{IsValidConfig, placed};
+ghost use Rattle.placement.specs.Name.{IsName};
+ghost use Rattle.session_known.specs.Script.{IsValidScript};
+
+use super::*;
+use composed_value::Kind;
+use lattice_laws::Items;
+use mail_contract::{GossipRx, PlainRx, PlainTx, Rx, Tx};
+use party_run::{PartiesOver, SessionOver};
+use placement::{Config, KeyPlace, Name};
+use session_known::{Level, Line, Script, SessionPlan};
+use session_proxy::Progress;
+use std::alloc::Global;
+use std::test::Fail;
+use store_msg::{Batch, Reply, Request, SessionEndsOver, WorkerEndsOver};
+use worker_core::Did;
+
+type Workers = Vec<
+    WorkerEndsOver<PlainRx<Request>, PlainTx<Reply>, PlainTx<Batch>, PlainRx<Batch>>,
+>;
+
+type Sessions = Vec<SessionEndsOver<PlainTx<Request>, PlainRx<Reply>>>;
+
+/// What was made goes where it belongs: each party's senders have its number, and there is one to each box
+/// that it sends to.
+#[test]
+fn three_workers_and_two_sessions(rt: HostRuntime) -> Result<(), Fail> {
+    let (workers, sessions): (Workers, Sessions) = all_ends(&PlainMaker, rt.alloc(), 3, 2)?;
+    assert_eq!(rt; workers.len(), 3);
+    assert_eq!(rt; sessions.len(), 2);
+    for (place, worker) in workers.iter().enumerate() {
+        assert_eq!(rt; worker.replies.len(), 2);
+        assert_eq!(rt; worker.gossip_out.len(), 2);
+        for sender in worker.replies.iter() {
+            assert_eq!(rt; sender.sender() as usize, place + 1);
+        }
+        for sender in worker.gossip_out.iter() {
+            assert_eq!(rt; sender.sender() as usize, place + 1);
+        }
+    }
+    for (place, session) in sessions.iter().enumerate() {
+        assert_eq!(rt; session.requests.len(), 3);
+        for sender in session.requests.iter() {
+            assert_eq!(rt; sender.sender() as usize, place + 1);
+        }
+    }
+    Ok(())
+}
+
+/// Without sessions the boxes of requests are there, and find nothing.
+#[test]
+fn no_session(rt: HostRuntime) -> Result<(), Fail> {
+    let (workers, sessions): (Workers, Sessions) = all_ends(&PlainMaker, rt.alloc(), 1, 0)?;
+    assert!(rt; sessions.is_empty());
+    let mut workers = workers;
+    let worker = &mut workers[0];
+    assert!(rt; worker.replies.is_empty());
+    assert!(rt; worker.gossip_out.is_empty());
+    assert!(rt; Rx::take(&mut worker.requests)?.is_none());
+    assert!(rt; GossipRx::take(&mut worker.gossip_in)?.is_none());
+    Ok(())
+}
+
+/// Two workers, and a key that lives at both.
+fn one_key(alloc: Global) -> Result<Config, Fail>
+    ensures valid { IfOk result IsValidConfig }
+    ensures one { IfOk result (λ config. length config.keys ≡ 1) }
+    ensures named { IfOk result (λ config. All (λ key. IsName key.name) config.keys) }
+{
+    let key = KeyPlace {
+        name: Name::of(b"k")?,
+        pins: Items::new(vec![in alloc; 1, 2]?),
+    };
+    Ok(Config {
+        workers: 2,
+        factor: 1,
+        keys: Items::new(vec![in alloc; key]?),
+    })
+}
+
+/// A session of this name, and its lines.
+fn plan(name: &[u8], level: Level, lines: Vec<Line>) -> Result<SessionPlan, Fail>
+    ensures name { IfOk result (λ plan. plan.name ≡ name.now) }
+    ensures named { IfOk result (λ plan. IsName plan.name) }
+    ensures level { IfOk result (λ plan. plan.level ≡ level) }
+    ensures lines { IfOk result (λ plan. plan.lines ≡ lines.items) }
+{
+    Ok(SessionPlan {
+        name: Name::of(name)?,
+        level,
+        lines: Items::new(lines),
+    })
+}
+
+/// A session of each level: one gets the key, one begins a transaction and ends it, and one awaits a put.
+fn small_script(alloc: Global) -> Result<Script, Fail>
+    ensures { IfOk result (λ script. IsValidScript script (placed script.config)) }
+{
+    let get = Line::Get {
+        key: 1,
+        worker: None,
+    };
+    let awaited = Line::Await {
+        key: 1,
+        session: 1,
+        count: 1,
+    };
+    let eventual = plan(b"e", Level::Eventual, vec![in alloc; get]?)?;
+    let committed = plan(
+        b"c",
+        Level::Committed,
+        vec![in alloc; Line::Begin, Line::Commit]?,
+    )?;
+    let causal = plan(b"a", Level::Causal, vec![in alloc; awaited]?)?;
+    Ok(Script {
+        config: one_key(alloc)?,
+        round: 4,
+        kinds: Items::new(vec![in alloc; Kind::Max]?),
+        sessions: Items::new(vec![in alloc; eventual, committed, causal]?),
+    })
+}
+
+type Parties = PartiesOver<
+    PlainRx<Request>,
+    PlainTx<Reply>,
+    PlainTx<Batch>,
+    PlainRx<Batch>,
+    PlainTx<Request>,
+    PlainRx<Reply>,
+>;
+
+/// The parties of a script with two workers and a session of each level: no line is answered, each session
+/// has its own first step to make, and no worker has anything to do.
+#[test]
+fn parties_of_two_workers_and_three_levels(rt: HostRuntime) -> Result<(), Fail> {
+    let script = small_script(rt.alloc())?;
+    let parties: Parties = new_parties(&PlainMaker, rt.alloc(), &script)?;
+    let PartiesOver { workers, sessions } = parties;
+    let mut workers = workers;
+    let mut sessions = sessions;
+    assert_eq!(rt; workers.len(), 2);
+    assert_eq!(rt; sessions.len(), 3);
+    assert!(rt; matches!(&sessions[0], SessionOver::Eventual(_)));
+    assert!(rt; matches!(&sessions[1], SessionOver::Committed(_)));
+    assert!(rt; matches!(&sessions[2], SessionOver::Causal(_)));
+    for session in sessions.iter_mut() {
+        assert!(rt; session.answers().is_empty());
+        assert_eq!(rt; session.poll()?, Progress::Moved);
+    }
+    assert_eq!(rt; sessions[0].answers().len(), 0);
+    assert_eq!(rt; sessions[1].answers().len(), 1);
+    for worker in workers.iter_mut() {
+        assert_eq!(rt; worker.turn()?, Did::Idle);
+    }
+    Ok(())
+}

@@ -1,0 +1,7 @@
+use Rattle.party_steps.proofs.TurnedLemmas.{HasTurned}
+use Rattle.party_steps.proofs.stepping.turn_often.Given as goal
+
+abbrev pub invariant-loop : goal.invariant-loop
+invariant-loop g l =
+    HasTurned g.Q.Rx.key g.T.Tx.key g.T.Tx.number g.O.Tx.key g.O.Tx.number g.G.GossipRx.key g.Q.Rx.keeps.complete g.Q.Rx.senders g.Q.Rx.received g.Q.Rx.about g.T.Tx.sent
+    g.G.GossipRx.keeps.complete g.G.GossipRx.senders g.G.GossipRx.got g.G.GossipRx.about l.fn.worker l.worker

@@ -1,0 +1,19 @@
+//! What the parties of a run do, one at a time: a worker takes turns, a session is polled.
+//!
+//! [`turn_often`] turns a worker until it rests, [`poll_often`] polls a session until it waits. [`turn_worker`]
+//! and [`poll_session`] do so with one of the parties of a run, which goes on: `AreRunning`, of
+//! `party_run`, is kept. [`finish_run`] takes the answers and the ends of sessions of which every line is
+//! answered, and then the parties are such as a drain takes over.
+//!
+//! The definitions are in `specs/Polling.antt`, what a session keeps that is polled, and `specs/Fronts.antt`,
+//! what a box of requests keeps of each sender by itself. The crate stands on `party_run`, and on
+//! `drain_ledger` for what a drain takes over.
+#![tactic(auto)]
+
+mod finishing;
+mod stepping;
+mod steps;
+
+pub use finishing::finish_run;
+pub use stepping::{poll_often, turn_often};
+pub use steps::{poll_session, turn_worker};

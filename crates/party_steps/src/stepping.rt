@@ -1,0 +1,56 @@
+//! One party takes several steps.
+ghost use Rattle.std.specs.Prelude.{◌≡◌, IfOk, IsTrue};
+ghost use Rattle.drain_turns.specs.Turning.{HasGoneOn};
+ghost use Rattle.mail_contract.specs.Standing.{AllStand};
+ghost use Rattle.party_run.specs.Session.{proxy_of};
+ghost use Rattle.party_steps.specs.Fronts.{FrontsStay};
+ghost use Rattle.party_steps.specs.Polling.{HasPolled, IsAllAnswered};
+
+use lattice_laws::NoMemory;
+use mail_contract::{GossipRx, Rx, Tx};
+use party_run::SessionOver;
+use session_proxy::Progress;
+use store_msg::{Batch, Reply, Request};
+use worker_core::{Did, WorkerOver};
+
+/// Turns a worker until it answers Idle or Blocked, at most so many times.
+pub fn turn_often<T: Tx<Reply>, O: Tx<Batch>, Q: Rx<Request>, G: GossipRx<Batch, From = O>>(
+    worker: &mut WorkerOver<Q, T, O, G>,
+    most: u32,
+) -> Result<(), NoMemory>
+    ensures gone_on { HasGoneOn Q.key T.key T.number O.key O.number G.key
+        Q.keeps.complete Q.senders Q.received Q.about T.sent
+        G.keeps.complete G.senders G.got G.about worker.old worker.new }
+    ensures gossip_stands { AllStand (G.about worker.old.ends.gossip_in)
+        (G.about worker.new.ends.gossip_in) }
+    ensures fronts { FrontsStay Q.keeps.complete
+        (Q.received worker.old.ends.requests) (Q.about worker.old.ends.requests)
+        (Q.received worker.new.ends.requests) (Q.about worker.new.ends.requests) }
+{
+    for _ in 0..most {
+        match worker.turn()? {
+            Did::Idle | Did::Blocked => return Ok(()),
+            Did::Request | Did::Gossip | Did::Round => {}
+        }
+    }
+    Ok(())
+}
+
+/// Polls a session until it answers NotYet, Rest or Ended, at most so many times. Tells whether it has ended.
+pub fn poll_often<S: Tx<Request>, R: Rx<Reply>>(
+    session: &mut SessionOver<S, R>,
+    most: u32,
+) -> Result<bool, NoMemory>
+    ensures polled { HasPolled S.key S.number S.sent R.key R.senders R.received R.about
+        (proxy_of session.old) (proxy_of session.new) }
+    ensures ended { IfOk result (λ ended. IsTrue ended → IsAllAnswered (proxy_of session.new)) }
+{
+    for _ in 0..most {
+        match session.poll()? {
+            Progress::Ended => return Ok(true),
+            Progress::NotYet | Progress::Rest => return Ok(false),
+            Progress::Moved => {}
+        }
+    }
+    Ok(false)
+}

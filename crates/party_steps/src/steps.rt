@@ -1,0 +1,61 @@
+//! One of the parties of a run takes several steps.
+ghost use Rattle.std.specs.Prelude.{◌≡◌, ◌≢◌, ◌<◌, ℕ, IfOk, IsTrue, length, map, slice_get, Some};
+ghost use Rattle.party_run.specs.Running.{GoesOn};
+ghost use Rattle.party_run.specs.Session.{proxy_of};
+ghost use Rattle.party_steps.specs.Polling.{IsAllAnswered};
+ghost use Rattle.session_proxy.specs.State.{PlainProxy};
+
+use crate::{poll_often, turn_often};
+use lattice_laws::NoMemory;
+use mail_contract::{GossipRx, Rx, Tx};
+use party_run::PartiesOver;
+use store_msg::{Batch, Reply, Request};
+
+/// Turns the worker at a place until it answers Idle or Blocked, at most so many times.
+pub fn turn_worker<
+    S: Tx<Request>,
+    T: Tx<Reply>,
+    O: Tx<Batch>,
+    Q: Rx<Request, From = S>,
+    G: GossipRx<Batch, From = O>,
+    R: Rx<Reply, From = T>,
+>(parties: &mut PartiesOver<Q, T, O, G, S, R>, place: usize, most: u32) -> Result<(), NoMemory>
+    requires { place < length parties.old.workers.items }
+    ensures sessions { parties.new.sessions ≡ parties.old.sessions }
+    ensures goes_on { GoesOn S.key S.number S.sent T.key T.number O.key O.number
+        Q.key Q.pairs Q.senders Q.received Q.about
+        G.key G.pairs G.senders G.got G.about
+        R.key R.pairs R.senders R.received R.about
+        parties.old.workers.items parties.new.workers.items
+        (map proxy_of parties.old.sessions.items) (map proxy_of parties.new.sessions.items) }
+{
+    turn_often(&mut parties.workers[place], most)
+}
+
+/// Polls the session at a place until it answers NotYet, Rest or Ended, at most so many times. Tells whether
+/// it has ended.
+pub fn poll_session<
+    S: Tx<Request>,
+    T: Tx<Reply>,
+    O: Tx<Batch>,
+    Q: Rx<Request, From = S>,
+    G: GossipRx<Batch, From = O>,
+    R: Rx<Reply, From = T>,
+>(parties: &mut PartiesOver<Q, T, O, G, S, R>, place: usize, most: u32) -> Result<bool, NoMemory>
+    requires { place < length parties.old.sessions.items }
+    ensures workers { parties.new.workers ≡ parties.old.workers }
+    ensures others { (other : ℕ) → other ≢ place
+        → slice_get (map proxy_of parties.new.sessions.items) other
+        ≡ slice_get (map proxy_of parties.old.sessions.items) other }
+    ensures ended { IfOk result (λ ended. IsTrue ended → (proxy : PlainProxy S R)
+        → slice_get (map proxy_of parties.new.sessions.items) place ≡ Some proxy
+        → IsAllAnswered proxy) }
+    ensures goes_on { GoesOn S.key S.number S.sent T.key T.number O.key O.number
+        Q.key Q.pairs Q.senders Q.received Q.about
+        G.key G.pairs G.senders G.got G.about
+        R.key R.pairs R.senders R.received R.about
+        parties.old.workers.items parties.new.workers.items
+        (map proxy_of parties.old.sessions.items) (map proxy_of parties.new.sessions.items) }
+{
+    poll_often(&mut parties.sessions[place], most)
+}

@@ -1,0 +1,5 @@
+mod CarriedLemmas
+mod EndedLemmas
+mod GoesOnLemmas
+mod ParcelLemmas
+mod PlainEndsLemmas

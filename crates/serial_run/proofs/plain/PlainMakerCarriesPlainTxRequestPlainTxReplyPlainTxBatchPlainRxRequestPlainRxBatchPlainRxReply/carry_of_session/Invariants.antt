@@ -1,0 +1,9 @@
+use Rattle.std.proofs.Common.{◌≡◌}
+use Rattle.serial_run.specs.contracts.plain.PlainPartiesByParcel.TheImpl as by_parcel
+use Rattle.serial_run.proofs.plain.PlainMakerCarriesPlainTxRequestPlainTxReplyPlainTxBatchPlainRxRequestPlainRxBatchPlainRxReply.carry_of_session.Given as goal
+
+abbrev pub invariant-loop-worker : goal.invariant-loop-worker
+invariant-loop-worker l = record {
+  courses : by_parcel.ghosts.courses l.parties ≡ by_parcel.ghosts.courses l.fn.parties;
+  goes_on : by_parcel.ghosts.go_on l.fn.parties l.parties;
+}

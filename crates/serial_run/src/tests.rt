@@ -1,0 +1,31 @@
+//! Runs over plain mail, each judged.
+use super::*;
+use anna_check::{Verdict, check};
+use lattice_laws::NoMemory;
+use script_reader::read_script;
+use std::test::Fail;
+
+/// Two workers that both hold two keys, and two sessions of each level, which put and get what the other
+/// one does.
+const LEVELS: [&str; 3] = [
+    "anna 1\nworkers 2\nround 1\nkey a set at 1 2\nkey b max at 2 1\nsession s eventual\nput a x\nget a\nput b 4\nget b 1\nget a 2\nsession t eventual\nput b 7\nget b\nput a y\nget a\nget b 2\nend\n",
+    "anna 1\nworkers 2\nround 1\nkey a set at 1 2\nkey b max at 2 1\nsession s committed\nbegin\nput a x\nput b 4\nget a\ncommit\nget a 2\nbegin\nput a z\nabort\nget b\nsession t committed\nput b 7\nbegin\nput a y\ncommit\nget b 2\nget a\nend\n",
+    "anna 1\nworkers 2\nround 1\nkey a set at 1 2\nkey b max at 2 1\nsession s causal\nput a x\nawait b t 1\nput a z\nget b\nsession t causal\nawait a s 1\nput b 7\nget a\nawait a s 3\nend\n",
+];
+
+#[test]
+fn two_workers_and_two_sessions_of_each_level(rt: HostRuntime) -> Result<(), Fail> {
+    for text in LEVELS {
+        let Ok(script) = read_script(rt.alloc(), text.as_bytes()) else {
+            return Err(NoMemory.into());
+        };
+        let drained = serve(rt.alloc(), &script)?;
+        assert_eq!(rt; drained.workers.len(), 2);
+        assert_eq!(rt; drained.replies.len(), 2);
+        assert_eq!(rt;
+            check(rt.alloc(), &script, &drained.report)?,
+            Verdict::Legal
+        );
+    }
+    Ok(())
+}
