@@ -211,6 +211,13 @@ module _ {S T O Q G R SK TK OK QK GK RK : Type 0}
         let plan = there_is script.sessions place (let within = slice_get_within session_ends place item there in omega (arith, within, ends.sessions_are, as_many)) in
         ap (λ (one : PlainProxy S R). one.ends) ((sessions_new.each place item its there here).proxy_is plan.0 plan.1)))
         (λ place worker there.
-            let its = there_too worker_ends workers place worker workers_new.long there in
-            ap (λ (one : PlainWorker Q T O G). one.state.me) (workers_new.each place its.0 worker its.1 there));
+        let its = there_too worker_ends workers place worker workers_new.long there in
+        ap (λ (one : PlainWorker Q T O G). one.state.me) (workers_new.each place its.0 worker its.1 there));
   }
+
+-- new workers keep no message
+pub none_kept : {Q T O G : Type 0} (script : Script) (table : List (List ℕ)) (ends : List (WorkerEndsOver Q T O G)) (workers : List (PlainWorker Q T O G))
+    → AreMadeOf (IsNewWorker script table) ends workers → All (λ worker. worker.state.kept ≡ None) workers
+none_kept script table ends workers made = all_there (λ worker. worker.state.kept ≡ None) workers (λ place worker there.
+    let its = there_too ends workers place worker made.long there in
+    ap (λ one. one.state.kept) (made.each place its.0 worker its.1 there))

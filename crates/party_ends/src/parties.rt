@@ -1,5 +1,5 @@
 //! All parties of a run, before their first step.
-ghost use Rattle.std.specs.Prelude.{◌≡◌, ◌<◌, All, length, map, IfOk};
+ghost use Rattle.std.specs.Prelude.{◌≡◌, ◌<◌, All, length, map, IfOk, None};
 ghost use Rattle.party_ends.specs.Parties.{AreMadeOf, AreUnusedOfSession, AreUnusedOfWorker, IsNewSession, IsNewWorker};
 ghost use Rattle.party_run.specs.Running.{AreRunning};
 ghost use Rattle.party_run.specs.Session.{proxy_of};
@@ -156,12 +156,14 @@ pub fn new_parties<
         + MakesGossip<Batch, Mailbox = G>,
 >(post: &P, alloc: Global, script: &Script) -> Result<PartiesOver<Q, T, O, G, S, R>, NoMemory>
     requires { IsValidScript script.now (placed script.now.config) }
-    ensures { IfOk result (λ parties. AreRunning
+    ensures running { IfOk result (λ parties. AreRunning
         S.key S.number S.sent T.key T.number O.key O.number
         Q.key Q.pairs Q.senders Q.received Q.about
         G.key G.pairs G.senders G.got G.about
         R.key R.pairs R.senders R.received R.about
         script.now parties.workers.items (map proxy_of parties.sessions.items)) }
+    ensures none_kept { IfOk result (λ parties.
+        All (λ worker. worker.state.kept ≡ None) parties.workers.items) }
 {
     let placement = Placement::build(alloc, &script.config)?;
     let many = script.sessions.as_slice().len() as u16;

@@ -2,14 +2,19 @@
 use Rattle.std.specs.Prelude.{◌≡◌, ℕ, ◌<◌, List, length, map, slice_get, slice_index_or, slice_set, Some, Result, Ok, Err, IfOk}
 use Rattle.std.proofs.Common.{◌∙◌, sym, ap, subst, inl, inr}
 use Rattle.std.proofs.lemmas.Bool.{cases_eq}
+use Rattle.std.proofs.lemmas.List.{length-map}
 use Rattle.std.proofs.lemmas.Option.{same_Some}
 use Rattle.mail_contract.proofs.PostsLemmas.{stays_elsewhere}
-use Rattle.drain_steps.proofs.ItemsLemmas.{mapped, of_mapped}
+use Rattle.drain_steps.proofs.ItemsLemmas.{long_alike, mapped, of_mapped}
 use Rattle.drain_steps.proofs.PlacesLemmas.{at_place, now_there}
 
 -- at one place stands one item
 pub same_there : {X : Type 0} (xs : List X) (place : ℕ) (was is : X) → slice_get xs place ≡ Some was → slice_get xs place ≡ Some is → is ≡ was
 same_there xs place was is there also = same_Some is was (sym also ∙ there)
+
+-- where what is read of the items stays, as many are made of them
+pub as_many_made : {X Y V : Type 0} (f : X → Y) (g : X → V) (xs xs_now : List X) → map f xs_now ≡ map f xs → length (map g xs_now) ≡ length (map g xs)
+as_many_made f g xs xs_now same = length-map xs_now g ∙ long_alike f xs xs_now same ∙ sym (length-map xs g)
 
 -- where what is read of the items at each place stays, it stays of what was made of them
 pub made_stays : {X Y V : Type 0} (f : X → Y) (g : Y → V) (xs xs_now : List X)
@@ -42,6 +47,16 @@ module _ {X Y : Type 0} where
       let later = of_mapped f (slice_set items place there) at is now in
       let done = one_changed (λ x y. Does (f x) (f y)) (λ x. still (f x)) items place here there within here_is does at earlier.0 later.0 earlier.1 later.1 in
       subst (λ y. Does y is) earlier.2 (subst (Does (f earlier.0)) later.2 done)
+
+  -- What holds of what a function makes of the old one and of the new one holds of what stands at the place among all that it makes.
+  pub made_at_place : (Holds : Y → Y → Type 0) → (f : X → Y) (items : List X) (place : ℕ) (here there : X)
+      → place < length items → here ≡ slice_index_or items place here → Holds (f here) (f there)
+      → (was is : Y) → slice_get (map f items) place ≡ Some was → slice_get (map f (slice_set items place there)) place ≡ Some is → Holds was is
+  made_at_place Holds f items place here there within here_is holds was is before now =
+      let earlier = of_mapped f items place was before in
+      let later = of_mapped f (slice_set items place there) place is now in
+      let of_both = at_place (λ x y. Holds (f x) (f y)) items place here there within here_is holds earlier.0 later.0 earlier.1 later.1 in
+      subst (λ y. Holds y is) earlier.2 (subst (Holds (f earlier.0)) later.2 of_both)
 
   -- what a function makes of the new one stands at its place
   pub now_made : (f : X → Y) (items : List X) (place : ℕ) (there : X) → place < length items → (y : Y) → slice_get (map f (slice_set items place there)) place ≡ Some y → f there ≡ y

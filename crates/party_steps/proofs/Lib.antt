@@ -1,7 +1,9 @@
 mod ChangedLemmas
 mod FinishedLemmas
+mod MovedLemmas
 mod PolledLemmas
 mod PolledRunLemmas
+mod ServedLemmas
 mod TurnedLemmas
 mod TurnedRunLemmas
 mod UnusedLemmas

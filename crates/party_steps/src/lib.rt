@@ -5,9 +5,9 @@
 //! `party_run`, is kept. [`finish_run`] takes the answers and the ends of sessions of which every line is
 //! answered, and then the parties are such as a drain takes over.
 //!
-//! The definitions are in `specs/Polling.antt`, what a session keeps that is polled, and `specs/Fronts.antt`,
-//! what a box of requests keeps of each sender by itself. The crate stands on `party_run`, and on
-//! `drain_ledger` for what a drain takes over.
+//! The definitions: `specs/Polling.antt`, what a session keeps that is polled; `specs/Fronts.antt`, what a box
+//! of requests keeps of each sender by itself; `specs/Progress.antt`, how far steps bring a party. The crate
+//! stands on `party_run`, on `run_measure`, and on `drain_ledger` for what a drain takes over.
 #![tactic(auto)]
 
 mod finishing;
@@ -15,5 +15,5 @@ mod stepping;
 mod steps;
 
 pub use finishing::finish_run;
-pub use stepping::{poll_often, turn_often};
+pub use stepping::{Polled, poll_often, turn_often};
 pub use steps::{poll_session, turn_worker};

@@ -1,10 +1,15 @@
 //! One party takes several steps.
-ghost use Rattle.std.specs.Prelude.{◌≡◌, IfOk, IsTrue};
+ghost use Rattle.std.specs.Prelude.{◌≡◌, IfOk, IsTrue, None, OnOk};
 ghost use Rattle.drain_turns.specs.Turning.{HasGoneOn};
 ghost use Rattle.mail_contract.specs.Standing.{AllStand};
 ghost use Rattle.party_run.specs.Session.{proxy_of};
 ghost use Rattle.party_steps.specs.Fronts.{FrontsStay};
 ghost use Rattle.party_steps.specs.Polling.{HasPolled, IsAllAnswered};
+ghost use Rattle.party_steps.specs.Progress.{HasMovedOn, HasServed};
+ghost use Rattle.run_measure.specs.Laws.{IsPlaced};
+ghost use Rattle.session_proxy.specs.Share.{Share};
+ghost use Rattle.session_proxy.specs.State as sessions;
+ghost use Rattle.worker_core.specs.State as workers;
 
 use lattice_laws::NoMemory;
 use mail_contract::{GossipRx, Rx, Tx};
@@ -26,7 +31,11 @@ pub fn turn_often<T: Tx<Reply>, O: Tx<Batch>, Q: Rx<Request>, G: GossipRx<Batch,
     ensures fronts { FrontsStay Q.keeps.complete
         (Q.received worker.old.ends.requests) (Q.about worker.old.ends.requests)
         (Q.received worker.new.ends.requests) (Q.about worker.new.ends.requests) }
+    ensures served { worker.old.state.kept ≡ None → OnOk result (HasServed
+        (workers.lists_of Q.received T.sent O.sent G.got worker.old)
+        (workers.lists_of Q.received T.sent O.sent G.got worker.new)) }
 {
+    worker.attest();
     for _ in 0..most {
         match worker.turn()? {
             Did::Idle | Did::Blocked => return Ok(()),
@@ -36,21 +45,48 @@ pub fn turn_often<T: Tx<Reply>, O: Tx<Batch>, Q: Rx<Request>, G: GossipRx<Batch,
     Ok(())
 }
 
-/// Polls a session until it answers NotYet, Rest or Ended, at most so many times. Tells whether it has ended.
+/// What came of polling a session.
+#[derive(Clone, Copy, Debug, PartialEq, Eq, Drop)]
+pub struct Polled {
+    /// Every line is answered.
+    pub ended: bool,
+    /// A line was answered, a request sent, or a reply taken.
+    pub moved: bool,
+}
+
+/// Polls a session until it answers NotYet, Rest or Ended, at most so many times. Tells whether it has ended, and
+/// whether it did anything.
 pub fn poll_often<S: Tx<Request>, R: Rx<Reply>>(
     session: &mut SessionOver<S, R>,
     most: u32,
-) -> Result<bool, NoMemory>
+) -> Result<Polled, NoMemory>
     ensures polled { HasPolled S.key S.number S.sent R.key R.senders R.received R.about
         (proxy_of session.old) (proxy_of session.new) }
-    ensures ended { IfOk result (λ ended. IsTrue ended → IsAllAnswered (proxy_of session.new)) }
+    ensures ended { IfOk result (λ polled. IsTrue polled.ended
+        → IsAllAnswered (proxy_of session.new)) }
+    ensures moved { IsPlaced (sessions.lists_of S.sent R.received (proxy_of session.old))
+        → Share (sessions.lists_of S.sent R.received (proxy_of session.old))
+        → IfOk result (λ polled. HasMovedOn polled
+        (sessions.lists_of S.sent R.received (proxy_of session.old))
+        (sessions.lists_of S.sent R.received (proxy_of session.new))) }
 {
+    let mut moved = false;
     for _ in 0..most {
         match session.poll()? {
-            Progress::Ended => return Ok(true),
-            Progress::NotYet | Progress::Rest => return Ok(false),
-            Progress::Moved => {}
+            Progress::Ended => return Ok(Polled { ended: true, moved }),
+            Progress::NotYet => return Ok(Polled {
+                ended: false,
+                moved,
+            }),
+            Progress::Rest => return Ok(Polled {
+                ended: false,
+                moved: true,
+            }),
+            Progress::Moved => moved = true,
         }
     }
-    Ok(false)
+    Ok(Polled {
+        ended: false,
+        moved,
+    })
 }

@@ -1,11 +1,15 @@
 //! One of the parties of a run takes several steps.
-ghost use Rattle.std.specs.Prelude.{◌≡◌, ◌≢◌, ◌<◌, ℕ, IfOk, IsTrue, length, map, slice_get, Some};
+ghost use Rattle.std.specs.Prelude.{◌≡◌, ◌≢◌, ◌<◌, ℕ, IfOk, IsTrue, length, map, slice_get, None, OnOk, Some};
 ghost use Rattle.party_run.specs.Running.{GoesOn};
 ghost use Rattle.party_run.specs.Session.{proxy_of};
 ghost use Rattle.party_steps.specs.Polling.{IsAllAnswered};
-ghost use Rattle.session_proxy.specs.State.{PlainProxy};
+ghost use Rattle.party_steps.specs.Progress.{HasMovedOn, HasServed};
+ghost use Rattle.run_measure.specs.Laws.{IsPlaced};
+ghost use Rattle.session_proxy.specs.Share.{Share};
+ghost use Rattle.session_proxy.specs.State as sessions;
+ghost use Rattle.worker_core.specs.State as workers;
 
-use crate::{poll_often, turn_often};
+use crate::{Polled, poll_often, turn_often};
 use lattice_laws::NoMemory;
 use mail_contract::{GossipRx, Rx, Tx};
 use party_run::PartiesOver;
@@ -22,6 +26,14 @@ pub fn turn_worker<
 >(parties: &mut PartiesOver<Q, T, O, G, S, R>, place: usize, most: u32) -> Result<(), NoMemory>
     requires { place < length parties.old.workers.items }
     ensures sessions { parties.new.sessions ≡ parties.old.sessions }
+    ensures others { (other : ℕ) → other ≢ place
+        → slice_get parties.new.workers.items other ≡ slice_get parties.old.workers.items other }
+    ensures served { (was now : workers.PlainWorker Q T O G)
+        → slice_get parties.old.workers.items place ≡ Some was
+        → slice_get parties.new.workers.items place ≡ Some now
+        → was.state.kept ≡ None → OnOk result (HasServed
+        (workers.lists_of Q.received T.sent O.sent G.got was)
+        (workers.lists_of Q.received T.sent O.sent G.got now)) }
     ensures goes_on { GoesOn S.key S.number S.sent T.key T.number O.key O.number
         Q.key Q.pairs Q.senders Q.received Q.about
         G.key G.pairs G.senders G.got G.about
@@ -33,7 +45,7 @@ pub fn turn_worker<
 }
 
 /// Polls the session at a place until it answers NotYet, Rest or Ended, at most so many times. Tells whether
-/// it has ended.
+/// it has ended, and whether it did anything.
 pub fn poll_session<
     S: Tx<Request>,
     T: Tx<Reply>,
@@ -41,15 +53,23 @@ pub fn poll_session<
     Q: Rx<Request, From = S>,
     G: GossipRx<Batch, From = O>,
     R: Rx<Reply, From = T>,
->(parties: &mut PartiesOver<Q, T, O, G, S, R>, place: usize, most: u32) -> Result<bool, NoMemory>
+>(parties: &mut PartiesOver<Q, T, O, G, S, R>, place: usize, most: u32) -> Result<Polled, NoMemory>
     requires { place < length parties.old.sessions.items }
     ensures workers { parties.new.workers ≡ parties.old.workers }
     ensures others { (other : ℕ) → other ≢ place
         → slice_get (map proxy_of parties.new.sessions.items) other
         ≡ slice_get (map proxy_of parties.old.sessions.items) other }
-    ensures ended { IfOk result (λ ended. IsTrue ended → (proxy : PlainProxy S R)
+    ensures ended { IfOk result (λ polled. IsTrue polled.ended
+        → (proxy : sessions.PlainProxy S R)
         → slice_get (map proxy_of parties.new.sessions.items) place ≡ Some proxy
         → IsAllAnswered proxy) }
+    ensures moved { (was now : sessions.PlainProxy S R)
+        → slice_get (map proxy_of parties.old.sessions.items) place ≡ Some was
+        → slice_get (map proxy_of parties.new.sessions.items) place ≡ Some now
+        → IsPlaced (sessions.lists_of S.sent R.received was)
+        → Share (sessions.lists_of S.sent R.received was)
+        → IfOk result (λ polled. HasMovedOn polled
+        (sessions.lists_of S.sent R.received was) (sessions.lists_of S.sent R.received now)) }
     ensures goes_on { GoesOn S.key S.number S.sent T.key T.number O.key O.number
         Q.key Q.pairs Q.senders Q.received Q.about
         G.key G.pairs G.senders G.got G.about

@@ -16,12 +16,12 @@ use Rattle.mail_contract.specs.Takes.{Answers, IsFront}
 use Rattle.mail_contract.specs.declared.parcels.ParcelFault.{ParcelFault}
 use Rattle.mail_contract.specs.declared.parcels.ParcelFault.TheVariants.{Strange}
 use Rattle.placement.specs.Config.{IsOneOf}
-use Rattle.session_proxy.specs.State.{PlainProxy, lists_of}
+use Rattle.session_proxy.specs.State.{PlainProxy, lists_of as session_lists}
 use Rattle.store_msg.specs.Reply.{PlainReply}
 use Rattle.store_msg.specs.declared.request.Request.{Request}
-use Rattle.worker_core.specs.State.{Entries, PlainWorker, place_at}
+use Rattle.worker_core.specs.State.{Entries, PlainWorker, lists_of as worker_lists, place_at}
 use Rattle.drain_steps.specs.Settling.{index_in}
-use Rattle.drain_steps.proofs.ItemsLemmas.{at_its_place, long_alike, mapped}
+use Rattle.drain_steps.proofs.ItemsLemmas.{at_its_place, mapped}
 use Rattle.drain_turns.specs.Ready.{IsMate}
 use Rattle.drain_ledger.proofs.GossipTakenLemmas.{index_within, mate_index}
 use Rattle.party_run.specs.Running.{GoesOn}
@@ -84,6 +84,13 @@ module _ {S T O Q G R : Type 0}
       requests_key HasLane length requests_received requests_about in_key HasLane length got in_about
       replies_key HasLane length received replies_about workers workers_now sessions sessions_now
 
+  -- What a parcel that was carried comes to: what is told of workers and of sessions stays, and the run goes on where the parcel was taken in.
+  pub record AreCarried (asked : S → List Request) (replied : T → List PlainReply) (told : O → List Entries) (received : R → List (ℕ × PlainReply)) (TakenIn : Type 0)
+      (workers_now : List (PlainWorker Q T O G)) (sessions_now : List (PlainProxy S R)) : Type 0 where
+    pub of_workers : map (worker_lists requests_received replied told got) workers_now ≡ map (worker_lists requests_received replied told got) workers
+    pub of_sessions : map (session_lists asked received) sessions_now ≡ map (session_lists asked received) sessions
+    pub goes_on : TakenIn → GoOn asked received workers_now sessions_now
+
   -- Replies of the worker in a row to the session at a place.
   module _ (row place : ℕ) (worker : PlainWorker Q T O G) (proxy : PlainProxy S R)
       (worker_is : slice_get workers row ≡ Some worker) (proxy_is : slice_get sessions place ≡ Some proxy) where
@@ -139,14 +146,21 @@ module _ {S T O Q G R : Type 0}
             (gossip_ends ends))
             (numbered_still workers workers_now (replier_stays (λ one. one.state) (ap (λ one. one.state) rest)) ends.numbered)
 
-        pub replies_carried : (asked : S → List Request) → IsOk answer → GoOn asked received (slice_set workers row worker_now) (slice_set sessions place proxy_now)
-        replies_carried asked ok =
-            goes_on_so workers (slice_set workers row worker_now) sessions (slice_set sessions place proxy_now)
-            (replier_stays (λ one. one.state) (ap (λ one. one.state) rest))
-            (replier_stays (λ one. length one.ends.replies.items) (long_alike reply_number worker.ends.replies.items worker_now.ends.replies.items gives_replies.numbers_stay))
-            (replier_stays (λ one. length one.ends.gossip_out.items) (ap (λ one. length one.ends.gossip_out.items) rest))
-            (replied_stays (lists_of asked received) (λ j. record { course = course j; sent = map asked (requests j).items; received = delivers.handed_out_stays j }))
-            (λ _. replied_ends ok)
+        pub replies_carried : (asked : S → List Request) (told : O → List Entries)
+            → AreCarried asked replied told received (IsOk answer) (slice_set workers row worker_now) (slice_set sessions place proxy_now)
+        replies_carried asked told =
+            let its_lists = worker_lists requests_received replied told got in
+            let of_workers = replier_stays its_lists (ap its_lists rest ∙ ap (λ some. record (its_lists worker) { replied = some }) gives_replies.sent_stays) in
+            let of_sessions =
+            replied_stays (session_lists asked received) (λ j. record { course = course j; sent = map asked (requests j).items; received = delivers.handed_out_stays j })
+            in
+            record {
+              of_workers = of_workers;
+              of_sessions = of_sessions;
+              goes_on = λ ok.
+                  goes_on_so replied told workers (slice_set workers row worker_now) sessions (slice_set sessions place proxy_now) of_workers of_sessions
+                  (λ _. replied_ends ok);
+            }
 
   -- Requests of the session in a row to the worker at a place.
   module _ (row place : ℕ) (proxy : PlainProxy S R) (worker : PlainWorker Q T O G)
@@ -209,14 +223,21 @@ module _ {S T O Q G R : Type 0}
             (gossip_ends ends))
             (numbered_still workers workers_now (asked_stays (λ one. one.state) (ap (λ one. one.state) rest)) ends.numbered)
 
-        pub requests_carried : (received : R → List (ℕ × PlainReply)) → IsOk answer → GoOn asked received (slice_set workers place worker_now) (slice_set sessions row proxy_now)
-        requests_carried received ok =
-            goes_on_so workers (slice_set workers place worker_now) sessions (slice_set sessions row proxy_now)
-            (asked_stays (λ one. one.state) (ap (λ one. one.state) rest))
-            (asked_stays (λ one. length one.ends.replies.items) (ap (λ one. length one.ends.replies.items) rest))
-            (asked_stays (λ one. length one.ends.gossip_out.items) (ap (λ one. length one.ends.gossip_out.items) rest))
-            (asker_stays (lists_of asked received) (λ j. record { course = course j; sent = gives_requests.sent_stays j; received = received (replies j) }))
-            (λ _. asked_ends ok)
+        pub requests_carried : (replied : T → List PlainReply) (told : O → List Entries) (received : R → List (ℕ × PlainReply))
+            → AreCarried asked replied told received (IsOk answer) (slice_set workers place worker_now) (slice_set sessions row proxy_now)
+        requests_carried replied told received =
+            let its_lists = worker_lists requests_received replied told got in
+            let of_workers = asked_stays its_lists (ap its_lists rest ∙ ap (λ messages. record (its_lists worker) { received = messages }) delivers.handed_out_stays) in
+            let of_sessions =
+            asker_stays (session_lists asked received) (λ j. record { course = course j; sent = gives_requests.sent_stays j; received = received (replies j) })
+            in
+            record {
+              of_workers = of_workers;
+              of_sessions = of_sessions;
+              goes_on = λ ok.
+                  goes_on_so replied told workers (slice_set workers place worker_now) sessions (slice_set sessions row proxy_now) of_workers of_sessions
+                  (λ _. asked_ends ok);
+            }
 
   -- Gossip of the worker in a row to the mate at a place.
   module _ (row place : ℕ) (apart : place ≢ row) (worker mate : PlainWorker Q T O G)
@@ -301,13 +322,18 @@ module _ {S T O Q G R : Type 0}
             (IsMate (length (gossip_rows workers)) (place + 1)) (got mate.ends.gossip_in) (got mate_now.ends.gossip_in) delivers.handed_out_stays)))
             (numbered_still workers workers_now (both_stay (λ one. one.state) (ap (λ one. one.state) rest) (ap (λ one. one.state) mate_rest)) ends.numbered)
 
-        pub gossip_carried : (asked : S → List Request) (received : R → List (ℕ × PlainReply)) → IsOk answer
-            → GoOn asked received (slice_set (slice_set workers row worker_now) place mate_now) sessions
-        gossip_carried asked received ok =
-            goes_on_so workers (slice_set (slice_set workers row worker_now) place mate_now) sessions sessions
-            (both_stay (λ one. one.state) (ap (λ one. one.state) rest) (ap (λ one. one.state) mate_rest))
-            (both_stay (λ one. length one.ends.replies.items) (ap (λ one. length one.ends.replies.items) rest) (ap (λ one. length one.ends.replies.items) mate_rest))
-            (both_stay (λ one. length one.ends.gossip_out.items) (long_alike gossip_number worker.ends.gossip_out.items worker_now.ends.gossip_out.items gives_gossip.numbers_stay)
-            (ap (λ one. length one.ends.gossip_out.items) mate_rest))
-            refl
-            (λ _. told_ends ok)
+        pub gossip_carried : (asked : S → List Request) (replied : T → List PlainReply) (received : R → List (ℕ × PlainReply))
+            → AreCarried asked replied told received (IsOk answer) (slice_set (slice_set workers row worker_now) place mate_now) sessions
+        gossip_carried asked replied received =
+            let its_lists = worker_lists requests_received replied told got in
+            let of_workers =
+            both_stay its_lists (ap its_lists rest ∙ ap (λ some. record (its_lists worker) { told = some }) gives_gossip.sent_stays)
+            (ap its_lists mate_rest ∙ ap (λ batches. record (its_lists mate) { got = batches }) delivers.handed_out_stays)
+            in
+            record {
+              of_workers = of_workers;
+              of_sessions = refl;
+              goes_on = λ ok.
+                  goes_on_so replied told workers (slice_set (slice_set workers row worker_now) place mate_now) sessions sessions of_workers refl
+                  (λ _. told_ends ok);
+            }

@@ -1,5 +1,9 @@
 mod CarriedLemmas
+mod CountedLemmas
 mod EndedLemmas
 mod GoesOnLemmas
+mod LeftLemmas
 mod ParcelLemmas
+mod PlacedLemmas
 mod PlainEndsLemmas
+mod WithinLemmas

@@ -59,7 +59,7 @@ in_its_lane lanes (suc number) from_one = ap (λ n. slice_index_or lanes n []) (
 abbrev pub HasLane : {M : Type 0} → List (List M) → List M → ℕ → Type 0
 HasLane = IsLaneOf (λ delivered given. given ≡ delivered)
 
-delivered_is : {M : Type 0} (lanes : List (List M)) (given : List M) (number : ℕ) → HasLane lanes given number → delivered lanes number ≡ given
+pub delivered_is : {M : Type 0} (lanes : List (List M)) (given : List M) (number : ℕ) → HasLane lanes given number → delivered lanes number ≡ given
 delivered_is lanes given number (from_one, to_last, pair) =
     let lane = slice_index_or lanes (number - 1) [] in
     let there = slice_get-get_or lanes (number - 1) [] (omega (arith, from_one, to_last)) in

@@ -4,7 +4,8 @@ ghost use Rattle.drain_ledger.specs.Drained.{IsDrained, ledger_in};
 ghost use Rattle.mail_contract.specs.Carried.{Carried};
 ghost use Rattle.placement.specs.Config.{placed};
 ghost use Rattle.session_known.specs.Script.{IsValidScript};
-ghost use Rattle.session_proxy.specs.State.{Course};
+ghost use Rattle.session_proxy.specs.State.{Lists as SessionLists};
+ghost use Rattle.worker_core.specs.State.{Lists as WorkerLists};
 
 use crate::{Carries, serve_with};
 use drain_ledger::DrainedOver;
@@ -48,8 +49,10 @@ trait ByParcel {
 
     ghost sessions: { Self → ℕ };
 
-    // How far each session is.
-    ghost courses: { Self → List Course };
+    // What each worker and each session keeps, and what went through their ends.
+    ghost of_workers: { Self → List WorkerLists };
+
+    ghost of_sessions: { Self → List SessionLists };
 
     // The ends of all are of one making.
     ghost have_ends: { Self → Type 0 };
@@ -62,7 +65,8 @@ trait ByParcel {
         requires worker { worker < workers self.old }
         requires session { session < sessions self.old }
         requires ends { have_ends self.old }
-        ensures courses { courses self.new ≡ courses self.old }
+        ensures of_workers { of_workers self.new ≡ of_workers self.old }
+        ensures of_sessions { of_sessions self.new ≡ of_sessions self.old }
         ensures goes_on { OnOk result (go_on self.old self.new) };
 
     /// Carries the gossip of a worker to a mate, by their places.
@@ -71,7 +75,8 @@ trait ByParcel {
         requires mate { mate < workers self.old }
         requires differ { mate ≢ worker }
         requires ends { have_ends self.old }
-        ensures courses { courses self.new ≡ courses self.old }
+        ensures of_workers { of_workers self.new ≡ of_workers self.old }
+        ensures of_sessions { of_sessions self.new ≡ of_sessions self.old }
         ensures goes_on { OnOk result (go_on self.old self.new) };
 
     /// Carries the requests of a session to a worker, by their places.
@@ -79,7 +84,8 @@ trait ByParcel {
         requires session { session < sessions self.old }
         requires worker { worker < workers self.old }
         requires ends { have_ends self.old }
-        ensures courses { courses self.new ≡ courses self.old }
+        ensures of_workers { of_workers self.new ≡ of_workers self.old }
+        ensures of_sessions { of_sessions self.new ≡ of_sessions self.old }
         ensures goes_on { OnOk result (go_on self.old self.new) };
 }
 
@@ -87,12 +93,21 @@ impl ByParcel for PlainParties {
     ghost use Rattle.std.specs.Prelude.{length, map};
     ghost use Rattle.party_run.specs.Running.{GoesOn, HaveEnds};
     ghost use Rattle.party_run.specs.Session.{proxy_of};
+    ghost use Rattle.session_proxy.specs.State as sessions;
+    ghost use Rattle.worker_core.specs.State as workers;
 
     ghost workers = { λ parties. length parties.workers.items };
 
     ghost sessions = { λ parties. length parties.sessions.items };
 
-    ghost courses = { λ parties. map (λ session. (proxy_of session).course) parties.sessions.items };
+    ghost of_workers = { λ parties. map (workers.lists_of
+        ⟦<PlainRx<Request> as Rx<Request>>⟧.received ⟦<PlainTx<Reply> as Tx<Reply>>⟧.sent
+        ⟦<PlainTx<Batch> as Tx<Batch>>⟧.sent ⟦<PlainRx<Batch> as GossipRx<Batch>>⟧.got)
+        parties.workers.items };
+
+    ghost of_sessions = { λ parties. map (sessions.lists_of
+        ⟦<PlainTx<Request> as Tx<Request>>⟧.sent ⟦<PlainRx<Reply> as Rx<Reply>>⟧.received)
+        (map proxy_of parties.sessions.items) };
 
     ghost have_ends = { λ parties. HaveEnds
         ⟦<PlainTx<Request> as Tx<Request>>⟧.key ⟦<PlainTx<Request> as Tx<Request>>⟧.number
@@ -149,6 +164,8 @@ impl Carries<
     PlainRx<Batch>,
     PlainRx<Reply>,
 > for PlainMaker {
+    fn attest(&self, _parties: &PlainParties) {}
+
     fn carry_of_worker(&self, parties: &mut PlainParties, place: usize) -> Result<(), NoMemory> {
         for session in 0..parties.sessions.len() {
             parties.carry_replies(place, session)?;

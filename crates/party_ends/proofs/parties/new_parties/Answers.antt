@@ -4,7 +4,7 @@ use Rattle.placement.proofs.ConfigLemmas.{placement_is}
 use Rattle.session_known.specs.Script.{IsValidScript}
 use Rattle.session_known.specs.declared.script.Script.{Script}
 use Rattle.party_run.specs.Session.{proxy_of}
-use Rattle.party_ends.proofs.PartiesLemmas.{are_running, of_sessions, of_workers}
+use Rattle.party_ends.proofs.PartiesLemmas.{are_running, none_kept, of_sessions, of_workers}
 use Rattle.party_ends.proofs.parties.new_parties.Goals as goal
 
 -- the script is valid where its keys live as the placement says
@@ -23,8 +23,12 @@ new_sessions-requires-clause-valid g c = valid_there c.args.script.now c.in_ok-p
 pub new_sessions-requires-clause-unused : goal.new_sessions-requires-clause-unused
 new_sessions-requires-clause-unused g c = of_sessions c.in_ok-workers.ensures
 
-pub returns : goal.returns
-returns g c =
+pub returns-clause-running : goal.returns-clause-running
+returns-clause-running g c =
     are_running c.args.script.now c.in_ok-placement.placement c.in_ok-workers.workers.items c.in_ok-workers.sessions.items c.in_ok-workers-2.workers.items (map proxy_of c.in_ok-sessions.sessions.items)
     (length c.as_slice.result.now) (ap length c.as_slice.ensures) (valid_there c.args.script.now c.in_ok-placement.placement c.in_ok-placement.ensures.placed c.requires)
     c.in_ok-workers.ensures c.in_ok-workers-2.ensures c.in_ok-sessions.ensures
+
+pub returns-clause-none_kept : goal.returns-clause-none_kept
+returns-clause-none_kept g c =
+    none_kept c.args.script.now c.in_ok-placement.placement c.in_ok-workers.workers.items c.in_ok-workers-2.workers.items c.in_ok-workers-2.ensures

@@ -1,3 +1,9 @@
+use Rattle.std.proofs.Common.{◌≡◌, None, Ok}
+use Rattle.worker_core.specs.State.{lists_of}
+use Rattle.worker_core.specs.declared.did.Did.{Did}
+use Rattle.party_steps.specs.Progress.{HasServed}
+use Rattle.party_steps.proofs.ChangedLemmas.{as_many_made}
+use Rattle.party_steps.proofs.ServedLemmas.{served_once, served_still, served_through}
 use Rattle.party_steps.proofs.TurnedLemmas.{HasTurned, turned_once, turned_still, turned_through}
 use Rattle.party_steps.proofs.stepping.turn_often.Given.{Over}
 use Rattle.party_steps.proofs.stepping.turn_often.Goals as goal
@@ -8,18 +14,39 @@ turned : (g : Over) (c : After-turn g)
     → HasTurned g.Q.Rx.key g.T.Tx.key g.T.Tx.number g.O.Tx.key g.O.Tx.number g.G.GossipRx.key g.Q.Rx.keeps.complete g.Q.Rx.senders g.Q.Rx.received g.Q.Rx.about g.T.Tx.sent
     g.G.GossipRx.keeps.complete g.G.GossipRx.senders g.G.GossipRx.got g.G.GossipRx.about c.args.worker.now c.turn.new.self
 turned g c =
-    turned_through c.loop.invariant
+    turned_through c.loop.invariant.turned
     (turned_once g.Q.Rx.answers g.G.GossipRx.answers g.G.GossipRx.due g.G.GossipRx.most c.loop.worker c.turn.new.self
     c.turn.ensures.fixed c.turn.ensures.keys c.turn.ensures.replied c.turn.ensures.requests c.turn.ensures.gossip)
 
+-- and what it has served, where the turn had memory
+served : (g : Over) (c : After-turn g) (its : Did) → c.turn.result ≡ Ok its → c.args.worker.now.state.kept ≡ None
+    → HasServed (lists_of g.Q.Rx.received g.T.Tx.sent g.O.Tx.sent g.G.GossipRx.got c.args.worker.now)
+    (lists_of g.Q.Rx.received g.T.Tx.sent g.O.Tx.sent g.G.GossipRx.got c.turn.new.self)
+served g c its is none_kept =
+    let lists = lists_of g.Q.Rx.received g.T.Tx.sent g.O.Tx.sent g.G.GossipRx.got in
+    let so_far = c.loop.invariant.served none_kept in
+    served_through (lists c.args.worker.now) (lists c.loop.worker) (lists c.turn.new.self)
+    (as_many_made g.T.Tx.number g.T.Tx.sent c.args.worker.now.ends.replies.items c.loop.worker.ends.replies.items c.loop.invariant.turned.gone_on.keys.replies_numbers)
+    so_far (served_once its c.turn.result (lists c.loop.worker) (lists c.turn.new.self) _ _ _ is c.turn.ensures.did c.loop.invariant.share so_far.kept)
+
 pub loop-init : goal.loop-init
-loop-init g c = turned_still c.args.worker.now
+loop-init g c = record {
+  turned = turned_still c.args.worker.now;
+  share = c.attest.ensures.share;
+  served = served_still (lists_of g.Q.Rx.received g.T.Tx.sent g.O.Tx.sent g.G.GossipRx.got c.args.worker.now);
+}
 
 pub loop-preserved : goal.loop-preserved
-loop-preserved g c = turned g (goal.at.loop-preserved g c).After-turn
+loop-preserved g c =
+    let after = (goal.at.loop-preserved g c).After-turn in
+    record { turned = turned g after; share = c.turn.ensures.share; served = served g after c.in_ok-turn.field-0 c.in_ok-turn.was }
 
 pub returns-in_err-turn-clause-gone_on : goal.returns-in_err-turn-clause-gone_on
 returns-in_err-turn-clause-gone_on g c = (turned g (goal.at.returns-in_err-turn-clause-gone_on g c).After-turn).gone_on
 
 pub returns-in-Idle-clause-gone_on : goal.returns-in-Idle-clause-gone_on
 returns-in-Idle-clause-gone_on g c = (turned g (goal.at.returns-in-Idle-clause-gone_on g c).After-turn).gone_on
+
+pub returns-in-Idle-clause-served : goal.returns-in-Idle-clause-served
+returns-in-Idle-clause-served g c =
+    served g (goal.at.returns-in-Idle-clause-served g c).After-turn c.in_ok-turn.field-0 c.in_ok-turn.was

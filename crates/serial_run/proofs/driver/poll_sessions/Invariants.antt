@@ -1,17 +1,19 @@
--- The run has gone on, and where all sessions so far had ended, their lines are answered.
-use Rattle.std.proofs.Common.{◌<◌, ◌≡◌, ℕ, IsTrue, Some, map, slice_get}
+-- The run has gone on, no message is kept, no more is left to do, and less where a session moved; and where all sessions so far have ended, their
+-- lines are answered.
+use Rattle.std.proofs.Common.{◌+◌, ◌≤◌, if◌then◌else◌, IsTrue, map}
 use Rattle.party_run.specs.Running.{GoesOn}
 use Rattle.party_run.specs.Session.{proxy_of}
-use Rattle.party_steps.specs.Polling.{IsAllAnswered}
-use Rattle.session_proxy.specs.State.{PlainProxy}
+use Rattle.serial_run.specs.Left.{NoneKept, left_to_do}
+use Rattle.serial_run.proofs.EndedLemmas.{AreEndedBefore}
 use Rattle.serial_run.proofs.driver.poll_sessions.Given as goal
 
 abbrev pub invariant-loop-place : goal.invariant-loop-place
-invariant-loop-place g l =
-    GoesOn g.S.Tx.key g.S.Tx.number g.S.Tx.sent g.T.Tx.key g.T.Tx.number g.O.Tx.key g.O.Tx.number
+invariant-loop-place g l = GoesOn g.S.Tx.key g.S.Tx.number g.S.Tx.sent g.T.Tx.key g.T.Tx.number g.O.Tx.key g.O.Tx.number
     g.Q.Rx.key g.Q.Rx.pairs g.Q.Rx.senders g.Q.Rx.received g.Q.Rx.about
     g.G.GossipRx.key g.G.GossipRx.pairs g.G.GossipRx.senders g.G.GossipRx.got g.G.GossipRx.about
     g.R.Rx.key g.R.Rx.pairs g.R.Rx.senders g.R.Rx.received g.R.Rx.about
     l.initial.parties.workers.items l.parties.workers.items (map proxy_of l.initial.parties.sessions.items) (map proxy_of l.parties.sessions.items)
-    × (IsTrue l.ended → (place : ℕ) (proxy : PlainProxy g.row.S.Denot g.row.R.Denot) → place < l.place → slice_get (map proxy_of l.parties.sessions.items) place ≡ Some proxy
-    → IsAllAnswered proxy)
+    × NoneKept l.parties.workers.items
+    × (left_to_do g.S.Tx.sent g.T.Tx.sent g.O.Tx.sent g.Q.Rx.received g.G.GossipRx.got g.R.Rx.received l.parties.workers.items (map proxy_of l.parties.sessions.items) + (if l.all.moved then 1 else 0)
+    ≤ left_to_do g.S.Tx.sent g.T.Tx.sent g.O.Tx.sent g.Q.Rx.received g.G.GossipRx.got g.R.Rx.received l.initial.parties.workers.items (map proxy_of l.initial.parties.sessions.items))
+    × (IsTrue l.all.ended → AreEndedBefore l.place (map proxy_of l.parties.sessions.items))

@@ -4,6 +4,7 @@ use Rattle.serial_run.proofs.plain.PlainMakerCarriesPlainTxRequestPlainTxReplyPl
 
 abbrev pub invariant-loop-worker : goal.invariant-loop-worker
 invariant-loop-worker l = record {
-  courses : by_parcel.ghosts.courses l.parties ≡ by_parcel.ghosts.courses l.fn.parties;
+  of_workers : by_parcel.ghosts.of_workers l.parties ≡ by_parcel.ghosts.of_workers l.fn.parties;
+  of_sessions : by_parcel.ghosts.of_sessions l.parties ≡ by_parcel.ghosts.of_sessions l.fn.parties;
   goes_on : by_parcel.ghosts.go_on l.fn.parties l.parties;
 }

@@ -4,12 +4,14 @@ use Rattle.serial_run.proofs.plain.PlainMakerCarriesPlainTxRequestPlainTxReplyPl
 
 abbrev pub invariant-loop-session : goal.invariant-loop-session
 invariant-loop-session l = record {
-  courses : by_parcel.ghosts.courses l.parties ≡ by_parcel.ghosts.courses l.fn.parties;
+  of_workers : by_parcel.ghosts.of_workers l.parties ≡ by_parcel.ghosts.of_workers l.fn.parties;
+  of_sessions : by_parcel.ghosts.of_sessions l.parties ≡ by_parcel.ghosts.of_sessions l.fn.parties;
   goes_on : by_parcel.ghosts.go_on l.fn.parties l.parties;
 }
 
 abbrev pub invariant-loop-mate : goal.invariant-loop-mate
 invariant-loop-mate l = record {
-  courses : by_parcel.ghosts.courses l.parties ≡ by_parcel.ghosts.courses l.fn.parties;
+  of_workers : by_parcel.ghosts.of_workers l.parties ≡ by_parcel.ghosts.of_workers l.fn.parties;
+  of_sessions : by_parcel.ghosts.of_sessions l.parties ≡ by_parcel.ghosts.of_sessions l.fn.parties;
   goes_on : by_parcel.ghosts.go_on l.fn.parties l.parties;
 }

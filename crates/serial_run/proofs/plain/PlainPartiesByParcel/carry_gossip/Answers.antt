@@ -47,15 +47,22 @@ taken_in-requires c =
     (gossip_follows c.requires.ends c.args.worker c.args.mate c.requires.differ c.index_mut.result.now mate worker_is mate_is
     (λ sender. front_given sender.given sender.history.items) c.gossip_parcel-parcel.new.self c.gossip_parcel-parcel.result c.gossip_parcel-parcel.ensures.parcel)
 
-pub returns-clause-goes_on : goal.returns-clause-goes_on
-returns-clause-goes_on c =
+pub returns : goal.returns
+returns c =
     let workers = c.args.self.now.workers.items in
     let worker_is = slice_get_read workers (length workers) c.args.worker c.index_mut.result.now refl c.requires.worker c.index_mut.ensures.value in
     let mate = c.index_mut-2.result.now in
     let mate_is = slice_get_read workers (length workers) c.args.mate mate refl c.requires.mate
     (c.index_mut-2.ensures.value ∙ get_or-set_other workers c.args.worker c.args.mate c.gossip_parcel-parcel.new.self mate c.requires.differ)
     in
-    on_taken_in c.deliver_gossip.result c.taken_in.result _ c.taken_in.ensures
-    (gossip_carried c.requires.ends c.args.worker c.args.mate c.requires.differ c.index_mut.result.now mate worker_is mate_is
+    let carried =
+    gossip_carried c.requires.ends c.args.worker c.args.mate c.requires.differ c.index_mut.result.now mate worker_is mate_is
     (λ sender. front_given sender.given sender.history.items) c.gossip_parcel-parcel.new.self c.gossip_parcel-parcel.result c.gossip_parcel-parcel.ensures.parcel
-    c.deliver_gossip.new.self c.deliver_gossip.ensures.delivers c.gossip_parcel-parcel.ensures.rest c.deliver_gossip.ensures.rest _ _)
+    c.deliver_gossip.new.self c.deliver_gossip.ensures.delivers c.gossip_parcel-parcel.ensures.rest c.deliver_gossip.ensures.rest
+    _ (λ sender. sender.history.items) _
+    in
+    record {
+      of_workers = carried.of_workers;
+      of_sessions = refl;
+      goes_on = on_taken_in c.deliver_gossip.result c.taken_in.result _ c.taken_in.ensures carried.goes_on;
+    }

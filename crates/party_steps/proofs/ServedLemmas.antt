@@ -1,0 +1,39 @@
+-- A worker that takes turns replies to each session no more than it takes of it.
+use Rattle.std.specs.Prelude.{◌≡◌, ℕ, Bool, List, length, None, Result, Ok}
+use Rattle.std.proofs.Common.{arith, subst}
+use Rattle.lattice_laws.specs.declared.lattice.NoMemory.{NoMemory}
+use Rattle.worker_core.specs.Share.{Share}
+use Rattle.worker_core.specs.State.{Lists}
+use Rattle.worker_core.specs.Turns.{Counts, Turns}
+use Rattle.worker_core.specs.declared.did.Did.{Did}
+use Rattle.run_measure.proofs.TurningLemmas.{turned}
+use Rattle.run_measure.specs.Steps.{RepliesAsTaken}
+use Rattle.party_steps.specs.Progress.{HasServed}
+
+-- at first it took no turn
+pub served_still : (lists : Lists) → lists.state.kept ≡ None → HasServed lists lists
+served_still lists none_kept = record {
+  replies = record { taken_more = λ session of. omega arith; replied_more = λ session of. omega arith; as_taken = λ session of. omega arith };
+  kept = none_kept;
+}
+
+-- one turn that had memory,
+pub served_once : (its : Did) (result : Result Did NoMemory) (before now : Lists) (count count_now : Counts) (room : ℕ → List Bool → Type 0) → result ≡ Ok its
+    → Turns result before now count count_now room → Share before → before.state.kept ≡ None → HasServed before now
+served_once its result before now count count_now room is turns share none_kept =
+    let turns_so = subst (λ result. Turns result before now count count_now room) is turns in
+    let one = turned its before now count count_now room turns_so none_kept share.replies.held in
+    record { replies = one.replies; kept = one.kept }
+
+-- and one after another
+pub served_through : (before between now : Lists) → length between.replied ≡ length before.replied → HasServed before between → HasServed between now → HasServed before now
+served_through before between now as_many first then =
+    let replies = subst (λ many. RepliesAsTaken many between now) as_many then.replies in
+    record {
+      replies = record {
+        taken_more = λ session of. omega (arith, first.replies.taken_more session of, replies.taken_more session of);
+        replied_more = λ session of. omega (arith, first.replies.replied_more session of, replies.replied_more session of);
+        as_taken = λ session of. omega (arith, first.replies.as_taken session of, replies.as_taken session of);
+      };
+      kept = then.kept;
+    }
