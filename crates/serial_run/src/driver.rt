@@ -56,8 +56,8 @@ pub fn serve_with<
 /// Makes sweeps until every line of every session is answered.
 ///
 /// No sweep leaves more to do, and one in which a session moves leaves less. One in which none moves would be
-/// followed by such sweeps for ever; it does not come while memory is there, and the run is given up then as it
-/// is where memory is short.
+/// followed by such sweeps for ever, so the run is given up then as it is where memory is short. That none such
+/// comes while memory is there is tested, and not proved.
 fn run_lines<
     S: Tx<Request>,
     T: Tx<Reply>,
