@@ -45,6 +45,11 @@ impl Clock {
         }
     }
 
+    /// Where it takes its memory.
+    pub(crate) fn alloc(&self) -> Global {
+        *self.counts.allocator()
+    }
+
     /// Raises the count of a session to `n`, where it is below it. After `NoMemory` the clock is as
     /// before.
     pub fn raise(&mut self, session: u16, n: u64) -> Result<(), NoMemory>
@@ -75,9 +80,12 @@ impl Clock {
     pub fn joined(&self, other: &Clock) -> Result<Clock, NoMemory>
         ensures { IfOk result (λ both. both ≡ joined_clocks self.now other.now) }
     {
-        let alloc = *self.counts.allocator();
         Ok(Clock {
-            counts: join_entries(alloc, self.counts.as_slice(), other.counts.as_slice())?,
+            counts: join_entries(
+                self.alloc(),
+                self.counts.as_slice(),
+                other.counts.as_slice(),
+            )?,
         })
     }
 
@@ -196,7 +204,7 @@ impl Lattice for Clock {
 
     fn copy(&self) -> Result<Clock, NoMemory> {
         Ok(Clock {
-            counts: copy_entries(*self.counts.allocator(), self.counts.as_slice())?,
+            counts: copy_entries(self.alloc(), self.counts.as_slice())?,
         })
     }
 

@@ -56,7 +56,7 @@ impl Needs {
         if clock.is_empty() {
             return Ok(());
         }
-        let raised = SomeClock::of(clock.copy()?);
+        let raised = SomeClock::of(clock.copy()?)?;
         raise_entry(&mut self.clocks, key, raised)
     }
 
@@ -70,7 +70,8 @@ impl Needs {
         if clock.is_empty() {
             return Ok(false);
         }
-        push_entry(&mut self.clocks, key, SomeClock::of(clock))
+        let some = SomeClock::of(clock)?;
+        push_entry(&mut self.clocks, key, some)
     }
 
     /// The join of two needs: at each key the join of the two clocks.
