@@ -11,6 +11,7 @@ ghost use Rattle.big_work.specs.Big.{command_line, command_lines, command_state,
 use basic_lattices::Word;
 use composed_value::{Kind, Payload};
 use lattice_laws::{Items, NoMemory};
+use mail_contract::next_of;
 use placement::{Config, KeyPlace, Name};
 use session_known::{Level, Line, Script, SessionPlan};
 use std::alloc::Global;
@@ -146,10 +147,7 @@ impl Generator {
         ensures state { self.new.state ≡ next_state self.old.state }
         ensures draw { result ≡ draw_of self.new.state }
     {
-        self.state = self
-            .state
-            .wrapping_mul(6_364_136_223_846_793_005)
-            .wrapping_add(1_442_695_040_888_963_407);
+        self.state = next_of(self.state);
         self.state >> 33
     }
 }

@@ -33,7 +33,7 @@ use Rattle.drain_ledger.specs.Handed.{AreFrontsOfSent, AreOfOneRun, lists_left}
 use Rattle.drain_steps.proofs.ItemsLemmas.{mapped, there_is}
 
 -- a front is no longer than the whole
-front_few : {M : Type 0} (front whole : List M) → IsFront front whole → length front ≤ length whole
+pub front_few : {M : Type 0} (front whole : List M) → IsFront front whole → length front ≤ length whole
 front_few front whole is =
     let fits : min (length front) (length whole) ≡ length front = sym (length-take (length front) whole) ∙ ap length is in
     omega (arith, fits)

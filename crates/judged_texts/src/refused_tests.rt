@@ -117,36 +117,3 @@ fn refuses_a_script_at_a_line_with_a_code(rt: HostRuntime) -> Result<(), Fail> {
     }
     Ok(())
 }
-
-/// Lines that take the place of the first put of the first script, and the code that refuses each.
-const REFUSED_LINES: [(&str, u8); 14] = [
-    ("put a", 2),
-    ("put a 5 6", 7),
-    ("put a x", 7),
-    ("put a 18446744073709551616", 3),
-    ("put b 5", 6),
-    ("put a+ 5", 4),
-    ("begin", 9),
-    ("get a 2", 6),
-    ("get a x", 3),
-    ("await a s 1", 2),
-    ("session s eventual", 5),
-    ("session t lazy", 2),
-    ("key b max", 2),
-    ("round 5", 2),
-];
-
-#[test]
-fn refuses_each_of_these_lines_by_its_code(rt: HostRuntime) -> Result<(), Fail> {
-    for (line, code) in REFUSED_LINES {
-        let text = format!(in rt.alloc();
-            "anna 1\nworkers 1\nkey a max\nsession s eventual\n{line}\nput a 3\nget a\nend\n"
-        )?;
-        assert_eq!(rt;
-            refused(rt.alloc(), text.as_str())?,
-            Some((5, code)),
-            "{line:?}"
-        );
-    }
-    Ok(())
-}

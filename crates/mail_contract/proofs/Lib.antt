@@ -1,4 +1,5 @@
 pub mod BoxesLemmas
+pub mod CountsLemmas
 pub mod DealLemmas
 pub mod LanesLemmas
 pub mod MapsLemmas

@@ -27,7 +27,7 @@ use lattice_laws::NoMemory;
 pub use parcels::{Parcel, ParcelFault, PlainLane, PlainRx, PlainTx, plain};
 pub use posts::{parcel_of, post};
 pub use rx::Rx;
-pub use scramble::{Draws, Scramble};
+pub use scramble::{Draws, Scramble, next_of};
 pub use tx::Tx;
 
 /// What is sent. A message is its own plain value.

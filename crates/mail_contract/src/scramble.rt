@@ -25,8 +25,9 @@ pub struct Held<M> {
     again: bool,
 }
 
-/// The next state of the generator.
-pub(crate) fn next_of(state: u64) -> u64
+/// The next state of the generator of draws: a linear congruential generator of 64 bits, with Knuth's multiplier
+/// and increment of MMIX.
+pub fn next_of(state: u64) -> u64
     ensures { result ≡ next_state state }
 {
     state

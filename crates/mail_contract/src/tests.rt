@@ -121,7 +121,7 @@ fn a_scramble_hands_out_each_message_once_or_twice(rt: HostRuntime) -> Result<()
 fn three_draws(rt: HostRuntime) -> Result<(), Fail> {
     let mut state = 7;
     for want in [1_059_165_278, 2_052_263_231, 1_946_856_753] {
-        state = scramble::next_of(state);
+        state = next_of(state);
         assert_eq!(rt; state >> 33, want);
     }
     Ok(())

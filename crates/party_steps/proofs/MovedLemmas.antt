@@ -1,45 +1,19 @@
 -- How far polls bring a session, one after another.
 use Rattle.std.specs.Prelude.{◌≡◌, ℕ, ◌+◌, ◌≤◌, Bool, true, false, All, length, Result, Ok}
-use Rattle.std.proofs.Common.{◌∙◌, arith, refl, subst, sym}
+use Rattle.std.proofs.Common.{arith, refl, subst, sym}
 use Rattle.std.proofs.lemmas.Bool.{false≢true}
 use Rattle.lattice_laws.specs.declared.lattice.NoMemory.{NoMemory}
-use Rattle.placement.specs.Config.{IsOneOf}
 use Rattle.session_proxy.specs.Lines.{AreReplicas, MayRun}
 use Rattle.session_proxy.specs.Polls.{Counts, Polls}
 use Rattle.session_proxy.specs.Share.{Share}
 use Rattle.session_proxy.specs.State.{IsFixed, Lists}
 use Rattle.session_proxy.specs.declared.progress.Progress.{Progress}
 use Rattle.session_proxy.specs.declared.progress.Progress.TheVariants as progress
-use Rattle.run_measure.specs.Laws.{HasMoved, IsPlaced, SessionsGoOnTwice, SessionsStay}
+use Rattle.run_measure.specs.Laws.{HasMoved, IsPlaced}
 use Rattle.run_measure.specs.Steps.{HasDone, done}
-use Rattle.run_measure.proofs.DoneLemmas.{done_rises}
+use Rattle.run_measure.proofs.DoneLemmas.{done_rises, goes_still, goes_through}
 use Rattle.run_measure.proofs.PollingLemmas.{polled}
 use Rattle.party_steps.specs.Progress.{HasMovedOn}
-
--- a session that stays as it is has gone on,
-goes_still : SessionsStay
-goes_still lists = record {
-  client = refl;
-  table = refl;
-  lines = refl;
-  workers = refl;
-  answered = omega arith;
-  asked_more = λ worker of. omega arith;
-  heard_more = λ worker. omega arith;
-}
-
--- and so has one that goes on twice
-goes_through : SessionsGoOnTwice
-goes_through before between now first then = record {
-  client = then.client ∙ first.client;
-  table = then.table ∙ first.table;
-  lines = then.lines ∙ first.lines;
-  workers = then.workers ∙ first.workers;
-  answered = omega (arith, first.answered, then.answered);
-  asked_more = λ worker of.
-      omega (arith, first.asked_more worker of, then.asked_more worker (subst (λ many. IsOneOf many worker) (sym first.workers) of));
-  heard_more = λ worker. omega (arith, first.heard_more worker, then.heard_more worker);
-}
 
 -- the requests of a session that goes on go to workers that are there, as before
 placed_still : (before now : Lists) → HasDone before now → IsPlaced before → IsPlaced now

@@ -1,14 +1,52 @@
 -- A session that goes on has done no less.
-use Rattle.std.specs.Prelude.{◌≡◌, ◌≤◌, length, sum_by}
-use Rattle.std.proofs.Common.{subst, arith}
+use Rattle.std.specs.Prelude.{◌≡◌, ℕ, zero, suc, ◌+◌, ◌<◌, ◌≤◌, length, sum_by}
+use Rattle.std.specs.List.{range_with_len}
+use Rattle.std.proofs.Common.{◌∙◌, refl, sym, subst, arith}
+use Rattle.std.proofs.lemmas.List.Sums.{sum_by-cons}
+use Rattle.mail_contract.proofs.CountsLemmas.{no_fewer}
+use Rattle.placement.specs.Config.{IsOneOf}
 use Rattle.session_proxy.specs.State.{Lists}
 use Rattle.run_measure.proofs.MeasureLemmas.{asked_all, asked_of}
-use Rattle.run_measure.proofs.SumsLemmas.{no_fewer, sums_le}
-use Rattle.run_measure.specs.Laws.{DoneRises}
+use Rattle.run_measure.specs.Laws.{DoneRises, SessionsGoOnTwice, SessionsStay}
 use Rattle.run_measure.specs.Measure.{asked}
 use Rattle.run_measure.specs.Steps.{HasDone}
 
--- it has sent no fewer requests
+-- a session that stays as it is has gone on,
+pub goes_still : SessionsStay
+goes_still lists = record {
+  client = refl;
+  table = refl;
+  lines = refl;
+  workers = refl;
+  answered = omega arith;
+  asked_more = λ worker of. omega arith;
+  heard_more = λ worker. omega arith;
+}
+
+-- and so has one that goes on twice
+pub goes_through : SessionsGoOnTwice
+goes_through before between now first then = record {
+  client = then.client ∙ first.client;
+  table = then.table ∙ first.table;
+  lines = then.lines ∙ first.lines;
+  workers = then.workers ∙ first.workers;
+  answered = omega (arith, first.answered, then.answered);
+  asked_more = λ worker of.
+      omega (arith, first.asked_more worker of, then.asked_more worker (subst (λ many. IsOneOf many worker) (sym first.workers) of));
+  heard_more = λ worker. omega (arith, first.heard_more worker, then.heard_more worker);
+}
+
+-- a sum over some numbers is at most another where each term is
+sums_le : (f g : ℕ → ℕ) (n a : ℕ) → ((w : ℕ) → a ≤ w → w < a + n → f w ≤ g w) → sum_by f (range_with_len a n) ≤ sum_by g (range_with_len a n)
+sums_le f g zero a each = omega arith
+sums_le f g (suc n) a each =
+    let rest = sums_le f g n (a + 1) (λ w from to. each w (omega (arith, from)) (omega (arith, to))) in
+    let here = each a (omega arith) (omega arith) in
+    let of_f = sum_by-cons f a (range_with_len (a + 1) n) in
+    let of_g = sum_by-cons g a (range_with_len (a + 1) n) in
+    omega (arith, rest, here, of_f, of_g)
+
+-- a session that goes on has sent no fewer requests
 pub sent_more : (before now : Lists) → HasDone before now → sum_by length before.sent ≤ sum_by length now.sent
 sent_more before now goes =
     let before_all = asked_all before in

@@ -2,6 +2,5 @@ pub mod DoneLemmas
 pub mod MeasureLemmas
 pub mod PlacedLemmas
 pub mod PollingLemmas
-pub mod SumsLemmas
 pub mod TurningLemmas
 pub mod TotalLemmas

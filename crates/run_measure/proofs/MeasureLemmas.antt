@@ -9,7 +9,7 @@ use Rattle.session_proxy.specs.Lines.{most_of_line}
 use Rattle.session_proxy.specs.Share.{most_in_all}
 use Rattle.session_proxy.specs.State as sessions
 use Rattle.worker_core.specs.State as workers
-use Rattle.run_measure.proofs.SumsLemmas.{from_all, lists_counted}
+use Rattle.mail_contract.proofs.CountsLemmas.{from_all, lists_counted}
 use Rattle.run_measure.specs.Laws.{HearsWorkers, PollsLowerTheMeasure, TurnsLowerTheMeasure}
 use Rattle.run_measure.specs.Measure.{asked, between, between_all, heard, replied, taken}
 

@@ -14,7 +14,7 @@ use Rattle.session_proxy.specs.declared.progress.Progress.{Progress}
 use Rattle.session_proxy.specs.declared.progress.Progress.TheVariants as progress
 use Rattle.run_measure.proofs.DoneLemmas.{sent_more}
 use Rattle.run_measure.proofs.PlacedLemmas.{goes_to_worker}
-use Rattle.run_measure.proofs.SumsLemmas.{no_fewer}
+use Rattle.mail_contract.proofs.CountsLemmas.{no_fewer}
 use Rattle.run_measure.specs.Laws.{HasPolled}
 use Rattle.run_measure.specs.Measure.{asked, heard}
 use Rattle.run_measure.specs.Steps.{HasDone, done}

@@ -1,7 +1,7 @@
 -- Between the sessions and the workers of a run over plain mail no more was taken than was sent.
 use Rattle.std.specs.Prelude.{◌≡◌, ℕ, ◌+◌, ◌≤◌, false, List, [], ◌∷◌, length, map, slice_get, slice_index_or, Option, Some}
 use Rattle.std.proofs.Common.{◌∙◌, add-one, refl, sym, ap, subst, arith}
-use Rattle.std.proofs.lemmas.List.{length-append, length-take}
+use Rattle.std.proofs.lemmas.List.{length-append}
 use Rattle.std.proofs.lemmas.Option.{slice_get_within}
 use Rattle.mail_contract.specs.Plain.{delivered}
 use Rattle.mail_contract.specs.Standing.{About}
@@ -14,14 +14,11 @@ use Rattle.worker_core.specs.State.{Entries, PlainWorker, lists_of as worker_lis
 use Rattle.run_measure.specs.Measure.{AreAllCounted, AreCounted}
 use Rattle.drain_steps.proofs.ItemsLemmas.{at_its_place, mapped, of_mapped, there_is}
 use Rattle.drain_ledger.specs.Handed.{AreOfOneMaking}
+use Rattle.drain_ledger.proofs.AsksLemmas.{front_few}
 use Rattle.drain_ledger.proofs.ListsLemmas.{mapped_or}
 use Rattle.serial_run.proofs.ParcelLemmas.{HasLane, delivered_is, index_there}
 use Rattle.serial_run.proofs.PlainEndsLemmas.{PlainEnds, reply_ends, request_ends}
 use Rattle.serial_run.proofs.WithinLemmas.{IsWithin}
-
--- a front is no longer than the whole
-front_within : {M : Type 0} (front whole : List M) → IsFront front whole → length front ≤ length whole
-front_within front whole is = omega (arith, ap length is, length-take (length front) whole)
 
 -- Where a box is one of a making with rows of senders, no more was taken of the sender for it in a row than that one sent.
 module _ {S P M : Type 0} {given : S → List M} {number : S → ℕ} {key : P → List (List M)} {about : P → ℕ → About M} {rows : List (List S)} {boxes : List P}
@@ -38,7 +35,7 @@ module _ {S P M : Type 0} {given : S → List M} {number : S → ℕ} {key : P �
         arith,
         few,
         ap (λ n. length (delivered (key box) n)) (sym numbered) ∙ ap length all,
-        front_within (given sender.0) (sent sender.0) (fronts sender.0),
+        front_few (given sender.0) (sent sender.0) (fronts sender.0),
         ap length (mapped_or sent senders place sender.0 [] sender.1),
       )
 

@@ -1,11 +1,11 @@
 -- A session sends no more requests than its lines may send.
-use Rattle.std.specs.Prelude.{◌≡◌, ◌≢◌, ◌⊎◌, ℕ, zero, suc, ◌+◌, ◌-◌, ◌<◌, ◌≤◌, is_some, ◌||◌, List, [], ◌∷◌, ◌++◌, drop, length, map, slice_index_or, sum_by, option_map, unwrap_or, Option, Some, None}
+use Rattle.std.specs.Prelude.{◌≡◌, ℕ, ◌+◌, ◌-◌, ◌<◌, ◌≤◌, is_some, ◌||◌, List, [], ◌∷◌, ◌++◌, drop, length, map, slice_index_or, sum_by, option_map, unwrap_or, Option, Some, None}
 use Rattle.std.specs.List.{range_with_len}
-use Rattle.std.proofs.Common.{◌∙◌, refl, sym, ap, arith, inl, inr, length-append}
-use Rattle.std.proofs.lemmas.Bool.Decides.{eqb_tells}
+use Rattle.std.proofs.Common.{◌∙◌, refl, sym, ap, arith, length-append}
 use Rattle.std.proofs.lemmas.List.{length-map, length-take}
-use Rattle.std.proofs.lemmas.List.Sums.{sum_by-cons}
-use Rattle.mail_contract.proofs.WovenLemmas.{from_sender_here, from_sender_there}
+use Rattle.std.proofs.lemmas.List.Sums.{sum_by-cons, sum_by-le-sum_by}
+use Rattle.mail_contract.proofs.CountsLemmas.{few_from, lists_counted}
+use Rattle.mail_contract.specs.Takes.{from_sender}
 use Rattle.placement.specs.Asked.{ask_order}
 use Rattle.session_known.specs.Lawful.{required}
 use Rattle.session_known.specs.Requests.{Sent, asked_by, puts_sent, sent_by, sent_from}
@@ -16,7 +16,6 @@ use Rattle.session_known.specs.declared.script.Level.{Level}
 use Rattle.session_known.specs.declared.script.Line.{Line}
 use Rattle.session_known.specs.declared.script.Line.TheVariants as lines
 use Rattle.store_msg.specs.Reply.{PlainReply}
-use Rattle.store_msg.specs.declared.request.Request.{Request}
 use Rattle.session_proxy.proofs.AfterLemmas.{puts_by_due}
 use Rattle.session_proxy.proofs.AskLemmas.{asks_length}
 use Rattle.session_proxy.proofs.HearingLemmas.{held_shown}
@@ -105,56 +104,13 @@ most_few table client state first lines.Begin = puts_few table client state firs
 most_few table client state first lines.Commit = puts_few table client state first lines.Commit (λ asked. asked)
 most_few table client state first lines.Abort = puts_few table client state first lines.Abort (λ asked. asked)
 
--- how many requests go to a worker, one request more
-one_more_to : (w : ℕ) (x : ℕ × Sent) (all : List (ℕ × Sent)) → ((w ≡ x.0) × (length (to_worker w (x ∷ all)) ≡ length (to_worker w all) + 1)) ⊎ ((w ≢ x.0) × (length (to_worker w (x ∷ all)) ≡ length (to_worker w all)))
-one_more_to w x all = elim (eqb_tells w x.0) [
-  | inl same ↦ let more : length (to_worker w (x ∷ all)) ≡ suc (length (to_worker w all)) = ap (λ sent. length (map request_of sent)) (from_sender_here w x all (sym same.1)) in inl (same.1, omega (arith, more))
-  | inr other ↦ inr (other.1, ap (λ sent. length (map request_of sent)) (from_sender_there w x all (λ same. other.1 (sym same))))
-]
-
--- to the workers from a number on, where it goes to none of them
-elsewhere : (n a : ℕ) (x : ℕ × Sent) (all : List (ℕ × Sent)) → x.0 < a → sum_by (λ w. length (to_worker w (x ∷ all))) (range_with_len a n) ≡ sum_by (λ w. length (to_worker w all)) (range_with_len a n)
-elsewhere zero a x all low = refl
-elsewhere (suc n) a x all low =
-    let rest = elsewhere n (a + 1) x all (omega (arith, low)) in
-    let now = sum_by-cons (λ w. length (to_worker w (x ∷ all))) a (range_with_len (a + 1) n) in
-    let before = sum_by-cons (λ w. length (to_worker w all)) a (range_with_len (a + 1) n) in
-    elim (one_more_to a x all) [
-      | inl here ↦ absurd (omega (arith, low, here.0))
-      | inr there ↦ omega (arith, rest, now, before, there.1)
-    ]
-
--- and else one more at most
-one_more_of_all : (n a : ℕ) (x : ℕ × Sent) (all : List (ℕ × Sent)) → sum_by (λ w. length (to_worker w (x ∷ all))) (range_with_len a n) ≤ sum_by (λ w. length (to_worker w all)) (range_with_len a n) + 1
-one_more_of_all zero a x all = omega arith
-one_more_of_all (suc n) a x all =
-    let now = sum_by-cons (λ w. length (to_worker w (x ∷ all))) a (range_with_len (a + 1) n) in
-    let before = sum_by-cons (λ w. length (to_worker w all)) a (range_with_len (a + 1) n) in
-    elim (one_more_to a x all) [
-      | inl here ↦ let rest = elsewhere n (a + 1) x all (omega (arith, here.0)) in omega (arith, rest, now, before, here.1)
-      | inr there ↦ let rest = one_more_of_all n (a + 1) x all in omega (arith, rest, now, before, there.1)
-    ]
-
--- nothing goes to any
-none_to_all : (n a : ℕ) → sum_by (λ w. length (to_worker w [])) (range_with_len a n) ≡ 0
-none_to_all zero a = refl
-none_to_all (suc n) a = let now = sum_by-cons (λ w. length (to_worker w [])) a (range_with_len (a + 1) n) in let rest = none_to_all n (a + 1) in omega (arith, now, rest)
-
 -- no more requests go to some workers than there are
 few_to_all : (n : ℕ) (all : List (ℕ × Sent)) → sum_by (λ w. length (to_worker w all)) (range_with_len 1 n) ≤ length all
-few_to_all n [] = let none = none_to_all n 1 in omega (arith, none)
-few_to_all n (x ∷ all) = let one = one_more_of_all n 1 x all in let rest = few_to_all n all in omega (arith, one, rest)
-
--- what was sent to each worker, counted
-sent_counted : (sent : List (List Request)) (k : ℕ) (count : ℕ → ℕ) → ((i : ℕ) → i < length sent → length (slice_index_or sent i []) ≡ count (k + i)) → sum_by length sent ≡ sum_by count (range_with_len k (length sent))
-sent_counted [] k count is = refl
-sent_counted (first ∷ sent) k count is =
-    let rest = sent_counted sent (k + 1) count (λ i low. let next : k + suc i ≡ k + 1 + i = omega arith in is (suc i) (omega (arith, low)) ∙ ap count next) in
-    let now = sum_by-cons length first sent in
-    let before = sum_by-cons count k (range_with_len (k + 1) (length sent)) in
-    let none_more : k + 0 ≡ k = omega arith in
-    let here = is 0 (omega arith) ∙ ap count none_more in
-    omega (arith, rest, now, before, here)
+few_to_all n all =
+    let each : sum_by (λ w. length (to_worker w all)) (range_with_len 1 n) ≤ sum_by (λ w. length (from_sender w all)) (range_with_len 1 n) =
+    sum_by-le-sum_by (λ w. length (to_worker w all)) (λ w. length (from_sender w all)) (range_with_len 1 n) (λ w. omega (arith, length-map (from_sender w all) request_of))
+    in
+    omega (arith, each, few_from n 1 all)
 
 -- the open line sends no more than it may, and the lines after it nothing yet
 open_few : (course : Course) (option : Option Line) → open_line course ≡ option
@@ -181,7 +137,7 @@ has_sent_few lists share =
     let each : (i : ℕ) → i < length lists.sent → length (slice_index_or lists.sent i []) ≡ length (to_worker (1 + i) all) = λ i low.
     let place : 1 + i - 1 ≡ i = omega arith in
     ap length (sym (ap (λ i. slice_index_or lists.sent i []) place) ∙ share.sent (1 + i) (omega arith, omega (arith, low))) in
-    let counted = sent_counted lists.sent 1 (λ w. length (to_worker w all)) each in
+    let counted = lists_counted lists.sent 1 (λ w. length (to_worker w all)) each in
     let few = few_to_all (length lists.sent) all in
     let both = length-append answered (open_sent course) in
     let lines = lines_send course.table course.client start 1 course.lines course.answers share.replies share.answered in

@@ -1,22 +1,12 @@
--- Sums over numbers, and the messages of each sender counted.
+-- Messages counted, all of them and those of each sender.
 use Rattle.std.specs.Prelude.{◌≡◌, ◌≢◌, ◌⊎◌, ℕ, zero, suc, ◌+◌, ◌<◌, ◌≤◌, List, [], ◌∷◌, All, length, slice_index_or, sum_by}
 use Rattle.std.specs.List.{range_with_len}
 use Rattle.std.proofs.Common.{◌∙◌, refl, ap, arith, inl, inr}
 use Rattle.std.proofs.lemmas.Bool.Decides.{eqb_tells}
 use Rattle.std.proofs.lemmas.List.Elements.{All-head, All-tail}
-use Rattle.std.proofs.lemmas.List.Sums.{get_or-le-sum_by, sum_by-cons}
+use Rattle.std.proofs.lemmas.List.Sums.{get_or-le-sum_by, sum_by-cons, sum_by-le-sum_by}
 use Rattle.mail_contract.proofs.WovenLemmas.{from_sender_here, from_sender_there}
 use Rattle.mail_contract.specs.Takes.{from_sender}
-
--- a sum over some numbers is at most another where each term is
-pub sums_le : (f g : ℕ → ℕ) (n a : ℕ) → ((w : ℕ) → a ≤ w → w < a + n → f w ≤ g w) → sum_by f (range_with_len a n) ≤ sum_by g (range_with_len a n)
-sums_le f g zero a each = omega arith
-sums_le f g (suc n) a each =
-    let rest = sums_le f g n (a + 1) (λ w from to. each w (omega (arith, from)) (omega (arith, to))) in
-    let here = each a (omega arith) (omega arith) in
-    let of_f = sum_by-cons f a (range_with_len (a + 1) n) in
-    let of_g = sum_by-cons g a (range_with_len (a + 1) n) in
-    omega (arith, rest, here, of_f, of_g)
 
 -- the items of lists, counted list by list
 pub lists_counted : {X : Type 0} (lists : List (List X)) (a : ℕ) (count : ℕ → ℕ) → ((i : ℕ) → i < length lists → length (slice_index_or lists i []) ≡ count (a + i))
@@ -40,7 +30,7 @@ none_from M (suc n) a =
 
 module _ {M : Type 0} where
   -- how many messages there are of each of some senders
-  abbrev from_some : List (ℕ × M) → ℕ → ℕ → ℕ
+  abbrev pub from_some : List (ℕ × M) → ℕ → ℕ → ℕ
   from_some messages a n = sum_by (λ w. length (from_sender w messages)) (range_with_len a n)
 
   -- a message is of the sender, or of another
@@ -80,6 +70,22 @@ module _ {M : Type 0} where
             omega (arith, rest, now, before, there.1)
       ]
 
+  -- and one at most
+  one_at_most : (n a : ℕ) (message : ℕ × M) (messages : List (ℕ × M)) → from_some (message ∷ messages) a n ≤ from_some messages a n + 1
+  one_at_most zero a message messages = omega arith
+  one_at_most (suc n) a message messages =
+      let now = sum_by-cons (λ w. length (from_sender w (message ∷ messages))) a (range_with_len (a + 1) n) in
+      let before = sum_by-cons (λ w. length (from_sender w messages)) a (range_with_len (a + 1) n) in
+      elim (of_sender_or_not a message messages) [
+        | inl here ↦ let rest = of_lower n (a + 1) message messages (omega (arith, here.0)) in omega (arith, rest, now, before, here.1)
+        | inr there ↦ let rest = one_at_most n (a + 1) message messages in omega (arith, rest, now, before, there.1)
+      ]
+
+  -- no more are of some senders than there are
+  pub few_from : (n a : ℕ) (messages : List (ℕ × M)) → from_some messages a n ≤ length messages
+  few_from n a [] = let none = none_from M n a in omega (arith, none)
+  few_from n a (message ∷ messages) = let one = one_at_most n a message messages in let rest = few_from n a messages in omega (arith, one, rest)
+
   -- where all are of these senders, they count for all messages
   pub from_all : (n a : ℕ) (messages : List (ℕ × M)) → All (λ message. (a ≤ message.0) × (message.0 < a + n)) messages → from_some messages a n ≡ length messages
   from_all n a [] are = none_from M n a
@@ -96,5 +102,5 @@ module _ {M : Type 0} where
       let most : ℕ = sum_by sender before + sum_by sender now + 1 in
       let of_before = from_all most 0 before (λ k d low. let at = get_or-le-sum_by sender before k d low in (omega arith, omega (arith, at))) in
       let of_now = from_all most 0 now (λ k d low. let at = get_or-le-sum_by sender now k d low in (omega arith, omega (arith, at))) in
-      let sums = sums_le (λ w. length (from_sender w before)) (λ w. length (from_sender w now)) most 0 (λ w from to. each w) in
+      let sums = sum_by-le-sum_by (λ w. length (from_sender w before)) (λ w. length (from_sender w now)) (range_with_len 0 most) each in
       omega (arith, of_before, of_now, sums)
