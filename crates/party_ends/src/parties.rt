@@ -1,7 +1,6 @@
 //! All parties of a run, before their first step.
 ghost use Rattle.std.specs.Prelude.{◌≡◌, ◌<◌, All, length, map, IfOk, None};
 ghost use Rattle.party_ends.specs.Parties.{AreMadeOf, AreUnusedOfSession, AreUnusedOfWorker, IsNewSession, IsNewWorker};
-ghost use Rattle.party_run.specs.Running.{AreRunning};
 ghost use Rattle.party_run.specs.Session.{proxy_of};
 ghost use Rattle.placement.specs.Config.{placed};
 ghost use Rattle.session_known.specs.Script.{IsValidScript};
@@ -9,7 +8,7 @@ ghost use Rattle.session_known.specs.Script.{IsValidScript};
 use crate::{MakesGossip, MakesMail, all_ends};
 use lattice_laws::{Items, NoMemory};
 use mail_contract::{GossipRx, Rx, Tx};
-use party_run::{PartiesOver, SessionOver};
+use party_run::{PartiesOver, Runs, SessionOver};
 use placement::Placement;
 use session_known::{Line, Script};
 use std::alloc::Global;
@@ -156,12 +155,8 @@ pub fn new_parties<
         + MakesGossip<Batch, Mailbox = G>,
 >(post: &P, alloc: Global, script: &Script) -> Result<PartiesOver<Q, T, O, G, S, R>, NoMemory>
     requires { IsValidScript script.now (placed script.now.config) }
-    ensures running { IfOk result (λ parties. AreRunning
-        S.key S.number S.sent T.key T.number O.key O.number
-        Q.key Q.pairs Q.senders Q.received Q.about
-        G.key G.pairs G.senders G.got G.about
-        R.key R.pairs R.senders R.received R.about
-        script.now parties.workers.items (map proxy_of parties.sessions.items)) }
+    ensures running { IfOk result (λ parties. ⟦<PartiesOver<Q, T, O, G, S, R> as Runs>⟧.are_running
+        script.now parties) }
     ensures none_kept { IfOk result (λ parties.
         All (λ worker. worker.state.kept ≡ None) parties.workers.items) }
 {

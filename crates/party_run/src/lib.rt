@@ -13,33 +13,8 @@
 //! and `session_causal`, and on `drain_ledger`, whose words for ends of one making it uses.
 #![tactic(auto)]
 
+mod parties;
 mod session;
 
-use mail_contract::{GossipRx, Rx, Tx};
+pub use parties::{Parties, PartiesOver, Runs};
 pub use session::{Session, SessionOver};
-use store_msg::{Batch, Mail, Reply, Request};
-use worker_core::WorkerOver;
-
-/// The parties of a run over the ends that they hold: its workers and its sessions, both in ascending order.
-#[derive(Drop)]
-pub struct PartiesOver<
-    Q: Rx<Request>,
-    T: Tx<Reply>,
-    O: Tx<Batch>,
-    G: GossipRx<Batch, From = O>,
-    S: Tx<Request>,
-    R: Rx<Reply>,
-> {
-    pub workers: Vec<WorkerOver<Q, T, O, G>>,
-    pub sessions: Vec<SessionOver<S, R>>,
-}
-
-/// The parties of a run over one kind of mail.
-pub type Parties<P> = PartiesOver<
-    <P as Mail>::ReqRx,
-    <P as Mail>::RepTx,
-    <P as Mail>::GosTx,
-    <P as Mail>::GosRx,
-    <P as Mail>::ReqTx,
-    <P as Mail>::RepRx,
->;

@@ -1,13 +1,12 @@
 //! The sessions of a run whose lines are all answered hand over what they have.
 ghost use Rattle.std.specs.Prelude.{◌≡◌, All, IfOk, map};
 ghost use Rattle.drain_ledger.specs.Handed.{AreOfOneRun};
-ghost use Rattle.party_run.specs.Running.{AreRunning};
 ghost use Rattle.party_run.specs.Session.{proxy_of};
 ghost use Rattle.party_steps.specs.Polling.{IsAllAnswered, left_by};
 
 use lattice_laws::{Items, NoMemory};
 use mail_contract::{GossipRx, Rx, Tx};
-use party_run::{PartiesOver, SessionOver};
+use party_run::{PartiesOver, Runs, SessionOver};
 use session_known::{Answer, Script};
 use std::alloc::Global;
 use store_msg::{Batch, Reply, Request, SessionEndsOver};
@@ -32,11 +31,8 @@ pub fn finish_run<
     ),
     NoMemory,
 >
-    requires running { AreRunning S.key S.number S.sent T.key T.number O.key O.number
-        Q.key Q.pairs Q.senders Q.received Q.about
-        G.key G.pairs G.senders G.got G.about
-        R.key R.pairs R.senders R.received R.about
-        script.now parties.workers.items (map proxy_of parties.sessions.items) }
+    requires running { ⟦<PartiesOver<Q, T, O, G, S, R> as Runs>⟧.are_running
+        script.now parties }
     requires ended { All IsAllAnswered (map proxy_of parties.sessions.items) }
     ensures workers { IfOk result (λ handed. handed.0 ≡ parties.workers) }
     ensures run { IfOk result (λ handed. AreOfOneRun

@@ -1,6 +1,5 @@
 //! One of the parties of a run takes several steps.
 ghost use Rattle.std.specs.Prelude.{◌≡◌, ◌≢◌, ◌<◌, ℕ, IfOk, IsTrue, length, map, slice_get, None, OnOk, Some};
-ghost use Rattle.party_run.specs.Running.{GoesOn};
 ghost use Rattle.party_run.specs.Session.{proxy_of};
 ghost use Rattle.party_steps.specs.Polling.{IsAllAnswered};
 ghost use Rattle.party_steps.specs.Progress.{HasMovedOn, HasServed};
@@ -12,7 +11,7 @@ ghost use Rattle.worker_core.specs.State as workers;
 use crate::{Polled, poll_often, turn_often};
 use lattice_laws::NoMemory;
 use mail_contract::{GossipRx, Rx, Tx};
-use party_run::PartiesOver;
+use party_run::{PartiesOver, Runs};
 use store_msg::{Batch, Reply, Request};
 
 /// Turns the worker at a place until it answers Idle or Blocked, at most so many times.
@@ -34,12 +33,8 @@ pub fn turn_worker<
         → was.state.kept ≡ None → OnOk result (HasServed
         (workers.lists_of Q.received T.sent O.sent G.got was)
         (workers.lists_of Q.received T.sent O.sent G.got now)) }
-    ensures goes_on { GoesOn S.key S.number S.sent T.key T.number O.key O.number
-        Q.key Q.pairs Q.senders Q.received Q.about
-        G.key G.pairs G.senders G.got G.about
-        R.key R.pairs R.senders R.received R.about
-        parties.old.workers.items parties.new.workers.items
-        (map proxy_of parties.old.sessions.items) (map proxy_of parties.new.sessions.items) }
+    ensures goes_on { ⟦<PartiesOver<Q, T, O, G, S, R> as Runs>⟧.go_on
+        parties.old parties.new }
 {
     turn_often(&mut parties.workers[place], most)
 }
@@ -70,12 +65,8 @@ pub fn poll_session<
         → Share (sessions.lists_of S.sent R.received was)
         → IfOk result (λ polled. HasMovedOn polled
         (sessions.lists_of S.sent R.received was) (sessions.lists_of S.sent R.received now)) }
-    ensures goes_on { GoesOn S.key S.number S.sent T.key T.number O.key O.number
-        Q.key Q.pairs Q.senders Q.received Q.about
-        G.key G.pairs G.senders G.got G.about
-        R.key R.pairs R.senders R.received R.about
-        parties.old.workers.items parties.new.workers.items
-        (map proxy_of parties.old.sessions.items) (map proxy_of parties.new.sessions.items) }
+    ensures goes_on { ⟦<PartiesOver<Q, T, O, G, S, R> as Runs>⟧.go_on
+        parties.old parties.new }
 {
     poll_often(&mut parties.sessions[place], most)
 }

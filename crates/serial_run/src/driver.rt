@@ -2,7 +2,6 @@
 ghost use Rattle.std.specs.Prelude.{◌≡◌, ◌+◌, ◌≤◌, ◌&&◌, ◌||◌, All, if◌then◌else◌, IfOk, IsTrue, map, OnOk};
 ghost use Rattle.drain_ledger.specs.Drained.{IsDrained, ledger_in};
 ghost use Rattle.drain_turns.specs.Ready.{NeverFull};
-ghost use Rattle.party_run.specs.Running.{AreRunning, GoesOn};
 ghost use Rattle.party_run.specs.Session.{proxy_of};
 ghost use Rattle.party_steps.specs.Polling.{IsAllAnswered};
 ghost use Rattle.placement.specs.Config.{placed};
@@ -14,7 +13,7 @@ use drain_ledger::{DrainedOver, drain};
 use lattice_laws::NoMemory;
 use mail_contract::{GossipRx, Rx, Tx};
 use party_ends::{MakesGossip, MakesMail, new_parties};
-use party_run::PartiesOver;
+use party_run::{PartiesOver, Runs};
 use party_steps::{Polled, finish_run, poll_session, turn_worker};
 use session_known::Script;
 use std::alloc::Global;
@@ -67,18 +66,11 @@ fn run_lines<
     R: Rx<Reply, From = T>,
     P: Carries<S, T, O, Q, G, R>,
 >(post: &P, script: &Script, parties: &mut PartiesOver<Q, T, O, G, S, R>) -> Result<(), NoMemory>
-    requires running { AreRunning S.key S.number S.sent T.key T.number O.key O.number
-        Q.key Q.pairs Q.senders Q.received Q.about
-        G.key G.pairs G.senders G.got G.about
-        R.key R.pairs R.senders R.received R.about
-        script.now parties.old.workers.items (map proxy_of parties.old.sessions.items) }
+    requires running { ⟦<PartiesOver<Q, T, O, G, S, R> as Runs>⟧.are_running
+        script.now parties.old }
     requires none_kept { NoneKept parties.old.workers.items }
-    ensures goes_on { OnOk result (GoesOn S.key S.number S.sent T.key T.number O.key O.number
-        Q.key Q.pairs Q.senders Q.received Q.about
-        G.key G.pairs G.senders G.got G.about
-        R.key R.pairs R.senders R.received R.about
-        parties.old.workers.items parties.new.workers.items
-        (map proxy_of parties.old.sessions.items) (map proxy_of parties.new.sessions.items)) }
+    ensures goes_on { OnOk result (⟦<PartiesOver<Q, T, O, G, S, R> as Runs>⟧.go_on
+        parties.old parties.new) }
     ensures none_kept { OnOk result (NoneKept parties.new.workers.items) }
     ensures ended { OnOk result (All IsAllAnswered (map proxy_of parties.new.sessions.items)) }
 {
@@ -107,18 +99,11 @@ fn sweep<
     script: &Script,
     parties: &mut PartiesOver<Q, T, O, G, S, R>,
 ) -> Result<Polled, NoMemory>
-    requires running { AreRunning S.key S.number S.sent T.key T.number O.key O.number
-        Q.key Q.pairs Q.senders Q.received Q.about
-        G.key G.pairs G.senders G.got G.about
-        R.key R.pairs R.senders R.received R.about
-        script.now parties.old.workers.items (map proxy_of parties.old.sessions.items) }
+    requires running { ⟦<PartiesOver<Q, T, O, G, S, R> as Runs>⟧.are_running
+        script.now parties.old }
     requires none_kept { NoneKept parties.old.workers.items }
-    ensures goes_on { OnOk result (GoesOn S.key S.number S.sent T.key T.number O.key O.number
-        Q.key Q.pairs Q.senders Q.received Q.about
-        G.key G.pairs G.senders G.got G.about
-        R.key R.pairs R.senders R.received R.about
-        parties.old.workers.items parties.new.workers.items
-        (map proxy_of parties.old.sessions.items) (map proxy_of parties.new.sessions.items)) }
+    ensures goes_on { OnOk result (⟦<PartiesOver<Q, T, O, G, S, R> as Runs>⟧.go_on
+        parties.old parties.new) }
     ensures none_kept { OnOk result (NoneKept parties.new.workers.items) }
     ensures left { IfOk result (λ polled. left_to_do S.sent T.sent O.sent Q.received G.got R.received
         parties.new.workers.items (map proxy_of parties.new.sessions.items)
@@ -143,18 +128,11 @@ fn turn_workers<
     R: Rx<Reply, From = T>,
     P: Carries<S, T, O, Q, G, R>,
 >(post: &P, script: &Script, parties: &mut PartiesOver<Q, T, O, G, S, R>) -> Result<(), NoMemory>
-    requires running { AreRunning S.key S.number S.sent T.key T.number O.key O.number
-        Q.key Q.pairs Q.senders Q.received Q.about
-        G.key G.pairs G.senders G.got G.about
-        R.key R.pairs R.senders R.received R.about
-        script.now parties.old.workers.items (map proxy_of parties.old.sessions.items) }
+    requires running { ⟦<PartiesOver<Q, T, O, G, S, R> as Runs>⟧.are_running
+        script.now parties.old }
     requires none_kept { NoneKept parties.old.workers.items }
-    ensures goes_on { OnOk result (GoesOn S.key S.number S.sent T.key T.number O.key O.number
-        Q.key Q.pairs Q.senders Q.received Q.about
-        G.key G.pairs G.senders G.got G.about
-        R.key R.pairs R.senders R.received R.about
-        parties.old.workers.items parties.new.workers.items
-        (map proxy_of parties.old.sessions.items) (map proxy_of parties.new.sessions.items)) }
+    ensures goes_on { OnOk result (⟦<PartiesOver<Q, T, O, G, S, R> as Runs>⟧.go_on
+        parties.old parties.new) }
     ensures none_kept { OnOk result (NoneKept parties.new.workers.items) }
     ensures left { OnOk result (left_to_do S.sent T.sent O.sent Q.received G.got R.received
         parties.new.workers.items (map proxy_of parties.new.sessions.items)
@@ -185,18 +163,11 @@ fn poll_sessions<
     script: &Script,
     parties: &mut PartiesOver<Q, T, O, G, S, R>,
 ) -> Result<Polled, NoMemory>
-    requires running { AreRunning S.key S.number S.sent T.key T.number O.key O.number
-        Q.key Q.pairs Q.senders Q.received Q.about
-        G.key G.pairs G.senders G.got G.about
-        R.key R.pairs R.senders R.received R.about
-        script.now parties.old.workers.items (map proxy_of parties.old.sessions.items) }
+    requires running { ⟦<PartiesOver<Q, T, O, G, S, R> as Runs>⟧.are_running
+        script.now parties.old }
     requires none_kept { NoneKept parties.old.workers.items }
-    ensures goes_on { OnOk result (GoesOn S.key S.number S.sent T.key T.number O.key O.number
-        Q.key Q.pairs Q.senders Q.received Q.about
-        G.key G.pairs G.senders G.got G.about
-        R.key R.pairs R.senders R.received R.about
-        parties.old.workers.items parties.new.workers.items
-        (map proxy_of parties.old.sessions.items) (map proxy_of parties.new.sessions.items)) }
+    ensures goes_on { OnOk result (⟦<PartiesOver<Q, T, O, G, S, R> as Runs>⟧.go_on
+        parties.old parties.new) }
     ensures none_kept { OnOk result (NoneKept parties.new.workers.items) }
     ensures left { IfOk result (λ polled. left_to_do S.sent T.sent O.sent Q.received G.got R.received
         parties.new.workers.items (map proxy_of parties.new.sessions.items)
