@@ -1,5 +1,5 @@
 //! The drain, step by step.
-ghost use Rattle.std.specs.Prelude.{◌≡◌, ◌⊎◌, ℕ, length, slice_get, IfOk, IsTrue, Some};
+ghost use Rattle.std.specs.Prelude.{◌≡◌, ◌⊎◌, ℕ, length, slice_get, IfOk, IsFalse, IsTrue, Some};
 ghost use Rattle.drain_ledger.specs.Drained.{AreFrontsSound, GoesOn, IsDrained, ledger_in};
 ghost use Rattle.drain_ledger.specs.Handed.{AreFrontsOfSent, AreOfOneRun};
 ghost use Rattle.drain_turns.specs.Ready.{FreesPlaces, NeverFull};
@@ -8,7 +8,7 @@ ghost use Rattle.worker_core.specs.State.{PlainWorker};
 
 use crate::finals::final_cells;
 use drain_steps::{attest_all, hear_all, part_all, seal_all, settle_all};
-use drain_turns::turn_all;
+use drain_turns::{TurnsAll, turn_all};
 use lattice_laws::{Items, NoMemory};
 use mail_contract::{GossipRx, Rx, Tx};
 use session_known::{Answer, Report, Script};
@@ -26,6 +26,10 @@ pub struct DrainedOver<Q: Rx<Request>, G: GossipRx<Batch>, R: Rx<Reply>> {
 
 /// Drains a run: the workers take what the ended sessions sent them and tell one another of it, until
 /// nothing is left; then the final cells are written down. After `NoMemory` all is dropped.
+///
+/// It returns where steps are repeated by measure ([`ByMeasure`](drain_steps::ByMeasure)), which needs mail that tells
+/// how much may still come and in which senders find places. Over other mail it may wait
+/// ([`Waiting`](drain_steps::Waiting)), and what it promises holds if it returns.
 pub fn drain<
     S: Tx<Request>,
     T: Tx<Reply>,
@@ -33,13 +37,15 @@ pub fn drain<
     Q: Rx<Request, From = S>,
     G: GossipRx<Batch, From = O>,
     R: Rx<Reply, From = T>,
+    P: TurnsAll<T, O, Q, G>,
 >(
+    by: &P,
     script: &Script,
     workers: Vec<WorkerOver<Q, T, O, G>>,
     sessions: Vec<(Items<Answer>, SessionEndsOver<S, R>)>,
 ) -> Result<DrainedOver<Q, G, R>, NoMemory>
-    requires finite { IsTrue G.keeps.finite }
-    requires room { NeverFull T O T.fulls O.fulls
+    requires finite { IsFalse P.waits → IsTrue G.keeps.finite }
+    requires room { IsFalse P.waits → NeverFull T O T.fulls O.fulls
         ⊎ (FreesPlaces G.keeps × AreFrontsOfSent T.sent R.received workers.items sessions.items) }
     requires run { AreOfOneRun S.key S.number S.sent T.key T.number O.key O.number
         Q.key Q.pairs Q.senders Q.received Q.about
@@ -65,11 +71,11 @@ pub fn drain<
     let mut workers = workers;
     let (answers, requests, mut boxes) = part_all(alloc, sessions)?;
     settle_all::<Request, WorkerOver<Q, T, O, G>>(&mut workers, requests, false);
-    turn_all(&mut workers)?;
+    turn_all(by, &mut workers)?;
     attest_all(&workers);
     let (mut sealed, replies, gossip) = seal_all(alloc, workers)?;
     settle_all::<Batch, SealedOver<Q, G>>(&mut sealed, gossip, true);
-    hear_all(&mut sealed)?;
+    hear_all(by, &mut sealed)?;
     settle_all::<Reply, R>(&mut boxes, replies, false);
     let keys = script.config.keys.as_slice().len() as u16;
     let finals = final_cells(alloc, keys, &sealed)?;

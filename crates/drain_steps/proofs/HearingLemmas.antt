@@ -3,15 +3,17 @@ use Rattle.std.specs.Prelude.{◌≡◌, ℕ, Bool, true, false, IsTrue, List, i
 use Rattle.std.proofs.Common.{◌∙◌, refl, sym, ap, subst}
 use Rattle.std.proofs.lemmas.Bool.{false≢true}
 use Rattle.lattice_laws.specs.declared.lattice.NoMemory.{NoMemory}
-use Rattle.mail_contract.specs.Boxes.{MayHandOut, WeakBox}
+use Rattle.mail_contract.specs.Boxes.{FindsNothingWeak, MayHandOut, WeakBox}
 use Rattle.mail_contract.specs.Parts.{Parts}
 use Rattle.mail_contract.specs.Standing.{AreMet}
 use Rattle.mail_contract.specs.Takes.{Answers}
 use Rattle.merge_world.specs.Effects.{cells_at}
 use Rattle.merge_world.specs.declared.private_map.KeyCells.{KeyCells}
-use Rattle.worker_core.specs.Sealed.{HearsOne, PlainSealed}
+use Rattle.store_msg.specs.declared.request.Request.{Request}
+use Rattle.worker_core.specs.Sealed.{HearsOne, HoldsSealed, PlainSealed}
 use Rattle.worker_core.specs.State.{Entries}
 use Rattle.worker_core.proofs.MapLemmas.{holds_heard}
+use Rattle.drain_steps.specs.Hearing.{AreGotInRange, HasHeard}
 use Rattle.drain_steps.proofs.HandedOutLemmas.{KeepsWeak, hand_out_keeps, weak_still, weak_through}
 
 -- What it heard before it still heard, of the same senders, and what is known of these stays; and it has cells of the same keys.
@@ -61,3 +63,21 @@ module _ {Q G GK : Type 0} (key : G → GK) (senders : GK → ℕ) (box : G → 
   pub still_met : (start now : PlainSealed Q G) → Hears start now → AreMet (senders (key start.gossip_in)) (box start.gossip_in).about → AreMet (senders (key now.gossip_in)) (box now.gossip_in).about
   still_met start now on met =
       subst (λ its. AreMet (senders its) (box now.gossip_in).about) (sym on.key_is) (λ sender low high. subst IsTrue (sym (on.box_keeps.stand sender).1) (met sender low high))
+
+  -- once nothing is found it has heard all that its settled senders told
+  pub heard_out : (received : Q → List (ℕ × Request)) (start now : PlainSealed Q G) → Hears start now → HoldsSealed received (λ its. (box its).got) now
+      → (now.kept ≡ None) × FindsNothingWeak keeps (box now.gossip_in) → HasHeard received key senders (λ its. (box its).got) (λ its. (box its).about) keeps.complete start now
+  heard_out received start now on holds nothing = record {
+    me = on.me;
+    kinds = on.kinds;
+    requests = on.requests;
+    keys = on.keys;
+    holds = holds;
+    none_kept = nothing.0;
+    key_is = on.key_is;
+    stand = on.box_keeps.stand;
+    got_more = on.box_keeps.got_more;
+    got_in_range = λ are. subst (λ its. AreGotInRange (senders its) (box now.gossip_in).got) (sym on.key_is) (on.box_keeps.got_in_range are);
+    of_sent = on.box_keeps.of_sent;
+    all = nothing.1.none;
+  }

@@ -12,11 +12,13 @@
 mod attesting;
 mod hearing;
 mod parting;
+mod repeating;
 mod sealing;
 mod settling;
 
 pub use attesting::attest_all;
-pub use hearing::hear_all;
+pub use hearing::{HearsOut, hear_all};
 pub use parting::part_all;
+pub use repeating::{ByMeasure, Repeats, Waiting};
 pub use sealing::seal_all;
 pub use settling::{TakesIn, settle_all};

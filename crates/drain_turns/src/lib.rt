@@ -12,5 +12,7 @@
 
 mod passes;
 mod turning;
+mod waiting;
 
-pub use passes::turn_all;
+pub use passes::{TurnsAll, turn_all};
+pub use turning::TurnsOut;

@@ -1,11 +1,12 @@
 //! The workers take their turns, one after another, until nothing is left to do.
-ghost use Rattle.std.specs.Prelude.{◌≡◌, ◌≢◌, ◌⊎◌, ◌<◌, ◌≤◌, ◌+◌, ℕ, false, if◌then◌else◌, length, slice_get, IfOk, IsTrue, OnOk, Some};
+ghost use Rattle.std.specs.Prelude.{◌≡◌, ◌≢◌, ◌⊎◌, ◌<◌, ◌≤◌, ◌+◌, ℕ, false, if◌then◌else◌, length, slice_get, IfOk, IsFalse, IsTrue, OnOk, Some};
 ghost use Rattle.drain_turns.specs.Ready.{AreReady, AreShown, FindPlaces, FreesPlaces, HasHeard, HaveGoneOn, HaveHeard, HaveNoneLeft, Knows, MatesHeard, NeverFull, StandsOrIsShown, Steady, keys_left, left_to, steadies};
 ghost use Rattle.drain_turns.specs.Turning.{HasGoneOn, IsDone};
 ghost use Rattle.mail_contract.specs.Boxes.{box_of};
 ghost use Rattle.worker_core.specs.State.{PlainWorker, dirty};
 
-use crate::turning::turn_out;
+use crate::TurnsOut;
+use drain_steps::ByMeasure;
 use lattice_laws::NoMemory;
 use mail_contract::{GossipRx, Rx, Tx};
 use store_msg::{Batch, Reply, Request};
@@ -13,13 +14,17 @@ use worker_core::WorkerOver;
 
 /// Turns the workers in passes until each was Idle in one. In each pass every worker, ascending, is held
 /// beside each of its mates and then turned until it answers Idle or Blocked.
-pub fn turn_all<T: Tx<Reply>, O: Tx<Batch>, Q: Rx<Request>, G: GossipRx<Batch, From = O>>(
-    workers: &mut Vec<WorkerOver<Q, T, O, G>>,
-) -> Result<(), NoMemory>
-    requires finite { IsTrue G.keeps.finite }
+pub fn turn_all<
+    T: Tx<Reply>,
+    O: Tx<Batch>,
+    Q: Rx<Request>,
+    G: GossipRx<Batch, From = O>,
+    P: TurnsAll<T, O, Q, G>,
+>(by: &P, workers: &mut Vec<WorkerOver<Q, T, O, G>>) -> Result<(), NoMemory>
+    requires finite { IsFalse P.waits → IsTrue G.keeps.finite }
     requires ready { AreReady Q.keeps.complete (λ its. Q.senders (Q.key its)) Q.received Q.about
         O.key O.number G.key G.pairs G.senders G.about workers.old.items }
-    requires room { NeverFull T O T.fulls O.fulls
+    requires room { IsFalse P.waits → NeverFull T O T.fulls O.fulls
         ⊎ FindPlaces G.keeps Q.about T.sent (λ its. Q.senders (Q.key its)) workers.old.items }
     ensures long { length workers.new.items ≡ length workers.old.items }
     ensures gone_on { (place : ℕ) (before now : PlainWorker Q T O G)
@@ -37,37 +42,51 @@ pub fn turn_all<T: Tx<Reply>, O: Tx<Batch>, Q: Rx<Request>, G: GossipRx<Batch, F
         → slice_get workers.new.items place ≡ Some now
         → IsDone Q.keeps (box_of Q.received Q.answers Q.about) now) }
 {
-    turn_passes(workers)
+    by.turn_passes(workers)
 }
 
-/// Turns the workers in passes until each was Idle in one.
-fn turn_passes<T: Tx<Reply>, O: Tx<Batch>, Q: Rx<Request>, G: GossipRx<Batch, From = O>>(
-    workers: &mut [WorkerOver<Q, T, O, G>],
-) -> Result<(), NoMemory>
-    requires finite { IsTrue G.keeps.finite }
-    requires ready { AreReady Q.keeps.complete (λ its. Q.senders (Q.key its)) Q.received Q.about
-        O.key O.number G.key G.pairs G.senders G.about workers.old }
-    requires room { NeverFull T O T.fulls O.fulls
-        ⊎ FindPlaces G.keeps Q.about T.sent (λ its. Q.senders (Q.key its)) workers.old }
-    ensures gone_on { HaveGoneOn Q.key T.key T.number O.key O.number G.key
-        Q.keeps.complete Q.senders Q.received Q.about T.sent
-        G.keeps.complete G.senders G.got G.about workers.old workers.new }
-    ensures done { OnOk result ((place : ℕ) (now : PlainWorker Q T O G)
-        → slice_get workers.new place ≡ Some now
-        → IsDone Q.keeps (box_of Q.received Q.answers Q.about) now) }
-{
-    let mut idle = pass(workers)?;
-    while !idle {
-        idle = pass(workers)?;
+/// Turns all workers.
+pub trait TurnsAll<
+    T: Tx<Reply>,
+    O: Tx<Batch>,
+    Q: Rx<Request>,
+    G: GossipRx<Batch, From = O>,
+>: TurnsOut<T, O, Q, G> {
+    /// Turns the workers in passes until each was Idle in one.
+    fn turn_passes(&self, workers: &mut [WorkerOver<Q, T, O, G>]) -> Result<(), NoMemory>
+        requires finite { IsFalse Self.waits → IsTrue G.keeps.finite }
+        requires ready { AreReady Q.keeps.complete (λ its. Q.senders (Q.key its)) Q.received Q.about
+            O.key O.number G.key G.pairs G.senders G.about workers.old }
+        requires room { IsFalse Self.waits → NeverFull T O T.fulls O.fulls
+            ⊎ FindPlaces G.keeps Q.about T.sent (λ its. Q.senders (Q.key its)) workers.old }
+        ensures gone_on { HaveGoneOn Q.key T.key T.number O.key O.number G.key
+            Q.keeps.complete Q.senders Q.received Q.about T.sent
+            G.keeps.complete G.senders G.got G.about workers.old workers.new }
+        ensures done { OnOk result ((place : ℕ) (now : PlainWorker Q T O G)
+            → slice_get workers.new place ≡ Some now
+            → IsDone Q.keeps (box_of Q.received Q.answers Q.about) now) };
+}
+
+impl<T: Tx<Reply>, O: Tx<Batch>, Q: Rx<Request>, G: GossipRx<Batch, From = O>> TurnsAll<T, O, Q, G>
+    for ByMeasure {
+    fn turn_passes(&self, workers: &mut [WorkerOver<Q, T, O, G>]) -> Result<(), NoMemory> {
+        let mut idle = pass(self, workers)?;
+        while !idle {
+            idle = pass(self, workers)?;
+        }
+        Ok(())
     }
-    Ok(())
 }
 
 /// Holds each worker, ascending, beside its mates and turns it. Tells whether each was Idle.
-fn pass<T: Tx<Reply>, O: Tx<Batch>, Q: Rx<Request>, G: GossipRx<Batch, From = O>>(
-    workers: &mut [WorkerOver<Q, T, O, G>],
-) -> Result<bool, NoMemory>
-    requires finite { IsTrue G.keeps.finite }
+pub(crate) fn pass<
+    T: Tx<Reply>,
+    O: Tx<Batch>,
+    Q: Rx<Request>,
+    G: GossipRx<Batch, From = O>,
+    P: TurnsOut<T, O, Q, G>,
+>(by: &P, workers: &mut [WorkerOver<Q, T, O, G>]) -> Result<bool, NoMemory>
+    requires finite { IsFalse P.waits → IsTrue G.keeps.finite }
     requires ready { AreReady Q.keeps.complete (λ its. Q.senders (Q.key its)) Q.received Q.about
         O.key O.number G.key G.pairs G.senders G.about workers.old }
     ensures gone_on { HaveGoneOn Q.key T.key T.number O.key O.number G.key
@@ -92,7 +111,7 @@ fn pass<T: Tx<Reply>, O: Tx<Batch>, Q: Rx<Request>, G: GossipRx<Batch, From = O>
 {
     let mut idle = true;
     for place in 0..workers.len() {
-        let its_idle = turn_at(workers, place)?;
+        let its_idle = turn_at(by, workers, place)?;
         idle = idle && its_idle;
     }
     Ok(idle)
@@ -100,11 +119,14 @@ fn pass<T: Tx<Reply>, O: Tx<Batch>, Q: Rx<Request>, G: GossipRx<Batch, From = O>
 
 /// Holds the worker at a place beside each of its mates and turns it until it answers Idle or Blocked. Tells
 /// whether it was Idle.
-fn turn_at<T: Tx<Reply>, O: Tx<Batch>, Q: Rx<Request>, G: GossipRx<Batch, From = O>>(
-    workers: &mut [WorkerOver<Q, T, O, G>],
-    place: usize,
-) -> Result<bool, NoMemory>
-    requires finite { IsTrue G.keeps.finite }
+fn turn_at<
+    T: Tx<Reply>,
+    O: Tx<Batch>,
+    Q: Rx<Request>,
+    G: GossipRx<Batch, From = O>,
+    P: TurnsOut<T, O, Q, G>,
+>(by: &P, workers: &mut [WorkerOver<Q, T, O, G>], place: usize) -> Result<bool, NoMemory>
+    requires finite { IsFalse P.waits → IsTrue G.keeps.finite }
     requires within { place < length workers.old }
     requires ready { AreReady Q.keeps.complete (λ its. Q.senders (Q.key its)) Q.received Q.about
         O.key O.number G.key G.pairs G.senders G.about workers.old }
@@ -139,7 +161,7 @@ fn turn_at<T: Tx<Reply>, O: Tx<Batch>, Q: Rx<Request>, G: GossipRx<Batch, From =
 {
     show_to_all(workers, place);
     let worker = &mut workers[place];
-    let idle = turn_out(worker)?;
+    let idle = by.turn_out(worker)?;
     worker.attest();
     Ok(idle)
 }

@@ -1,5 +1,5 @@
 //! A worker is turned until nothing is left to do.
-ghost use Rattle.std.specs.Prelude.{◌≡◌, ◌⊎◌, ◌+◌, ◌≤◌, false, is_some, IfOk, IsTrue, None, OnOk};
+ghost use Rattle.std.specs.Prelude.{◌≡◌, ◌⊎◌, ◌+◌, ◌≤◌, false, is_some, IfOk, IsFalse, IsTrue, None, OnOk};
 ghost use Rattle.drain_turns.specs.Stretch.{GoesOn, OnBatch, OnBlocked, OnIdle, OnRequest, RoomAfter, left_to_serve};
 ghost use Rattle.drain_turns.specs.Turning.{AreSettled, HasGoneOn, SomeBack, requests_left};
 ghost use Rattle.mail_contract.specs.Boxes.{FindsNothing, FindsNothingWeak, box_of, weak_box_of};
@@ -7,55 +7,66 @@ ghost use Rattle.mail_contract.specs.Standing.{AllStand, AreMet};
 ghost use Rattle.worker_core.specs.State.{dirty, kept_batch};
 ghost use Rattle.worker_core.specs.Turns.{OnNothing, may_come};
 
+use drain_steps::{ByMeasure, HearsOut};
 use lattice_laws::NoMemory;
 use mail_contract::{GossipRx, Rx, Tx};
 use store_msg::{Batch, Reply, Request};
 use worker_core::{Did, WorkerOver};
 
-/// Turns a worker until it answers Idle or Blocked, and tells whether it was Idle.
-pub(crate) fn turn_out<T: Tx<Reply>, O: Tx<Batch>, Q: Rx<Request>, G: GossipRx<Batch, From = O>>(
-    worker: &mut WorkerOver<Q, T, O, G>,
-) -> Result<bool, NoMemory>
-    requires finite { IsTrue G.keeps.finite }
-    requires settled { AreSettled Q.keeps.complete (Q.senders (Q.key worker.old.ends.requests))
-        (Q.received worker.old.ends.requests) (Q.about worker.old.ends.requests) }
-    requires met { AreMet (G.senders (G.key worker.old.ends.gossip_in))
-        (G.about worker.old.ends.gossip_in) }
-    ensures gone_on { HasGoneOn Q.key T.key T.number O.key O.number G.key
-        Q.keeps.complete Q.senders Q.received Q.about T.sent
-        G.keeps.complete G.senders G.got G.about worker.old worker.new }
-    ensures gossip_stand { AllStand (G.about worker.old.ends.gossip_in)
-        (G.about worker.new.ends.gossip_in) }
+/// Turns workers.
+pub trait TurnsOut<
+    T: Tx<Reply>,
+    O: Tx<Batch>,
+    Q: Rx<Request>,
+    G: GossipRx<Batch, From = O>,
+>: HearsOut<Q, G> {
+    /// Turns a worker until it answers Idle or Blocked, and tells whether it was Idle.
+    fn turn_out(&self, worker: &mut WorkerOver<Q, T, O, G>) -> Result<bool, NoMemory>
+        requires finite { IsFalse Self.waits → IsTrue G.keeps.finite }
+        requires settled { AreSettled Q.keeps.complete (Q.senders (Q.key worker.old.ends.requests))
+            (Q.received worker.old.ends.requests) (Q.about worker.old.ends.requests) }
+        requires met { AreMet (G.senders (G.key worker.old.ends.gossip_in))
+            (G.about worker.old.ends.gossip_in) }
+        ensures gone_on { HasGoneOn Q.key T.key T.number O.key O.number G.key
+            Q.keeps.complete Q.senders Q.received Q.about T.sent
+            G.keeps.complete G.senders G.got G.about worker.old worker.new }
+        ensures gossip_stand { AllStand (G.about worker.old.ends.gossip_in)
+            (G.about worker.new.ends.gossip_in) }
 
-    // What is left to do becomes no more, and no key becomes changed where no request is left.
-    ensures left { requests_left (λ its. Q.senders (Q.key its)) Q.received Q.about worker.new
-        ≤ requests_left (λ its. Q.senders (Q.key its)) Q.received Q.about worker.old }
-    ensures changed { requests_left (λ its. Q.senders (Q.key its)) Q.received Q.about worker.old ≡ 0
-        → dirty worker.new.state ≤ dirty worker.old.state }
+        // What is left to do becomes no more, and no key becomes changed where no request is left.
+        ensures left { requests_left (λ its. Q.senders (Q.key its)) Q.received Q.about worker.new
+            ≤ requests_left (λ its. Q.senders (Q.key its)) Q.received Q.about worker.old }
+        ensures changed { requests_left (λ its. Q.senders (Q.key its)) Q.received Q.about worker.old ≡ 0
+            → dirty worker.new.state ≤ dirty worker.old.state }
 
-    // What is known where it rests.
-    ensures none_kept { OnOk result (worker.new.state.kept ≡ None) }
-    ensures no_request { OnOk result (IsTrue (is_some worker.new.state.held)
-        ⊎ FindsNothing Q.keeps (box_of Q.received Q.answers Q.about worker.new.ends.requests)) }
-    ensures no_gossip { OnOk result (FindsNothingWeak G.keeps
-        (weak_box_of G.got G.answers G.about G.due G.most worker.new.ends.gossip_in)) }
-    ensures idle { IfOk result (λ idle. IsTrue idle
-        → (dirty worker.new.state ≡ 0) × (worker.new.state.held ≡ None)) }
+        // What is known where it rests.
+        ensures none_kept { OnOk result (worker.new.state.kept ≡ None) }
+        ensures no_request { OnOk result (IsTrue (is_some worker.new.state.held)
+            ⊎ FindsNothing Q.keeps (box_of Q.received Q.answers Q.about worker.new.ends.requests)) }
+        ensures no_gossip { OnOk result (FindsNothingWeak G.keeps
+            (weak_box_of G.got G.answers G.about G.due G.most worker.new.ends.gossip_in)) }
+        ensures idle { IfOk result (λ idle. IsTrue idle
+            → (dirty worker.new.state ≡ 0) × (worker.new.state.held ≡ None)) }
 
-    // Where it was Blocked: a reply is held, or a batch went out, or to some mate the first came back. And so it
-    // is only where a sender wanted for a place.
-    ensures blocked { IfOk result (λ idle. idle ≡ false
-        → requests_left (λ its. Q.senders (Q.key its)) Q.received Q.about worker.old ≡ 0
-        → IsTrue (is_some worker.new.state.held) ⊎ ((dirty worker.new.state + 1 ≤ dirty worker.old.state)
-        ⊎ SomeBack O.clear O.roomy O.unseen worker.old.ends.gossip_out.items)) }
-    ensures never_full { ((sender : T) → T.fulls sender ≡ 0) → ((sender : O) → O.fulls sender ≡ 0)
-        → IfOk result IsTrue }
-{
-    loop {
-        match turn_on(worker)? {
-            Did::Idle => return Ok(true),
-            Did::Blocked => return Ok(false),
-            _ => {}
+        // Where it was Blocked: a reply is held, or a batch went out, or to some mate the first came back. And so it
+        // is only where a sender wanted for a place.
+        ensures blocked { IfOk result (λ idle. idle ≡ false
+            → requests_left (λ its. Q.senders (Q.key its)) Q.received Q.about worker.old ≡ 0
+            → IsTrue (is_some worker.new.state.held) ⊎ ((dirty worker.new.state + 1 ≤ dirty worker.old.state)
+            ⊎ SomeBack O.clear O.roomy O.unseen worker.old.ends.gossip_out.items)) }
+        ensures never_full { ((sender : T) → T.fulls sender ≡ 0) → ((sender : O) → O.fulls sender ≡ 0)
+            → IfOk result IsTrue };
+}
+
+impl<T: Tx<Reply>, O: Tx<Batch>, Q: Rx<Request>, G: GossipRx<Batch, From = O>> TurnsOut<T, O, Q, G>
+    for ByMeasure {
+    fn turn_out(&self, worker: &mut WorkerOver<Q, T, O, G>) -> Result<bool, NoMemory> {
+        loop {
+            match turn_on(worker)? {
+                Did::Idle => return Ok(true),
+                Did::Blocked => return Ok(false),
+                _ => {}
+            }
         }
     }
 }
@@ -97,10 +108,9 @@ fn turn_on<T: Tx<Reply>, O: Tx<Batch>, Q: Rx<Request>, G: GossipRx<Batch, From =
 }
 
 /// Turns a worker once.
-fn turn_once<T: Tx<Reply>, O: Tx<Batch>, Q: Rx<Request>, G: GossipRx<Batch, From = O>>(
+pub(crate) fn turn_once<T: Tx<Reply>, O: Tx<Batch>, Q: Rx<Request>, G: GossipRx<Batch, From = O>>(
     worker: &mut WorkerOver<Q, T, O, G>,
 ) -> Result<Did, NoMemory>
-    requires finite { IsTrue G.keeps.finite }
     requires settled { AreSettled Q.keeps.complete (Q.senders (Q.key worker.old.ends.requests))
         (Q.received worker.old.ends.requests) (Q.about worker.old.ends.requests) }
     requires met { AreMet (G.senders (G.key worker.old.ends.gossip_in))
@@ -111,7 +121,7 @@ fn turn_once<T: Tx<Reply>, O: Tx<Batch>, Q: Rx<Request>, G: GossipRx<Batch, From
     ensures fewer_requests { OnRequest result
         (left_to_serve (λ its. Q.senders (Q.key its)) Q.received Q.about worker.new + 1
         ≤ left_to_serve (λ its. Q.senders (Q.key its)) Q.received Q.about worker.old) }
-    ensures fewer_batches { OnBatch result
+    ensures fewer_batches { IsTrue G.keeps.finite → OnBatch result
         (may_come (G.most worker.new.ends.gossip_in) (kept_batch worker.new.state.kept)
         + dirty worker.new.state + 1
         ≤ may_come (G.most worker.old.ends.gossip_in) (kept_batch worker.old.state.kept)

@@ -10,6 +10,7 @@ ghost use Rattle.session_known.specs.Script.{IsValidScript};
 
 use crate::Carries;
 use drain_ledger::{DrainedOver, drain};
+use drain_steps::ByMeasure;
 use lattice_laws::NoMemory;
 use mail_contract::{GossipRx, Rx, Tx};
 use party_ends::{MakesGossip, MakesMail, new_parties};
@@ -49,7 +50,7 @@ pub fn serve_with<
     let mut parties = new_parties::<S, T, O, Q, G, R, P>(post, alloc, script)?;
     run_lines(post, script, &mut parties)?;
     let (workers, left) = finish_run(script, parties)?;
-    drain(script, workers, left)
+    drain(&ByMeasure, script, workers, left)
 }
 
 /// Makes sweeps until every line of every session is answered.

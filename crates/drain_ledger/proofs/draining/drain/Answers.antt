@@ -131,9 +131,9 @@ turn_all-requires-clause-ready g c =
     are_ready c.requires.run g.Q.Rx.keeps g.Q.Rx.answers c.settle_all.new.parties.items c.settle_all.ensures.long takes g.Q.Rx.keeps.complete
 
 pub turn_all-requires-clause-room : goal.turn_all-requires-clause-room
-turn_all-requires-clause-room g c =
+turn_all-requires-clause-room g c = λ returns.
     let takes = took g c.in_ok-answers.requests.items c.args.sessions.items c.in_ok-answers.ensures.requests c.args.workers.items c.settle_all.new.parties.items c.settle_all.ensures.takes in
-    elim c.requires.room [
+    elim (c.requires.room returns) [
       | inl never ↦ inl never
       | inr both ↦ inr (find_places c.requires.run {replied = g.T.Tx.sent} {told = g.O.Tx.sent} (shares_of g c.deref.result.now c.args.workers.items c.deref.ensures.value c.attest_all.ensures.share) both.1 c.settle_all.new.parties.items
           (only_requests c.requires.run g.Q.Rx.keeps g.Q.Rx.answers c.settle_all.new.parties.items c.settle_all.ensures.long takes) c.settle_all.ensures.long

@@ -23,7 +23,7 @@ module _ (g : Over) (c : After-turn_passes g) where
       (c.turn_passes.ensures.gone_on.long ∙ ap length c.deref_mut.ensures.value)
 
 pub turn_passes-requires-clause-room : goal.turn_passes-requires-clause-room
-turn_passes-requires-clause-room g c = elim c.requires.room [
+turn_passes-requires-clause-room g c = λ returns. elim (c.requires.room returns) [
   | inl full ↦ inl full
   | inr finds ↦ inr (subst (FindPlaces g.G.GossipRx.keeps g.Q.Rx.about g.T.Tx.sent (λ its. g.Q.Rx.senders (g.Q.Rx.key its))) (sym c.deref_mut.ensures.value) finds)
 ]

@@ -80,8 +80,8 @@ pub returns-clause-fewer_requests : goal.returns-clause-fewer_requests
 returns-clause-fewer_requests g c = turn_serves _ _ _ _ _ _ _ _ _ _ (boxes g c) c.turn-did.result _ _ _ c.turn-did.ensures.did
 
 pub returns-clause-fewer_batches : goal.returns-clause-fewer_batches
-returns-clause-fewer_batches g c =
-    turn_joins _ _ _ _ _ _ _ _ _ _ (mates g c) c.turn-did.result _ _ _ _ _ c.turn-did.ensures.did (c.turn-did.ensures.fewer c.requires.finite c.requires.met)
+returns-clause-fewer_batches g c = λ finite.
+    turn_joins _ _ _ _ _ _ _ _ _ _ (mates g c) c.turn-did.result _ _ _ _ _ c.turn-did.ensures.did (c.turn-did.ensures.fewer finite c.requires.met)
 
 pub returns-clause-room : goal.returns-clause-room
 returns-clause-room g c =

@@ -1,7 +1,7 @@
 use Rattle.std.proofs.Common.{◌≡◌}
 use Rattle.drain_turns.specs.Stretch.{GoesOn, KeepsRoom, left_to_serve}
 use Rattle.drain_turns.specs.Turning.{requests_left}
-use Rattle.drain_turns.proofs.turning.turn_out.Given as goal
+use Rattle.drain_turns.proofs.turning.ByMeasureTurnsOut.turn_out.Given as goal
 
 abbrev pub invariant-loop : goal.invariant-loop
 invariant-loop g l = record {

@@ -3,8 +3,8 @@ use Rattle.mail_contract.specs.Boxes.{box_of}
 use Rattle.worker_core.specs.State.{PlainWorker}
 use Rattle.drain_turns.specs.Ready.{FindPlaces, HaveGoneOn, HaveHeard, HaveNoneLeft, Steady, keys_left, steadies}
 use Rattle.drain_turns.specs.Turning.{IsDone}
-use Rattle.drain_turns.proofs.passes.turn_passes.Given.{Over}
-use Rattle.drain_turns.proofs.passes.turn_passes.Given as goal
+use Rattle.drain_turns.proofs.passes.ByMeasureTurnsAll.turn_passes.Given.{Over}
+use Rattle.drain_turns.proofs.passes.ByMeasureTurnsAll.turn_passes.Given as goal
 
 module _ (g : Over) where
   abbrev pub Worker : Type 0

@@ -3,7 +3,7 @@ use Rattle.mail_contract.specs.Standing.{AreMet}
 use Rattle.worker_core.specs.Sealed.{batch_kept}
 use Rattle.worker_core.specs.Turns.{may_come}
 use Rattle.drain_steps.proofs.HearingLemmas.{HearsOn}
-use Rattle.drain_steps.proofs.hearing.hear_out.Given as goal
+use Rattle.drain_steps.proofs.hearing.ByMeasureHearsOut.hear_out.Given as goal
 
 abbrev pub invariant-loop : goal.invariant-loop
 invariant-loop g l = record {

@@ -1,13 +1,13 @@
-use Rattle.std.proofs.Common.{◌≡◌, ◌∙◌, ◌+◌, ◌<◌, ◌≤◌, ℕ, Bool, true, false, if◌then◌else◌, arith, inl, inr, sym}
+use Rattle.std.proofs.Common.{◌≡◌, ◌∙◌, ◌+◌, ◌<◌, ◌≤◌, ℕ, Bool, true, false, if◌then◌else◌, arith, inl, inr, refl, sym}
 use Rattle.std.proofs.lemmas.Bool.{false≢true}
 use Rattle.drain_turns.proofs.PassesGoingOn.{all_through, places_stay, ready_stays}
-use Rattle.drain_turns.proofs.passes.turn_passes.Goals as goal
+use Rattle.drain_turns.proofs.passes.ByMeasureTurnsAll.turn_passes.Goals as goal
 
 pub loop-idle-init : goal.loop-idle-init
 loop-idle-init g c = record {
   gone_on = c.pass.ensures.gone_on;
   done = c.in_ok-idle.ensures.done;
-  heard = elim c.requires.room [
+  heard = elim (c.requires.room refl) [
     | inl full ↦ inl (c.in_ok-idle.ensures.never_full full)
     | inr finds ↦ inr (record {
       finds = places_stay c.args.workers.now c.pass.new.workers c.pass.ensures.gone_on finds;

@@ -6,9 +6,9 @@ use Rattle.drain_turns.specs.Stretch.{RoomAfter}
 use Rattle.drain_turns.specs.Turning.{requests_left}
 use Rattle.drain_turns.proofs.TurningLemmas.{goes_on_still, goes_on_through, gone_on_through}
 use Rattle.drain_turns.proofs.TurningRoomLemmas.{room_after_through, room_of_doing, room_through}
-use Rattle.drain_turns.proofs.turning.turn_out.Given.{Over}
-use Rattle.drain_turns.proofs.turning.turn_out.Goals as goal
-use Rattle.drain_turns.proofs.turning.turn_out.Goals.{After-turn_on}
+use Rattle.drain_turns.proofs.turning.ByMeasureTurnsOut.turn_out.Given.{Over}
+use Rattle.drain_turns.proofs.turning.ByMeasureTurnsOut.turn_out.Goals as goal
+use Rattle.drain_turns.proofs.turning.ByMeasureTurnsOut.turn_out.Goals.{After-turn_on}
 
 module _ (g : Over) where
   abbrev left : PlainWorker g.row.Q.Denot g.row.T.Denot g.row.O.Denot g.row.G.Denot → ℕ
