@@ -36,6 +36,11 @@ pub trait Meets<Q: Rx<Request>, T: Tx<Reply>> {
 
     ghost clear: { Self → ℕ → Type 0 };
 
+    // All else of it that a contract sees, which no meeting changes.
+    ghost Rest: { Type 0 };
+
+    ghost rest: { Self → Rest };
+
     // What its box knows of a worker's sender of replies, and which parts of the contract it keeps.
     ghost about: { Self → ℕ → About PlainReply };
 
@@ -50,6 +55,7 @@ pub trait Meets<Q: Rx<Request>, T: Tx<Reply>> {
         ensures number { number self.new ≡ number self.old }
         ensures asked { asked self.new ≡ asked self.old }
         ensures heard { heard self.new ≡ heard self.old }
+        ensures rest { rest self.new ≡ rest self.old }
 
         // The box of requests.
         ensures requests_key { Q.key requests.new ≡ Q.key requests.old }
@@ -155,9 +161,11 @@ pub fn meet_ends<T: Tx<Request>, R: Rx<Reply>, Q: Rx<Request, From = T>>(
 
 impl<T: Tx<Request>, R: Rx<Reply>, Q: Rx<Request, From = T>> Meets<Q, R::From>
     for SessionEndsOver<T, R> {
-    ghost use Rattle.std.specs.Prelude.{◌≡◌, ◌-◌, [], map, slice_index_or};
+    ghost use Rattle.std.specs.Prelude.{◌≡◌, ◌-◌, ℕ, [], List, map, slice_index_or};
     ghost use Rattle.mail_contract.specs.Lanes.{IsLaneOf};
     ghost use Rattle.mail_contract.specs.Takes.{from_sender};
+    ghost use Rattle.store_msg.specs.Reply.{PlainReply};
+    ghost use Rattle.store_msg.specs.declared.request.Request.{Request as Asked};
 
     type Key = (LinkedList<T::Key>, R::Key);
 
@@ -180,6 +188,14 @@ impl<T: Tx<Request>, R: Rx<Reply>, Q: Rx<Request, From = T>> Meets<Q, R::From>
 
     ghost clear = { λ ends worker. (tx : T)
         → slice_index_or ends.requests.items (worker - 1) tx ≡ tx → T.clear tx };
+
+    ghost Rest = { List ℕ × List (List Asked) × List (ℕ × PlainReply) };
+
+    ghost rest = { λ ends. (
+      map T.number ends.requests.items,
+      map T.sent ends.requests.items,
+      R.received ends.replies,
+    ) };
 
     ghost about = { λ ends. R.about ends.replies };
 

@@ -32,6 +32,7 @@ pub(crate) fn meet<Q: Rx<Request>, T: Tx<Reply>, S: Meets<Q, T>>(
     ensures number { S.number side.new ≡ S.number side.old }
     ensures asked { S.asked side.new ≡ S.asked side.old }
     ensures heard { S.heard side.new ≡ S.heard side.old }
+    ensures rest { S.rest side.new ≡ S.rest side.old }
     ensures roomy { IsTrue Q.keeps.roomy → S.unseen side.new me
         ≡ min 64 (length (S.asked side.old me)
         - length (from_sender (S.number side.old me) (Q.received requests.old))) }

@@ -515,6 +515,7 @@ impl<Q: Rx<Request>, T: Tx<Reply>, O: Tx<Batch>, G: GossipRx<Batch, From = O>> W
         ensures number { S.number side.new ≡ S.number side.old }
         ensures asked { S.asked side.new ≡ S.asked side.old }
         ensures heard { S.heard side.new ≡ S.heard side.old }
+        ensures rest { S.rest side.new ≡ S.rest side.old }
         ensures roomy { IsTrue Q.keeps.roomy → S.unseen side.new self.old.state.me
             ≡ min 64 (length (S.asked side.old self.old.state.me)
             - length (from_sender (S.number side.old self.old.state.me)
