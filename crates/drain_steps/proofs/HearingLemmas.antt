@@ -26,13 +26,13 @@ pub record HearsOn {Q G GK : Type 0} (key : G → GK) (senders : GK → ℕ) (bo
   pub box_keeps : KeepsWeak complete (senders (key before.gossip_in)) (box before.gossip_in) (box now.gossip_in)
 
 -- to hear leaves which keys it has cells of
-pub keys_stay : (E : Type 0) (heard : Bool) (cells cells_now : List (Option KeyCells)) (kept kept_now : Option (ℕ × Entries)) (got got_now : ℕ → ℕ → Option Entries) (count count_now : Answers) (nothing : Type 0)
+keys_stay : (E : Type 0) (heard : Bool) (cells cells_now : List (Option KeyCells)) (kept kept_now : Option (ℕ × Entries)) (got got_now : ℕ → ℕ → Option Entries) (count count_now : Answers) (nothing : Type 0)
     → HearsOne {E = E} (Ok heard) cells cells_now kept kept_now got got_now count count_now nothing → (number : ℕ) → is_some (cells_at cells_now number) ≡ is_some (cells_at cells number)
 keys_stay E true cells cells_now kept kept_now got got_now count count_now nothing hears number = ap (λ those. is_some (cells_at those number)) hears.3 ∙ holds_heard cells hears.1 number
 keys_stay E false cells cells_now kept kept_now got got_now count count_now nothing hears number = ap (λ those. is_some (cells_at those number)) hears.0
 
 -- and where there was nothing to hear none is kept, and its box told so
-pub told_all : (E : Type 0) (heard : Bool) (cells cells_now : List (Option KeyCells)) (kept kept_now : Option (ℕ × Entries)) (got got_now : ℕ → ℕ → Option Entries) (count count_now : Answers) (nothing : Type 0)
+told_all : (E : Type 0) (heard : Bool) (cells cells_now : List (Option KeyCells)) (kept kept_now : Option (ℕ × Entries)) (got got_now : ℕ → ℕ → Option Entries) (count count_now : Answers) (nothing : Type 0)
     → HearsOne {E = E} (Ok heard) cells cells_now kept kept_now got got_now count count_now nothing → heard ≡ false → (kept_now ≡ None) × nothing
 told_all E false cells cells_now kept kept_now got got_now count count_now nothing hears is = (hears.2, hears.5)
 told_all E true cells cells_now kept kept_now got got_now count count_now nothing hears is = absurd (false≢true (sym is))
@@ -45,39 +45,44 @@ module _ {Q G GK : Type 0} (key : G → GK) (senders : GK → ℕ) (box : G → 
   pub hears_on : (worker : PlainSealed Q G) → Hears worker worker
   hears_on worker = record { me = refl; kinds = refl; requests = refl; keys = λ number. refl; key_is = refl; box_keeps = weak_still (box worker.gossip_in) }
 
-  -- and by one call more
-  pub hears_next : (start before now : PlainSealed Q G) → Hears start before → now ≡ record before { cells = now.cells; kept = now.kept; gossip_in = now.gossip_in } → key now.gossip_in ≡ key before.gossip_in
-      → MayHandOut keeps (senders (key before.gossip_in)) (box before.gossip_in) (box now.gossip_in) → (heard : Bool) (count count_now : Answers) (nothing : Type 0)
-      → HearsOne {E = NoMemory} (Ok heard) before.cells now.cells before.kept now.kept (box before.gossip_in).got (box now.gossip_in).got count count_now nothing → Hears start now
-  hears_next start before now so_far fixed key_is may heard count count_now nothing hears = record {
-    me = ap (λ (its : PlainSealed Q G). its.me) fixed ∙ so_far.me;
-    kinds = ap (λ (its : PlainSealed Q G). its.kinds) fixed ∙ so_far.kinds;
-    requests = ap (λ (its : PlainSealed Q G). its.requests) fixed ∙ so_far.requests;
-    keys = λ number. keys_stay NoMemory heard before.cells now.cells before.kept now.kept (box before.gossip_in).got (box now.gossip_in).got count count_now nothing hears number ∙ so_far.keys number;
-    key_is = key_is ∙ so_far.key_is;
-    box_keeps = weak_through so_far.box_keeps
-        (subst (λ its. KeepsWeak keeps.complete (senders its) (box before.gossip_in) (box now.gossip_in)) so_far.key_is (hand_out_keeps keeps (senders (key before.gossip_in)) (box before.gossip_in) (box now.gossip_in) may));
-  }
+  module _ (start before now : PlainSealed Q G) (so_far : Hears start before) (fixed : now ≡ record before { cells = now.cells; kept = now.kept; gossip_in = now.gossip_in })
+      (key_is : key now.gossip_in ≡ key before.gossip_in) (may : MayHandOut keeps (senders (key before.gossip_in)) (box before.gossip_in) (box now.gossip_in)) (heard : Bool)
+      (hears : HearsOne {E = NoMemory} (Ok heard) before.cells now.cells before.kept now.kept (box before.gossip_in).got (box now.gossip_in).got
+      (box before.gossip_in).answers (box now.gossip_in).answers (FindsNothingWeak keeps (box now.gossip_in))) where
+    -- and by one call more
+    pub hears_next : Hears start now
+    hears_next = record {
+      me = ap (λ (its : PlainSealed Q G). its.me) fixed ∙ so_far.me;
+      kinds = ap (λ (its : PlainSealed Q G). its.kinds) fixed ∙ so_far.kinds;
+      requests = ap (λ (its : PlainSealed Q G). its.requests) fixed ∙ so_far.requests;
+      keys = λ number. keys_stay NoMemory heard _ _ _ _ _ _ _ _ _ hears number ∙ so_far.keys number;
+      key_is = key_is ∙ so_far.key_is;
+      box_keeps = weak_through so_far.box_keeps
+          (subst (λ its. KeepsWeak keeps.complete (senders its) (box before.gossip_in) (box now.gossip_in)) so_far.key_is (hand_out_keeps keeps (senders (key before.gossip_in)) (box before.gossip_in) (box now.gossip_in) may));
+    }
+
+    -- once it finds nothing it has heard all that its settled senders told
+    pub heard_out : (received : Q → List (ℕ × Request)) → HoldsSealed received (λ its. (box its).got) now → heard ≡ false
+        → HasHeard received key senders (λ its. (box its).got) (λ its. (box its).about) keeps.complete start now
+    heard_out received holds finds_nothing =
+        let on = hears_next in
+        let nothing = told_all NoMemory heard _ _ _ _ _ _ _ _ _ hears finds_nothing in
+        record {
+          me = on.me;
+          kinds = on.kinds;
+          requests = on.requests;
+          keys = on.keys;
+          holds = holds;
+          none_kept = nothing.0;
+          key_is = on.key_is;
+          stand = on.box_keeps.stand;
+          got_more = on.box_keeps.got_more;
+          got_in_range = λ are. subst (λ its. AreGotInRange (senders its) (box now.gossip_in).got) (sym on.key_is) (on.box_keeps.got_in_range are);
+          of_sent = on.box_keeps.of_sent;
+          all = nothing.1.none;
+        }
 
   -- of each sender it stays known how many messages are left
   pub still_met : (start now : PlainSealed Q G) → Hears start now → AreMet (senders (key start.gossip_in)) (box start.gossip_in).about → AreMet (senders (key now.gossip_in)) (box now.gossip_in).about
   still_met start now on met =
       subst (λ its. AreMet (senders its) (box now.gossip_in).about) (sym on.key_is) (λ sender low high. subst IsTrue (sym (on.box_keeps.stand sender).1) (met sender low high))
-
-  -- once nothing is found it has heard all that its settled senders told
-  pub heard_out : (received : Q → List (ℕ × Request)) (start now : PlainSealed Q G) → Hears start now → HoldsSealed received (λ its. (box its).got) now
-      → (now.kept ≡ None) × FindsNothingWeak keeps (box now.gossip_in) → HasHeard received key senders (λ its. (box its).got) (λ its. (box its).about) keeps.complete start now
-  heard_out received start now on holds nothing = record {
-    me = on.me;
-    kinds = on.kinds;
-    requests = on.requests;
-    keys = on.keys;
-    holds = holds;
-    none_kept = nothing.0;
-    key_is = on.key_is;
-    stand = on.box_keeps.stand;
-    got_more = on.box_keeps.got_more;
-    got_in_range = λ are. subst (λ its. AreGotInRange (senders its) (box now.gossip_in).got) (sym on.key_is) (on.box_keeps.got_in_range are);
-    of_sent = on.box_keeps.of_sent;
-    all = nothing.1.none;
-  }

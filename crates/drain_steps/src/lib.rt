@@ -3,8 +3,9 @@
 //! others told them.
 //!
 //! Each step is one call over all workers or sessions, and its contract says of each of them what it
-//! became. `specs/Settling.antt` says what it is to take in many senders, `specs/Hearing.antt` what a
-//! sealed worker is once it has heard all.
+//! became. [`Repeats`] is how a step is repeated: by measure, and so with an end, or waiting as long
+//! as it takes, over any ends. `specs/Settling.antt` says what it is to take in many senders,
+//! `specs/Hearing.antt` what a sealed worker is once it has heard all.
 //!
 //! The crate stands on `worker_core`, whose workers it seals and turns to, and on the mail below.
 #![tactic(auto)]

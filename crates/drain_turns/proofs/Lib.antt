@@ -7,6 +7,7 @@ pub mod PassesLemmas
 pub mod PassesTurnLemmas
 pub mod ReadyLemmas
 pub mod ShownLemmas
+pub mod StretchLemmas
 pub mod TurningBoxesLemmas
 pub mod TurningKeysLemmas
 pub mod TurningLemmas

@@ -1,10 +1,10 @@
 //! The workers of a run whose sessions have ended take their turns until nothing is left to do.
 //!
-//! It returns where no sender wants for a place, and where a box tells all that its senders had sent when
-//! they were beside it and a sender whose messages were all handed out finds a place: once no request is
-//! left no key becomes changed again, and each pass in which not every worker was Idle tells some mate of
-//! a key. `specs/Ready.antt` says what workers can be turned so, `specs/Turning.antt` what a worker keeps
-//! and when nothing is left to it.
+//! Turned by measure ([`drain_steps::ByMeasure`]), it returns: where no sender wants for a place, and
+//! where a box tells all that its senders had sent when they were beside it and a sender whose messages
+//! were all handed out finds a place. Once no request is left no key becomes changed again, and each pass
+//! in which not every worker was Idle tells some mate of a key. `specs/Ready.antt` says what workers can
+//! be turned so, `specs/Turning.antt` what a worker keeps and when nothing is left to it.
 //!
 //! The crate stands on `worker_core`, whose workers it turns, and on `run_ledger` for how many replies a
 //! session's requests ask for.

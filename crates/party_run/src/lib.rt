@@ -7,6 +7,7 @@
 //!
 //! The definitions: `proxy_of` in `specs/Session.antt`, what contracts see of a session; and in
 //! `specs/Running.antt` what the parties of a run of a script are while it goes on, over any ends.
+//! [`Runs`] is what contracts say of the parties of a run, each in one word.
 //!
 //! The types are written over the ends themselves, as those of workers and proxies are; `Session` and
 //! `Parties` are their names over one kind of mail. The crate stands on `worker_core`, `session_plain`

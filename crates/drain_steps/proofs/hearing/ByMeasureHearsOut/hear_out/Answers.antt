@@ -1,7 +1,6 @@
-use Rattle.lattice_laws.specs.declared.lattice.NoMemory.{NoMemory}
 use Rattle.mail_contract.specs.Boxes.{WeakBox, weak_box_of}
 use Rattle.worker_core.specs.State.{Entries}
-use Rattle.drain_steps.proofs.HearingLemmas.{heard_out, hears_next, still_met, told_all}
+use Rattle.drain_steps.proofs.HearingLemmas.{heard_out, hears_next, still_met}
 use Rattle.drain_steps.proofs.hearing.ByMeasureHearsOut.hear_out.Given.{Over}
 use Rattle.drain_steps.proofs.hearing.ByMeasureHearsOut.hear_out.Goals as goal
 
@@ -13,15 +12,14 @@ pub loop-preserved : goal.loop-preserved
 loop-preserved g c =
     let next =
     hears_next g.G.GossipRx.key g.G.GossipRx.senders (box g) g.G.GossipRx.keeps c.args.worker.now c.loop.worker c.hear.new.self c.loop.invariant.on
-    c.in_ok-hear.ensures.fixed c.in_ok-hear.ensures.key c.in_ok-hear.ensures.gossip c.in_ok-hear.field-0 _ _ _ c.in_ok-hear.ensures.hears
+    c.in_ok-hear.ensures.fixed c.in_ok-hear.ensures.key c.in_ok-hear.ensures.gossip c.in_ok-hear.field-0 c.in_ok-hear.ensures.hears
     in
     record { on = next; met = still_met g.G.GossipRx.key g.G.GossipRx.senders (box g) g.G.GossipRx.keeps c.args.worker.now c.hear.new.self next c.requires.met }
 
 pub returns : goal.returns
-returns g c =
-    let next =
-    hears_next g.G.GossipRx.key g.G.GossipRx.senders (box g) g.G.GossipRx.keeps c.args.worker.now c.loop.worker c.hear.new.self c.loop.invariant.on
-    c.in_ok-hear.ensures.fixed c.in_ok-hear.ensures.key c.in_ok-hear.ensures.gossip c.in_ok-hear.field-0 _ _ _ c.in_ok-hear.ensures.hears
-    in
-    let nothing = told_all NoMemory c.in_ok-hear.field-0 _ _ _ _ _ _ _ _ _ c.in_ok-hear.ensures.hears c.if-branch.false in
-    record { heard = heard_out g.G.GossipRx.key g.G.GossipRx.senders (box g) g.G.GossipRx.keeps g.Q.Rx.received c.args.worker.now c.hear.new.self next c.in_ok-hear.ensures.holds nothing }
+returns g c = record {
+  heard =
+      heard_out g.G.GossipRx.key g.G.GossipRx.senders (box g) g.G.GossipRx.keeps c.args.worker.now c.loop.worker c.hear.new.self c.loop.invariant.on
+      c.in_ok-hear.ensures.fixed c.in_ok-hear.ensures.key c.in_ok-hear.ensures.gossip c.in_ok-hear.field-0 c.in_ok-hear.ensures.hears
+      g.Q.Rx.received c.in_ok-hear.ensures.holds c.if-branch.false;
+}
