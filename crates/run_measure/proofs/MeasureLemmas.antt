@@ -44,7 +44,7 @@ turns_lower all place before now many session its there goes of heard_few taken_
 abbrev pub asked_of : sessions.Lists → ℕ → ℕ → ℕ
 asked_of its first many = sum_by (λ worker. asked worker its) (range_with_len first many)
 
-abbrev heard_of : sessions.Lists → ℕ → ℕ → ℕ
+abbrev pub heard_of : sessions.Lists → ℕ → ℕ → ℕ
 heard_of its first many = sum_by (λ worker. heard worker its) (range_with_len first many)
 
 -- of all workers that is all that it sent
@@ -52,7 +52,7 @@ pub asked_all : (its : sessions.Lists) → asked_of its 1 (length its.sent) ≡ 
 asked_all its = sym (lists_counted its.sent 1 (λ worker. asked worker its) (λ place low. let number : 1 + place - 1 ≡ place = omega arith in rw number refl))
 
 -- and all that it took
-heard_all : (its : sessions.Lists) (many : ℕ) → HearsWorkers many its → heard_of its 1 many ≡ length its.received
+pub heard_all : (its : sessions.Lists) (many : ℕ) → HearsWorkers many its → heard_of its 1 many ≡ length its.received
 heard_all its many hears = from_all many 1 its.received (λ k d low. let of = hears k d low in (of.0, omega (arith, of.1)))
 
 module _ (session : ℕ) (before now : sessions.Lists) where

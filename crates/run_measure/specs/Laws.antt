@@ -1,5 +1,5 @@
 -- The laws of the measure: what a turn of a worker and a poll of a session are to it.
-use Rattle.std.specs.Prelude.{◌≡◌, ℕ, ◌+◌, ◌≤◌, List, [], ◌∷◌, ◌++◌, All, length, slice_get, slice_set, Some, None, Ok, ⊤}
+use Rattle.std.specs.Prelude.{◌≡◌, ℕ, ◌+◌, ◌≤◌, List, [], ◌∷◌, ◌++◌, All, length, slice_get, slice_set, sum_by, Some, None, Ok, ⊤}
 use Rattle.lattice_laws.specs.declared.lattice.NoMemory.{NoMemory}
 use Rattle.placement.specs.Config.{IsOneOf}
 use Rattle.session_proxy.specs.Lines.{AreReplicas, MayRun}
@@ -14,8 +14,8 @@ use Rattle.worker_core.specs.State as workers
 use Rattle.worker_core.specs.Turns as turns
 use Rattle.worker_core.specs.declared.did.Did.{Did}
 use Rattle.worker_core.specs.declared.did.Did.TheVariants as did
-use Rattle.run_measure.specs.Measure.{asked, heard, measure, replied, taken}
-use Rattle.run_measure.specs.Steps.{HasDone, RepliesAsTaken, done}
+use Rattle.run_measure.specs.Measure.{AreAllCounted, asked, heard, measure, measure_of_all, replied, taken}
+use Rattle.run_measure.specs.Steps.{HasDone, HaveAllGoneOn, RepliesAsTaken, done}
 
 -- A worker took one request.
 pub record TakesOne (before now : workers.Lists) : Type 0 where
@@ -100,3 +100,20 @@ PollsLowerTheMeasure =
     (all : List workers.Lists) (session : ℕ) (before now : sessions.Lists) → HasDone before now → proxies.Share before → proxies.Share now
     → HearsWorkers (length before.sent) before → HearsWorkers (length before.sent) now → length all ≡ length before.sent → NoMoreIsTaken all session before now
     → measure all session now + done now ≤ measure all session before + done before
+
+-- A session keeps its share, took replies of its workers alone, and has a sender for each.
+pub record IsOfWorkers (many : ℕ) (lists : sessions.Lists) : Type 0 where
+  pub share : proxies.Share lists
+  pub hears : HearsWorkers many lists
+  pub senders : length lists.sent ≡ many
+
+-- and so do all sessions
+abbrev pub AreOfWorkers : ℕ → List sessions.Lists → Type 0
+AreOfWorkers many those = (at : ℕ) (its : sessions.Lists) → slice_get those at ≡ Some its → IsOfWorkers many its
+
+-- All workers and sessions of a run go on: the measure of all falls by what the sessions have done.
+abbrev pub TogetherLowerTheMeasure : Type 0
+TogetherLowerTheMeasure =
+    (all all_now : List workers.Lists) (those those_now : List sessions.Lists) → HaveAllGoneOn all all_now those those_now
+    → AreOfWorkers (length all) those → AreOfWorkers (length all) those_now → AreAllCounted all those → AreAllCounted all_now those_now
+    → measure_of_all all_now 1 those_now + sum_by done those_now ≤ measure_of_all all 1 those + sum_by done those

@@ -1,5 +1,5 @@
 -- What a step changes of how much a session still has to do.
-use Rattle.std.specs.Prelude.{◌≡◌, ℕ, ◌+◌, ◌≤◌, length, sum_by}
+use Rattle.std.specs.Prelude.{◌≡◌, ℕ, ◌+◌, ◌≤◌, List, length, slice_get, sum_by, Some}
 use Rattle.placement.specs.Config.{IsOneOf}
 use Rattle.session_proxy.specs.State as sessions
 use Rattle.worker_core.specs.State as workers
@@ -24,3 +24,10 @@ pub record HasDone (before now : sessions.Lists) : Type 0 where
   pub answered : length before.course.answers ≤ length now.course.answers
   pub asked_more : (worker : ℕ) → IsOneOf (length before.sent) worker → asked worker before ≤ asked worker now
   pub heard_more : (worker : ℕ) → heard worker before ≤ heard worker now
+
+-- All workers and sessions of a run have gone on, in whatever order of steps.
+pub record HaveAllGoneOn (all all_now : List workers.Lists) (those those_now : List sessions.Lists) : Type 0 where
+  pub workers_long : length all_now ≡ length all
+  pub sessions_long : length those_now ≡ length those
+  pub served : (place : ℕ) (before now : workers.Lists) → slice_get all place ≡ Some before → slice_get all_now place ≡ Some now → RepliesAsTaken (length those) before now
+  pub done_more : (at : ℕ) (before now : sessions.Lists) → slice_get those at ≡ Some before → slice_get those_now at ≡ Some now → HasDone before now

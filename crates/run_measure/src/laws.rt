@@ -1,5 +1,5 @@
 //! The laws of the measure: each function does nothing and carries its laws.
-ghost use Rattle.run_measure.specs.Laws.{DoneRises, PollsLowerTheMeasure, RepliesFollowRequests, SessionsGoOn, SessionsGoOnTwice, SessionsStay, TurnsLowerTheMeasure, WorkersGoOn, WorkersStay};
+ghost use Rattle.run_measure.specs.Laws.{DoneRises, PollsLowerTheMeasure, RepliesFollowRequests, SessionsGoOn, SessionsGoOnTwice, SessionsStay, TogetherLowerTheMeasure, TurnsLowerTheMeasure, WorkersGoOn, WorkersStay};
 
 /// A worker replies to a session no more than it takes of it, turn by turn, and takes nothing back, where it
 /// keeps no message, and holds a reply for one of its sessions if it holds any. It keeps none after the turn,
@@ -28,4 +28,10 @@ pub fn sessions_go_on()
 /// Where a session goes on, its measure falls at least by what it has done.
 pub fn polls_lower_the_measure()
     ensures { PollsLowerTheMeasure }
+{}
+
+/// Where all workers and sessions go on, in whatever order of steps, the measure of all sessions falls at least by
+/// what they have done, if no more was taken than was sent before and after.
+pub fn parties_lower_the_measure()
+    ensures { TogetherLowerTheMeasure }
 {}

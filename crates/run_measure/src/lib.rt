@@ -14,5 +14,6 @@
 mod laws;
 
 pub use laws::{
-    polls_lower_the_measure, replies_follow_requests, sessions_go_on, turns_lower_the_measure,
+    parties_lower_the_measure, polls_lower_the_measure, replies_follow_requests, sessions_go_on,
+    turns_lower_the_measure,
 };
