@@ -3,7 +3,7 @@
 # 1,048,576 bytes with 4,096 commands, on 8 workers with 3 replicas a key, and scripts with a half and a quarter of its
 # commands, whose reports are checked too; as many commands on 128 keys with 8 replicas; 2,048 puts of words of 60 bytes
 # into one set with a get after each, and the same into one map (130 MB of report each); and 4,096 puts by 16 sessions to
-# one key with 8 replicas.
+# one key and to 128 keys, on 1, 2, 4 and 8 workers. With `taskset -c 0,1` before it all runs on two cores.
 set -u
 top=$(cd "$(dirname "$(readlink -f "$0")")/.." && pwd) || exit 1
 program=$top/crates/anna_run/out/anna_run
@@ -67,14 +67,16 @@ make_words() {
     }'
 }
 
-# 4,096 puts to one key, by 16 sessions.
+# 4,096 puts by 16 sessions to so many keys, in turn, each on every one of so many workers.
 make_puts() {
-    awk 'BEGIN {
-        print "anna 1\nworkers 8\nfactor 8\nkey k max"
+    awk -v workers="$1" -v keys="$2" 'BEGIN {
+        printf "anna 1\nworkers %d\nfactor %d\n", workers, workers
+        for (k = 0; k < keys; k++)
+            print "key k" k " max"
         for (s = 0; s < 16; s++) {
             print "session s" s " eventual"
             for (c = 0; c < 256; c++)
-                print "put k " s * 256 + c
+                print "put k" (s * 256 + c) % keys " " s * 256 + c
         }
         print "end"
     }'
@@ -120,5 +122,9 @@ for kind in set map; do
     make_words "$kind" >"$folder/script"
     time_run "2048 puts of words into one $kind with a get after each" 1
 done
-make_puts >"$folder/script"
-time_run "4096 puts by 16 sessions to one key on 8 workers" 50
+for keys in 1 128; do
+    for workers in 1 2 4 8; do
+        make_puts "$workers" "$keys" >"$folder/script"
+        time_run "4096 puts by 16 sessions, keys: $keys, workers: $workers, each with all keys" 10
+    done
+done

@@ -122,7 +122,7 @@ made_of received got heard drained = record { report = drained.report; ledger = 
 -- what the parts of a run are
 abbrev pub ran_of : {D : Type 0} → (D → Made) → PartsOver D → Option Made
 ran_of made parts.Nothing = None
-ran_of made (parts.Plain drained) = Some (made drained)
+ran_of made (parts.Rings drained) = Some (made drained)
 
 abbrev pub usage_text : List ℕ
 usage_text = codes "usage: anna COMMAND" ++ 10 ∷ []

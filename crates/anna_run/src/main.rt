@@ -9,6 +9,7 @@ mod texts;
 mod words;
 
 use outside::{ReadSource, WriteSink};
+use party_epochs::FreeGate;
 use run::exit_of;
 use std::env;
 use std::io::ErrorKind;
@@ -30,5 +31,6 @@ fn words_given(rt: &HostRuntime) -> Result<Vec<String>, WordsFault> {
 fn main(rt: HostRuntime) -> ExitCode {
     let mut src = ReadSource::new(rt.stdin());
     let mut sink = WriteSink::new(rt.stdout());
-    ExitCode::from(exit_of(rt.alloc(), words_given(&rt), &mut src, &mut sink))
+    let words = words_given(&rt);
+    ExitCode::from(exit_of(&rt, rt.alloc(), words, &mut src, &mut sink, &FreeGate))
 }

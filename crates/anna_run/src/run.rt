@@ -16,14 +16,17 @@ use crate::words::{Command, WordsFault, read_words};
 use anna_check::{Verdict, check};
 use big_work::{big_script, write_summary};
 use lattice_laws::NoMemory;
-use mail_contract::{GossipRx, PlainRx, Rx};
+use mail_contract::{GossipRx, Rx};
+use mail_rings::RingRx;
 use outside::{Failed, ReadFault, Sink, Source, finish, read_all};
+use party_epochs::Gate;
 use report_text::{ReportFault, read_report, write_report};
 use script_reader::{MOST_BYTES, ScriptFault, read_script, split_input};
-use serial_run::{PlainDrained, serve};
 use session_known::{Report, Script};
 use std::alloc::Global;
+use std::thread::Threads;
 use store_msg::{Batch, Reply, Request};
+use threaded_run::{RingDrained, serve};
 
 /// The greatest length of an input that is checked, in bytes.
 const MOST_CHECKED: usize = 16_777_216;
@@ -72,12 +75,12 @@ impl Status {
 pub enum PartsOver<D: Drop> {
     /// None was.
     Nothing,
-    /// One over plain mail.
-    Plain(D),
+    /// One over rings.
+    Rings(D),
 }
 
 /// The run that was made.
-pub type Parts = PartsOver<PlainDrained>;
+pub type Parts = PartsOver<RingDrained>;
 
 /// What a run owes to whoever asked.
 #[derive(Drop)]
@@ -90,13 +93,18 @@ enum OutcomeOver<D: Drop> {
     Line(Status, Vec<u8>),
 }
 
-type Outcome = OutcomeOver<PlainDrained>;
+type Outcome = OutcomeOver<RingDrained>;
 
 /// Reads a script and runs it.
-fn run_script<S: Source>(alloc: Global, src: &mut S) -> Result<Outcome, NoMemory>
+fn run_script<S: Source, E: Gate + Sync, H: Threads + Sync>(
+    rt: &H,
+    alloc: Global,
+    src: &mut S,
+    gate: &E,
+) -> Result<Outcome, NoMemory>
     ensures owed { IfOk result (IsOwed (made_of
-        ⟦<PlainRx<Request> as Rx<Request>>⟧.received ⟦<PlainRx<Batch> as GossipRx<Batch>>⟧.got
-        ⟦<PlainRx<Reply> as Rx<Reply>>⟧.received)
+        ⟦<RingRx<Request> as Rx<Request>>⟧.received ⟦<RingRx<Batch> as GossipRx<Batch>>⟧.got
+        ⟦<RingRx<Reply> as Rx<Reply>>⟧.received)
         (Some Command.Run) (use_of S.left S.faults src.old src.new)) }
     ensures bounded { IsBounded (Some Command.Run) (use_of S.left S.faults src.old src.new) }
     ensures count { S.faults src.old ≤ S.faults src.new }
@@ -113,7 +121,7 @@ fn run_script<S: Source>(alloc: Global, src: &mut S) -> Result<Outcome, NoMemory
     };
     match read_script(alloc, &bytes) {
         Ok(script) => {
-            let drained = serve(alloc, &script)?;
+            let drained = serve(rt, gate, alloc, &script)?;
             Ok(Outcome::Report(script, drained))
         }
         Err(ScriptFault::Refused { line, code }) => {
@@ -124,21 +132,26 @@ fn run_script<S: Source>(alloc: Global, src: &mut S) -> Result<Outcome, NoMemory
 }
 
 /// Runs the large work of a number.
-fn run_work(alloc: Global, number: u64) -> Result<Outcome, NoMemory>
+fn run_work<E: Gate + Sync, H: Threads + Sync>(
+    rt: &H,
+    alloc: Global,
+    number: u64,
+    gate: &E,
+) -> Result<Outcome, NoMemory>
     ensures { IfOk result (IsOwedByWork (made_of
-        ⟦<PlainRx<Request> as Rx<Request>>⟧.received ⟦<PlainRx<Batch> as GossipRx<Batch>>⟧.got
-        ⟦<PlainRx<Reply> as Rx<Reply>>⟧.received) number) }
+        ⟦<RingRx<Request> as Rx<Request>>⟧.received ⟦<RingRx<Batch> as GossipRx<Batch>>⟧.got
+        ⟦<RingRx<Reply> as Rx<Reply>>⟧.received) number) }
 {
     let script = big_script(alloc, number)?;
-    let drained = serve(alloc, &script)?;
+    let drained = serve(rt, gate, alloc, &script)?;
     Ok(Outcome::Summary(number, script, drained))
 }
 
 /// Reads a script and the report after it, and judges the report.
 fn check_input<S: Source>(alloc: Global, src: &mut S) -> Result<Outcome, NoMemory>
     ensures owed { IfOk result (IsOwed (made_of
-        ⟦<PlainRx<Request> as Rx<Request>>⟧.received ⟦<PlainRx<Batch> as GossipRx<Batch>>⟧.got
-        ⟦<PlainRx<Reply> as Rx<Reply>>⟧.received)
+        ⟦<RingRx<Request> as Rx<Request>>⟧.received ⟦<RingRx<Batch> as GossipRx<Batch>>⟧.got
+        ⟦<RingRx<Reply> as Rx<Reply>>⟧.received)
         (Some Command.Check) (use_of S.left S.faults src.old src.new)) }
     ensures bounded { IsBounded (Some Command.Check) (use_of S.left S.faults src.old src.new) }
     ensures count { S.faults src.old ≤ S.faults src.new }
@@ -205,10 +218,16 @@ fn status_of(verdict: Verdict) -> Status
 }
 
 /// What is owed to these words and this source.
-fn outcome_of<S: Source>(alloc: Global, words: &[String], src: &mut S) -> Result<Outcome, NoMemory>
+fn outcome_of<S: Source, E: Gate + Sync, H: Threads + Sync>(
+    rt: &H,
+    alloc: Global,
+    words: &[String],
+    src: &mut S,
+    gate: &E,
+) -> Result<Outcome, NoMemory>
     ensures owed { IfOk result (IsOwed (made_of
-        ⟦<PlainRx<Request> as Rx<Request>>⟧.received ⟦<PlainRx<Batch> as GossipRx<Batch>>⟧.got
-        ⟦<PlainRx<Reply> as Rx<Reply>>⟧.received)
+        ⟦<RingRx<Request> as Rx<Request>>⟧.received ⟦<RingRx<Batch> as GossipRx<Batch>>⟧.got
+        ⟦<RingRx<Reply> as Rx<Reply>>⟧.received)
         (command_in words.now) (use_of S.left S.faults src.old src.new)) }
     ensures bounded { IsBounded (command_in words.now) (use_of S.left S.faults src.old src.new) }
     ensures untouched { TakesNothing (command_in words.now)
@@ -223,8 +242,8 @@ fn outcome_of<S: Source>(alloc: Global, words: &[String], src: &mut S) -> Result
         → (Rose (S.faults src.old) (S.faults src.new) → ⊥) → IfOk result (TellsOf script report) }
 {
     match read_words(words) {
-        Some(Command::Run) => run_script(alloc, src),
-        Some(Command::Big(number)) => run_work(alloc, number),
+        Some(Command::Run) => run_script(rt, alloc, src, gate),
+        Some(Command::Big(number)) => run_work(rt, alloc, number, gate),
         Some(Command::Check) => check_input(alloc, src),
         None => Ok(Outcome::Line(Status::Usage, line(alloc, "usage: anna COMMAND")?)),
     }
@@ -238,19 +257,24 @@ fn outcome_of<S: Source>(alloc: Global, words: &[String], src: &mut S) -> Result
 /// bytes, and writes whether the report is legal, or its first place that is not lawful. Where the words are
 /// of no accepted form the source is left alone, and where memory runs out nothing is written.
 ///
+/// A script and the large work are run in threads: every worker and every session takes its turns beside the others,
+/// and the gate is called before each. Of what it says here nothing depends on the order in which they do.
+///
 /// Beside the status comes the run that was made: at status 0, and where the sink failed on its text.
-pub fn run<S: Source, K: Sink>(
+pub fn run<S: Source, K: Sink, E: Gate + Sync, H: Threads + Sync>(
+    rt: &H,
     alloc: Global,
     words: &[String],
     src: &mut S,
     sink: &mut K,
+    gate: &E,
 ) -> (Status, Parts)
     // The status says what was owed, and that it was written.
     ensures ends { IsEnd (command_in words.now) (use_of S.left S.faults src.old src.new)
         (sink_use_of K.written K.faults sink.old sink.new)
         (ran_of (made_of
-        ⟦<PlainRx<Request> as Rx<Request>>⟧.received ⟦<PlainRx<Batch> as GossipRx<Batch>>⟧.got
-        ⟦<PlainRx<Reply> as Rx<Reply>>⟧.received)
+        ⟦<RingRx<Request> as Rx<Request>>⟧.received ⟦<RingRx<Batch> as GossipRx<Batch>>⟧.got
+        ⟦<RingRx<Reply> as Rx<Reply>>⟧.received)
         result.1) result.0 }
 
     // No more than one byte more than the input may have is taken, and nothing where no input is asked for.
@@ -272,14 +296,14 @@ pub fn run<S: Source, K: Sink>(
     ensures counts { KeepsCounts (use_of S.left S.faults src.old src.new)
         (sink_use_of K.written K.faults sink.old sink.new) }
 {
-    match outcome_of(alloc, words, src) {
+    match outcome_of(rt, alloc, words, src, gate) {
         Ok(Outcome::Report(script, drained)) => {
             let status = written(write_report(&script, &drained.report, sink));
-            (status, Parts::Plain(drained))
+            (status, Parts::Rings(drained))
         }
         Ok(Outcome::Summary(number, script, drained)) => {
             let status = written(write_summary(number, &script, &drained.report, sink));
-            (status, Parts::Plain(drained))
+            (status, Parts::Rings(drained))
         }
         Ok(Outcome::Line(status, text)) => {
             (
@@ -303,37 +327,41 @@ fn written(wrote: Result<(), Failed>) -> Status
 
 /// Runs the program on the words that it was given, where there are some. Words that are no text are of
 /// no accepted form; where there was no room for them, nothing is read or written.
-fn run_given<S: Source, K: Sink>(
+fn run_given<S: Source, K: Sink, E: Gate + Sync, H: Threads + Sync>(
+    rt: &H,
     alloc: Global,
     words: Result<Vec<String>, WordsFault>,
     src: &mut S,
     sink: &mut K,
+    gate: &E,
 ) -> (Status, Parts)
     ensures { IsRunOf words (use_of S.left S.faults src.old src.new)
         (sink_use_of K.written K.faults sink.old sink.new)
         (ran_of (made_of
-        ⟦<PlainRx<Request> as Rx<Request>>⟧.received ⟦<PlainRx<Batch> as GossipRx<Batch>>⟧.got
-        ⟦<PlainRx<Reply> as Rx<Reply>>⟧.received)
+        ⟦<RingRx<Request> as Rx<Request>>⟧.received ⟦<RingRx<Batch> as GossipRx<Batch>>⟧.got
+        ⟦<RingRx<Reply> as Rx<Reply>>⟧.received)
         result.1) result.0 }
 {
     match words {
-        Ok(words) => run(alloc, &words, src, sink),
-        Err(WordsFault::NotText) => run(alloc, &[], src, sink),
+        Ok(words) => run(rt, alloc, &words, src, sink, gate),
+        Err(WordsFault::NotText) => run(rt, alloc, &[], src, sink, gate),
         Err(WordsFault::NoMemory) => (Status::NoMemory, Parts::Nothing),
     }
 }
 
 /// Runs the program on the words that it was given, and answers the number that it exits with.
-pub fn exit_of<S: Source, K: Sink>(
+pub fn exit_of<S: Source, K: Sink, E: Gate + Sync, H: Threads + Sync>(
+    rt: &H,
     alloc: Global,
     words: Result<Vec<String>, WordsFault>,
     src: &mut S,
     sink: &mut K,
+    gate: &E,
 ) -> u8
     ensures { IsExitOf words (use_of S.left S.faults src.old src.new)
         (sink_use_of K.written K.faults sink.old sink.new) result }
 {
-    let (status, _) = run_given(alloc, words, src, sink);
+    let (status, _) = run_given(rt, alloc, words, src, sink, gate);
     status.number()
 }
 

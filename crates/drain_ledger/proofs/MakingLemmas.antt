@@ -1,13 +1,18 @@
--- Rows of senders and boxes that are of one making: the boxes may take them in, and of one making they stay while keys and numbers stay.
-use Rattle.std.specs.Prelude.{◌≡◌, ◌&&◌, ◌==◌, ℕ, ◌+◌, Bool, false, if◌then◌else◌, List, All, length, map, slice_get, Some}
+-- Rows of senders and boxes that are of one making: the boxes may take them in, and of one making they stay while keys and numbers stay; and workers
+-- whose ends of gossip are of one making can be held beside each other.
+use Rattle.std.specs.Prelude.{◌≡◌, ◌&&◌, ◌==◌, ℕ, ◌+◌, ◌<◌, ◌^◌, Bool, true, false, if◌then◌else◌, List, All, length, map, slice_get, Some}
 use Rattle.std.proofs.Common.{◌∙◌, sym, ap, subst, arith}
+use Rattle.std.proofs.lemmas.Bool.{ne_eqb}
 use Rattle.std.proofs.lemmas.List.{length-map}
 use Rattle.std.proofs.lemmas.Option.{slice_get_within}
 use Rattle.mail_contract.specs.Standing.{About, IsSettled}
 use Rattle.drain_steps.specs.Settling.{MayTakeAll, MayTakeIn, column, index_in}
 use Rattle.drain_steps.proofs.ChainLemmas.{Does, may_all}
+use Rattle.worker_core.specs.State.{Entries, PlainWorker}
+use Rattle.drain_turns.specs.Ready.{AreMates}
 use Rattle.drain_ledger.specs.Handed.{AreOfOneMaking}
-use Rattle.drain_steps.proofs.ItemsLemmas.{all_there, also_there, at_its_place, there_is}
+use Rattle.drain_ledger.proofs.GossipTakenLemmas.{mate_index}
+use Rattle.drain_steps.proofs.ItemsLemmas.{all_there, also_there, at_its_place, mapped, there_is}
 
 -- numbers that all are the same, where the lists of numbers are
 same_numbers : {S : Type 0} (number : S → ℕ) (n : ℕ) (is was : List S) → map number is ≡ map number was → All (λ sender. number sender ≡ n) was → All (λ sender. number sender ≡ n) is
@@ -60,3 +65,24 @@ module _ {S P M K SK : Type 0} {sender_key : S → SK} {number : S → ℕ} {pai
 
       same_long : (row : ℕ) (was is : List S) → slice_get rows row ≡ Some was → slice_get rows_now row ≡ Some is → length is ≡ length was
       same_long row was is was_there there = sym (length-map is number) ∙ ap length (numbers row was is was_there there) ∙ length-map was number
+
+-- workers whose ends of gossip are of one making can be held beside each other
+pub made_mates : {Q T O G OK GK : Type 0} {gossip_key : O → OK} {gossip_number : O → ℕ} {in_key : G → GK} {in_pairs : GK → OK → ℕ → Type 0}
+    (in_about : G → ℕ → About Entries) (workers : List (PlainWorker Q T O G)) → length workers + 1 < 2 ^ 16
+    → ((place : ℕ) (worker : PlainWorker Q T O G) → slice_get workers place ≡ Some worker → worker.state.me ≡ place + 1)
+    → AreOfOneMaking gossip_key gossip_number in_pairs (λ (worker : PlainWorker Q T O G). in_key worker.ends.gossip_in) (λ worker. in_about worker.ends.gossip_in)
+    true (map (λ worker. worker.ends.gossip_out.items) workers) workers
+    → AreMates gossip_key gossip_number in_key in_pairs workers
+made_mates {Q} {T} {O} {G} in_about workers few numbered making =
+    let senders_there = mapped (λ (worker : PlainWorker Q T O G). worker.ends.gossip_out.items) workers in
+    record {
+      few = few;
+      numbered = numbered;
+      mates = λ place worker there.
+          at_its_place (λ senders. length senders + 1 ≡ length workers) (map (λ worker. worker.ends.gossip_out.items) workers) place worker.ends.gossip_out.items making.many
+          (senders_there place worker there);
+      numbers = λ place worker there. making.numbers place worker.ends.gossip_out.items (senders_there place worker there);
+      paired = λ place other worker mate sender there its_there apart at.
+          making.paired place other worker.ends.gossip_out.items sender mate (senders_there place worker there) its_there (ne_eqb place other (λ same. apart (sym same)))
+          (ap (slice_get worker.ends.gossip_out.items) (mate_index place other apart) ∙ at);
+    }

@@ -1,7 +1,7 @@
 -- What the workers' boxes of requests know once they took in the senders of the ended sessions, and what they received once nothing is left to do.
-use Rattle.std.specs.Prelude.{◌≡◌, ℕ, zero, suc, ◌+◌, ◌<◌, false, IsTrue, Bool, List, [], ◌∷◌, All, length, map, slice_get, Option, Some}
+use Rattle.std.specs.Prelude.{◌≡◌, ℕ, zero, suc, ◌+◌, ◌<◌, ◌^◌, false, IsTrue, Bool, List, [], ◌∷◌, All, length, map, slice_get, Option, Some}
 use Rattle.std.proofs.Common.{◌∙◌, refl, sym, ap, subst, inl, inr, arith}
-use Rattle.std.proofs.lemmas.Bool.{cases_lt, ne_eqb}
+use Rattle.std.proofs.lemmas.Bool.{cases_lt}
 use Rattle.std.proofs.lemmas.List.Elements.{All-nil}
 use Rattle.std.proofs.lemmas.List.{length-map}
 use Rattle.std.proofs.lemmas.Option.{slice_get_within}
@@ -17,15 +17,16 @@ use Rattle.session_proxy.specs.State as sessions
 use Rattle.store_msg.specs.Reply.{PlainReply}
 use Rattle.store_msg.specs.declared.ends.SessionEndsOver.{SessionEndsOver}
 use Rattle.store_msg.specs.declared.request.Request.{Request}
-use Rattle.worker_core.specs.State.{Entries, PlainWorker, place_at}
+use Rattle.worker_core.specs.State.{Entries, PlainWorker}
 use Rattle.run_ledger.specs.Parties.{HaveEnded}
 use Rattle.run_ledger.proofs.FrontsLemmas.{each_from}
 use Rattle.drain_steps.specs.Settling.{MayTakeAll, MayTakeIn, TakesAll, TakesInRequests, column}
 use Rattle.drain_steps.proofs.ChainLemmas.{Does, IsNumbered, IsSettledAs, TakenInAll, all_taken, may_all, others_stay}
 use Rattle.drain_turns.specs.Ready.{AreReady}
 use Rattle.drain_turns.specs.Turning.{AreInRange, AreSettled, HasGoneOn, IsDone}
+use Rattle.drain_turns.proofs.PassesGoingOn.{mates_stay}
 use Rattle.drain_ledger.specs.Handed.{AreOfOneRun, IsOfScript, IsUnused, lists_left}
-use Rattle.drain_ledger.proofs.GossipTakenLemmas.{mate_index}
+use Rattle.drain_ledger.proofs.MakingLemmas.{made_mates}
 use Rattle.drain_steps.proofs.ItemsLemmas.{at_its_place, long_alike, mapped, there_is, there_too}
 
 -- as many sessions left their ends as there are plans
@@ -69,10 +70,6 @@ module _ {S T O Q G R SK TK OK QK GK RK : Type 0}
 
   abbrev about_of : PlainWorker Q T O G → ℕ → About Request
   about_of worker = requests_about worker.ends.requests
-
-  -- its senders of gossip
-  abbrev gossip_of : PlainWorker Q T O G → List O
-  gossip_of worker = worker.ends.gossip_out.items
 
   -- the senders of a session, and of each
   abbrev senders_of : List Answer × SessionEndsOver S R → List S
@@ -271,27 +268,14 @@ module _ {S T O Q G R SK TK OK QK GK RK : Type 0}
           → AreReady complete (λ its. requests_senders (requests_key its)) requests_received requests_about gossip_key gossip_number
           in_key in_pairs in_senders in_about taken
       are_ready complete = record {
-        few = let most = run.valid.config.workers_most in omega (arith, most, run.as_many, long);
-        numbered = λ place now is.
-            let was = as_it_was place now is in
-            ap (λ state. state.me) (same_state place was.0 now was.1 is) ∙ (run.workers_are place was.0 was.1).me;
-        mates = λ place now is.
-            let was = as_it_was place now is in
-            let mates = (run.workers_are place was.0 was.1).mates in
-            let same = ap (λ senders. length senders.items) (same_gossip_out place was.0 now was.1 is) in
-            omega (arith, mates, same, run.as_many, long);
-        numbers = λ place now is.
-            let was = as_it_was place now is in
-            subst (λ senders. All (λ sender. gossip_number sender ≡ place + 1) senders.items) (sym (same_gossip_out place was.0 now was.1 is))
-            (run.gossip.numbers place was.0.ends.gossip_out.items (mapped gossip_of workers place was.0 was.1));
-        paired = λ place other now mate sender is there apart sender_is.
-            let was = as_it_was place now is in
-            let mate_was = as_it_was other mate there in
-            subst (λ box. in_pairs (in_key box) (gossip_key sender) (gossip_number sender)) (sym (same_gossip_in other mate_was.0 mate mate_was.1 there))
-            (run.gossip.paired place other was.0.ends.gossip_out.items sender mate_was.0 (mapped gossip_of workers place was.0 was.1) mate_was.1
-            (ne_eqb place other (λ same. apart (sym same)))
-            (ap (slice_get was.0.ends.gossip_out.items) (mate_index place other apart)
-            ∙ sym (ap (λ senders. slice_get senders.items (place_at (place + 1) (other + 1))) (same_gossip_out place was.0 now was.1 is)) ∙ sender_is));
+        are_mates =
+            let few : length workers + 1 < 2 ^ 16 = let most = run.valid.config.workers_most in omega (arith, most, run.as_many) in
+            mates_stay workers taken long (λ place before now was is. record {
+              me = ap (λ state. state.me) (same_state place before now was is);
+              keys = ap (λ senders. map gossip_key senders.items) (same_gossip_out place before now was is);
+              numbers = ap (λ senders. map gossip_number senders.items) (same_gossip_out place before now was is);
+              box_key = ap in_key (same_gossip_in place before now was is);
+            }) (made_mates in_about workers few (λ place worker there. (run.workers_are place worker there).me) run.gossip);
         settled = λ place now is. all_settled complete place now is;
         met = λ place now is sender within.
             let was = as_it_was place now is in

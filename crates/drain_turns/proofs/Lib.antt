@@ -1,3 +1,4 @@
+pub mod MatesLemmas
 pub mod PairLemmas
 pub mod PairListsLemmas
 pub mod PairPlacesLemmas
@@ -5,7 +6,6 @@ pub mod PassesGoingOn
 pub mod PassesHeldLemmas
 pub mod PassesLemmas
 pub mod PassesTurnLemmas
-pub mod ReadyLemmas
 pub mod ShownLemmas
 pub mod StretchLemmas
 pub mod TurningBoxesLemmas

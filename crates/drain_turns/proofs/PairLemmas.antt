@@ -1,36 +1,34 @@
 -- Two workers are held beside each other.
-use Rattle.std.specs.Prelude.{◌≡◌, ◌≢◌, ◌⊎◌, ℕ, ◌+◌, Bool, IsTrue, List, [], map, slice_get, slice_index_or, Option, Some}
+use Rattle.std.specs.Prelude.{◌≡◌, ◌≢◌, ◌⊎◌, ℕ, ◌+◌, IsTrue, List, [], map, slice_get, slice_index_or, Option, Some}
 use Rattle.std.proofs.Common.{◌∙◌, ap, inl, inr, subst, sym}
 use Rattle.std.proofs.lemmas.Option.{slice_get_within}
 use Rattle.mail_contract.specs.Got.{AreIn}
 use Rattle.mail_contract.specs.Parts.{Parts}
 use Rattle.mail_contract.specs.Standing.{About, Learned}
-use Rattle.store_msg.specs.declared.request.Request.{Request}
 use Rattle.worker_core.specs.Room.{LearnsRoomAt}
 use Rattle.worker_core.specs.State.{Entries, PlainWorker, place_at}
-use Rattle.drain_turns.specs.Ready.{AreReady, AreShown, Sees, steady_of}
+use Rattle.drain_turns.specs.Ready.{AreMates, AreShown, Sees, steady_of}
 use Rattle.drain_turns.proofs.PairListsLemmas.{BothChange, of_those, same_of_all}
-use Rattle.drain_turns.proofs.ReadyLemmas.{by_numbers, number_there}
+use Rattle.drain_turns.proofs.MatesLemmas.{by_numbers, number_there}
 
-module _ {Q T O G OK GK : Type 0} {complete : Bool} {senders : Q → ℕ} {received : Q → List (ℕ × Request)} {about : Q → ℕ → About Request} {out_key : O → OK} {number : O → ℕ} {in_key : G → GK}
-    {pairs : GK → OK → ℕ → Type 0} {in_senders : GK → ℕ} {in_about : G → ℕ → About Entries} {workers : List (PlainWorker Q T O G)}
-    (ready : AreReady complete senders received about out_key number in_key pairs in_senders in_about workers)
+module _ {Q T O G OK GK : Type 0} {out_key : O → OK} {number : O → ℕ} {in_key : G → GK} {pairs : GK → OK → ℕ → Type 0} {workers : List (PlainWorker Q T O G)}
+    (are_mates : AreMates out_key number in_key pairs workers)
     (place other : ℕ) (was now mate : PlainWorker Q T O G) (there : slice_get workers place ≡ Some was) (its_there : slice_get workers other ≡ Some mate) (differs : other ≢ place) where
   -- where the senders to each other stand, and their numbers
   its_at : place_at mate.state.me was.state.me ≡ place_at (other + 1) (place + 1)
-  its_at = by_numbers ready other place mate was its_there there (λ same. differs (sym same))
+  its_at = by_numbers are_mates other place mate was its_there there (λ same. differs (sym same))
 
   its_number : slice_index_or (map number mate.ends.gossip_out.items) (place_at mate.state.me was.state.me) 0 ≡ other + 1
   its_number =
       ap (λ n. slice_index_or (map number mate.ends.gossip_out.items) n 0) its_at
-      ∙ number_there ready other place mate its_there (slice_get_within workers place was there) (λ same. differs (sym same))
+      ∙ number_there are_mates other place mate its_there (slice_get_within workers place was there) (λ same. differs (sym same))
 
   own_at : place_at was.state.me mate.state.me ≡ place_at (place + 1) (other + 1)
-  own_at = by_numbers ready place other was mate there its_there differs
+  own_at = by_numbers are_mates place other was mate there its_there differs
 
   own_number : slice_index_or (map number was.ends.gossip_out.items) (place_at was.state.me mate.state.me) 0 ≡ place + 1
   own_number =
-      ap (λ n. slice_index_or (map number was.ends.gossip_out.items) n 0) own_at ∙ number_there ready place other was there (slice_get_within workers other mate its_there) differs
+      ap (λ n. slice_index_or (map number was.ends.gossip_out.items) n 0) own_at ∙ number_there are_mates place other was there (slice_get_within workers other mate its_there) differs
 
   -- what a worker learns of the mate beside it, where both go by their places
   pub sees_mate : {clear : O → Type 0} {unseen : O → ℕ} {told : O → List Entries} {keeps : Parts} {got : G → ℕ → ℕ → Option Entries} {about : G → ℕ → About Entries}

@@ -1,6 +1,7 @@
 -- Items of a list at their places, and two of them that change.
-use Rattle.std.specs.Prelude.{◌≡◌, ◌≢◌, ℕ, suc, ◌-◌, ◌<◌, List, [], ◌∷◌, ◌++◌, length, map, option_map, slice_get, slice_index_or, slice_set, Some}
+use Rattle.std.specs.Prelude.{◌≡◌, ◌≢◌, ℕ, suc, ◌-◌, ◌<◌, List, [], ◌∷◌, ◌++◌, drop, length, map, option_map, slice_get, slice_index_or, slice_set, take, Some}
 use Rattle.std.proofs.Common.{◌∙◌, refl, sym, ap, arith, inl, inr, subst}
+use Rattle.std.proofs.Math.Seq.{take-append_seam}
 use Rattle.std.proofs.lemmas.Bool.{cases_eq}
 use Rattle.std.proofs.lemmas.List.{get_or-append_right, get_or_append_left, length-set, set-append_left, set-append_right}
 use Rattle.std.proofs.lemmas.Option.{none-some, same_Some, slice_get-get_or, slice_get-map}
@@ -12,6 +13,10 @@ pub still_at : {X Y : Type 0} (f : X → Y) (before now : List X) (place : ℕ) 
     → slice_get now place ≡ Some is → f is ≡ f was
 still_at f before now place was is same was_there is_there =
     same_Some (f is) (f was) (ap (option_map f) (sym is_there) ∙ sym (slice_get-map f now place) ∙ same ∙ slice_get-map f before place ∙ ap (option_map f) was_there)
+
+-- a slice of all items, put back, is all
+pub whole : {X : Type 0} (old now : List X) (n : ℕ) → n ≡ length old → length now ≡ length old → take n (now ++ drop (length now) old) ≡ now
+whole old now n many as_many = ap (λ n. take n (now ++ drop (length now) old)) (many ∙ sym as_many) ∙ take-append_seam now (drop (length now) old)
 
 -- lists that have the same at each place are the same
 pub same_items : {X : Type 0} (xs ys : List X) → ((at : ℕ) → slice_get xs at ≡ slice_get ys at) → xs ≡ ys

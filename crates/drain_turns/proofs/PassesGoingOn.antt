@@ -11,7 +11,7 @@ use Rattle.store_msg.specs.Reply.{PlainReply}
 use Rattle.store_msg.specs.declared.request.Request.{Request}
 use Rattle.worker_core.specs.Share.{asked_by}
 use Rattle.worker_core.specs.State.{Entries, PlainWorker, place_at}
-use Rattle.drain_turns.specs.Ready.{AreReady, FindPlaces, HaveGoneOn, IsMate, StandsOrIsShown}
+use Rattle.drain_turns.specs.Ready.{AreMates, AreReady, FindPlaces, HaveGoneOn, IsMate, StandsOrIsShown}
 use Rattle.drain_turns.specs.Turning.{HasGoneOn, settled_sent}
 use Rattle.drain_steps.proofs.ItemsLemmas.{there_too}
 use Rattle.drain_turns.proofs.PairListsLemmas.{still_at}
@@ -91,6 +91,41 @@ was_sender key number before now place sender keys numbers there =
       number_is = sym (still_at number before now place at.0 sender (ap (λ those. slice_get those place) numbers) at.1 there);
     }
 
+-- What stays of a worker that can be held beside others: its number, and the keys and numbers of its ends of gossip.
+pub record KeepsMates {Q T O G OK GK : Type 0} (gossip_key : O → OK) (gossip_number : O → ℕ) (in_key : G → GK) (before now : PlainWorker Q T O G) : Type 0 where
+  pub me : now.state.me ≡ before.state.me
+  pub keys : map gossip_key now.ends.gossip_out.items ≡ map gossip_key before.ends.gossip_out.items
+  pub numbers : map gossip_number now.ends.gossip_out.items ≡ map gossip_number before.ends.gossip_out.items
+  pub box_key : in_key now.ends.gossip_in ≡ in_key before.ends.gossip_in
+
+-- workers of which that stays can be held beside each other still
+pub mates_stay : {Q T O G OK GK : Type 0} {gossip_key : O → OK} {gossip_number : O → ℕ} {in_key : G → GK} {pairs : GK → OK → ℕ → Type 0}
+    (before now : List (PlainWorker Q T O G)) → length now ≡ length before
+    → ((place : ℕ) (was is : PlainWorker Q T O G) → slice_get before place ≡ Some was → slice_get now place ≡ Some is → KeepsMates gossip_key gossip_number in_key was is)
+    → AreMates gossip_key gossip_number in_key pairs before → AreMates gossip_key gossip_number in_key pairs now
+mates_stay {Q} {T} {O} {G} {OK} {GK} {gossip_key} {gossip_number} {in_key} {pairs} before now long keep are_mates = record {
+  few = let few = are_mates.few in omega (arith, few, long);
+  numbered = λ place is there. let was = there_too before now place is long there in (keep place was.0 is was.1 there).me ∙ are_mates.numbered place was.0 was.1;
+  mates = λ place is there.
+      let was = there_too before now place is long there in
+      let as_many = ap length (keep place was.0 is was.1 there).numbers in
+      let many = are_mates.mates place was.0 was.1 in
+      omega (arith, many, as_many, long, length-map is.ends.gossip_out.items gossip_number, length-map was.0.ends.gossip_out.items gossip_number);
+  numbers = λ place is there.
+      let was = there_too before now place is long there in
+      all_of_map gossip_number (λ n. n ≡ place + 1) is.ends.gossip_out.items
+      (subst (All (λ n. n ≡ place + 1)) (sym (keep place was.0 is was.1 there).numbers)
+      (All-map (λ n. n ≡ place + 1) gossip_number was.0.ends.gossip_out.items (are_mates.numbers place was.0 was.1)));
+  paired = λ place other is its_is sender there its_there differs at.
+      let was = there_too before now place is long there in
+      let its_was = there_too before now other its_is long its_there in
+      let keeps = keep place was.0 is was.1 there in
+      let its_keeps = keep other its_was.0 its_is its_was.1 its_there in
+      let old = was_sender gossip_key gossip_number was.0.ends.gossip_out.items is.ends.gossip_out.items (place_at (place + 1) (other + 1)) sender keeps.keys keeps.numbers at in
+      subst (λ (all : GK × (OK × ℕ)). pairs all.0 all.1.0 all.1.1) (λ j. (sym its_keeps.box_key j, (old.key_is j, old.number_is j)))
+      (are_mates.paired place other was.0 its_was.0 old.sender was.1 its_was.1 differs old.there);
+}
+
 module _ {Q T O G QK TK OK GK : Type 0} {request_key : Q → QK} {reply_key : T → TK} {reply_number : T → ℕ} {gossip_key : O → OK} {gossip_number : O → ℕ} {in_key : G → GK}
     {complete : Bool} {senders : QK → ℕ} {received : Q → List (ℕ × Request)} {about : Q → ℕ → About Request} {replied : T → List PlainReply}
     {all_told : Bool} {mates : GK → ℕ} {got : G → ℕ → ℕ → Option Entries} {about_mates : G → ℕ → About Entries} (before now : List (PlainWorker Q T O G))
@@ -103,28 +138,10 @@ module _ {Q T O G QK TK OK GK : Type 0} {request_key : Q → QK} {reply_key : T 
   pub ready_stays : {pairs : GK → OK → ℕ → Type 0}
       → AreReady complete (λ its. senders (request_key its)) received about gossip_key gossip_number in_key pairs mates about_mates before
       → AreReady complete (λ its. senders (request_key its)) received about gossip_key gossip_number in_key pairs mates about_mates now
-  ready_stays {pairs} ready = record {
-    few = let few = ready.few in omega (arith, few, goes_on.long);
-    numbered = λ place is there. let was = who_was place is there in (goes_on.gone_on place was.0 is was.1 there).fixed.me ∙ ready.numbered place was.0 was.1;
-    mates = λ place is there.
-        let was = who_was place is there in
-        let as_many = ap length (goes_on.gone_on place was.0 is was.1 there).keys.gossip_out_numbers in
-        let many = ready.mates place was.0 was.1 in
-        omega (arith, many, as_many, goes_on.long, length-map is.ends.gossip_out.items gossip_number, length-map was.0.ends.gossip_out.items gossip_number);
-    numbers = λ place is there.
-        let was = who_was place is there in
-        all_of_map gossip_number (λ n. n ≡ place + 1) is.ends.gossip_out.items
-        (subst (All (λ n. n ≡ place + 1)) (sym (goes_on.gone_on place was.0 is was.1 there).keys.gossip_out_numbers)
-        (All-map (λ n. n ≡ place + 1) gossip_number was.0.ends.gossip_out.items (ready.numbers place was.0 was.1)));
-    paired = λ place other is its_is sender there its_there differs at.
-        let was = who_was place is there in
-        let its_was = who_was other its_is its_there in
-        let goes = goes_on.gone_on place was.0 is was.1 there in
-        let keys = (goes_on.gone_on other its_was.0 its_is its_was.1 its_there).keys in
-        let place_is = place_at (place + 1) (other + 1) in
-        let old = was_sender gossip_key gossip_number was.0.ends.gossip_out.items is.ends.gossip_out.items place_is sender goes.keys.gossip_out_keys goes.keys.gossip_out_numbers at in
-        subst (λ (all : GK × (OK × ℕ)). pairs all.0 all.1.0 all.1.1) (λ j. (sym keys.gossip_in_key j, (old.key_is j, old.number_is j)))
-        (ready.paired place other was.0 its_was.0 old.sender was.1 its_was.1 differs old.there);
+  ready_stays ready = record {
+    are_mates = mates_stay before now goes_on.long (λ place was is there also.
+        let goes = goes_on.gone_on place was is there also in
+        record { me = goes.fixed.me; keys = goes.keys.gossip_out_keys; numbers = goes.keys.gossip_out_numbers; box_key = goes.keys.gossip_in_key }) ready.are_mates;
     settled = λ place is there. let was = who_was place is there in (goes_on.gone_on place was.0 is was.1 there).settled (ready.settled place was.0 was.1);
     met = λ place is there sender one_of.
         let was = who_was place is there in

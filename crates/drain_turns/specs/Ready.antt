@@ -15,17 +15,22 @@ use Rattle.drain_turns.specs.Turning.{AreSettled, HasGoneOn, not_taken, settled_
 abbrev pub IsMate : ℕ → ℕ → ℕ → Type 0
 IsMate workers me mate = IsOneOf workers mate × (mate ≢ me)
 
--- Workers, numbered from 1, whose sessions are settled: each has a sender of gossip for each other one, of its own number, which is of one making
--- with that one's box; and of each sender of a box that is none of a mate it is known how many messages are left.
-pub record AreReady {Q T O G OK GK : Type 0} (complete : Bool) (senders : Q → ℕ) (received : Q → List (ℕ × Request)) (about : Q → ℕ → About Request)
-    (out_key : O → OK) (number : O → ℕ) (in_key : G → GK) (pairs : GK → OK → ℕ → Type 0) (in_senders : GK → ℕ) (in_about : G → ℕ → About Entries)
-    (workers : List (PlainWorker Q T O G)) : Type 0 where
+-- Workers, numbered from 1, that can be held beside each other: each has a sender of gossip for each other one, of its own number, which is of one
+-- making with that one's box.
+pub record AreMates {Q T O G OK GK : Type 0} (out_key : O → OK) (number : O → ℕ) (in_key : G → GK) (pairs : GK → OK → ℕ → Type 0) (workers : List (PlainWorker Q T O G)) : Type 0 where
   pub few : length workers + 1 < 2 ^ 16
   pub numbered : (place : ℕ) (worker : PlainWorker Q T O G) → slice_get workers place ≡ Some worker → worker.state.me ≡ place + 1
   pub mates : (place : ℕ) (worker : PlainWorker Q T O G) → slice_get workers place ≡ Some worker → length worker.ends.gossip_out.items + 1 ≡ length workers
   pub numbers : (place : ℕ) (worker : PlainWorker Q T O G) → slice_get workers place ≡ Some worker → All (λ sender. number sender ≡ place + 1) worker.ends.gossip_out.items
   pub paired : (place other : ℕ) (worker mate : PlainWorker Q T O G) (sender : O) → slice_get workers place ≡ Some worker → slice_get workers other ≡ Some mate → other ≢ place
       → slice_get worker.ends.gossip_out.items (place_at (place + 1) (other + 1)) ≡ Some sender → pairs (in_key mate.ends.gossip_in) (out_key sender) (number sender)
+
+-- Workers that can be held beside each other and whose sessions are settled; and of each sender of a box that is none of a mate it is known how many
+-- messages are left.
+pub record AreReady {Q T O G OK GK : Type 0} (complete : Bool) (senders : Q → ℕ) (received : Q → List (ℕ × Request)) (about : Q → ℕ → About Request)
+    (out_key : O → OK) (number : O → ℕ) (in_key : G → GK) (pairs : GK → OK → ℕ → Type 0) (in_senders : GK → ℕ) (in_about : G → ℕ → About Entries)
+    (workers : List (PlainWorker Q T O G)) : Type 0 where
+  pub are_mates : AreMates out_key number in_key pairs workers
   pub settled : (place : ℕ) (worker : PlainWorker Q T O G) → slice_get workers place ≡ Some worker
       → AreSettled complete (senders worker.ends.requests) (received worker.ends.requests) (about worker.ends.requests)
   pub met : (place : ℕ) (worker : PlainWorker Q T O G) → slice_get workers place ≡ Some worker → (sender : ℕ) → IsOneOf (in_senders (in_key worker.ends.gossip_in)) sender

@@ -1,6 +1,6 @@
 //! The workers take their turns, one after another, until nothing is left to do.
 ghost use Rattle.std.specs.Prelude.{◌≡◌, ◌≢◌, ◌⊎◌, ◌<◌, ◌≤◌, ◌+◌, ℕ, false, if◌then◌else◌, length, slice_get, IfOk, IsFalse, IsTrue, OnOk, Some};
-ghost use Rattle.drain_turns.specs.Ready.{AreReady, AreShown, FindPlaces, FreesPlaces, HasHeard, HaveGoneOn, HaveHeard, HaveNoneLeft, Knows, MatesHeard, NeverFull, StandsOrIsShown, Steady, keys_left, left_to, steadies};
+ghost use Rattle.drain_turns.specs.Ready.{AreMates, AreReady, AreShown, FindPlaces, FreesPlaces, HasHeard, HaveGoneOn, HaveHeard, HaveNoneLeft, Knows, MatesHeard, NeverFull, StandsOrIsShown, Steady, keys_left, left_to, steadies};
 ghost use Rattle.drain_turns.specs.Turning.{HasGoneOn, IsDone};
 ghost use Rattle.mail_contract.specs.Boxes.{box_of};
 ghost use Rattle.worker_core.specs.State.{PlainWorker, dirty};
@@ -191,16 +191,16 @@ fn show_to_all<T: Tx<Reply>, O: Tx<Batch>, Q: Rx<Request>, G: GossipRx<Batch, Fr
     }
 }
 
-/// Holds the workers at two places beside each other.
-fn show_pair<T: Tx<Reply>, O: Tx<Batch>, Q: Rx<Request>, G: GossipRx<Batch, From = O>>(
+/// Holds the workers at two places, from 0, beside each other, so that each box of gossip learns what the other
+/// one's sender has. Nothing else changes of them, and nothing of the others. Takes no memory.
+pub fn show_pair<T: Tx<Reply>, O: Tx<Batch>, Q: Rx<Request>, G: GossipRx<Batch, From = O>>(
     workers: &mut [WorkerOver<Q, T, O, G>],
     place: usize,
     other: usize,
 )
     requires within { (place < length workers.old) × (other < length workers.old) }
     requires differ { other ≢ place }
-    requires ready { AreReady Q.keeps.complete (λ its. Q.senders (Q.key its)) Q.received Q.about
-        O.key O.number G.key G.pairs G.senders G.about workers.old }
+    requires mates { AreMates O.key O.number G.key G.pairs workers.old }
     ensures shown { AreShown O.key O.number O.sent O.clear O.unseen G.key G.keeps G.got G.about
         place other workers.old workers.new }
 {

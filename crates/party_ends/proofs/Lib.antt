@@ -1,7 +1,7 @@
 pub mod AllEndsLemmas
 pub mod DealLemmas
+pub mod FreshLemmas
 pub mod MadeLemmas
 pub mod OwnsLemmas
 pub mod PartiesLemmas
-pub mod PlainLemmas
 pub mod SettledLemmas

@@ -1,13 +1,14 @@
-//! All ends, and all parties, over plain mail.
+//! All ends, and all parties, over plain mail; and mail for threads.
 ghost use Rattle.std.specs.Prelude.{◌≡◌, ◌∷◌, [], All, length, IfOk};
 ghost use Rattle.placement.specs.Config.{IsValidConfig, placed};
 ghost use Rattle.placement.specs.Name.{IsName};
 ghost use Rattle.session_known.specs.Script.{IsValidScript};
 
 use super::*;
-use composed_value::Kind;
-use lattice_laws::Items;
-use mail_contract::{GossipRx, PlainRx, PlainTx, Rx, Tx};
+use clock_lattice::Clock;
+use composed_value::{Cell, Kind};
+use lattice_laws::{Items, NoMemory};
+use mail_contract::{GossipRx, Message, PlainRx, PlainTx, Rx, Tx};
 use party_run::{PartiesOver, SessionOver};
 use placement::{Config, KeyPlace, Name};
 use session_known::{Level, Line, Script, SessionPlan};
@@ -60,6 +61,83 @@ fn no_session(rt: HostRuntime) -> Result<(), Fail> {
     assert!(rt; worker.gossip_out.is_empty());
     assert!(rt; Rx::take(&mut worker.requests)?.is_none());
     assert!(rt; GossipRx::take(&mut worker.gossip_in)?.is_none());
+    Ok(())
+}
+
+/// The first of two senders sends a message, and then the second: whose messages the box hands out, one
+/// after another.
+fn taken_from<M: Drop, P: MakesMail<M>>(
+    maker: &P,
+    alloc: Global,
+    first: M,
+    second: M,
+) -> Result<[Option<u16>; 3], NoMemory> {
+    let (mut senders, mut mailbox) = maker.make(alloc, 2)?;
+    let mut taken = [None; 3];
+    if let (Some(mut two), Some(mut one)) = (senders.pop(), senders.pop()) {
+        if one.send(first).is_ok() && two.send(second).is_ok() {
+            for place in 0..3 {
+                taken[place] = mailbox.take()?.map(|(sender, _)| sender);
+            }
+        }
+    }
+    Ok(taken)
+}
+
+/// And so for a weak box.
+fn taken_from_weak<M: Drop, P: MakesGossip<M>>(
+    maker: &P,
+    alloc: Global,
+    first: M,
+    second: M,
+) -> Result<[Option<u16>; 3], NoMemory> {
+    let (mut senders, mut mailbox) = maker.make_weak(alloc, 2)?;
+    let mut taken = [None; 3];
+    if let (Some(mut two), Some(mut one)) = (senders.pop(), senders.pop()) {
+        if one.send(first).is_ok() && two.send(second).is_ok() {
+            for place in 0..3 {
+                taken[place] = mailbox.take()?.map(|(sender, _)| sender);
+            }
+        }
+    }
+    Ok(taken)
+}
+
+/// Whether a box of each kind of message hands out what its two senders sent, the first one's first, and no
+/// more.
+fn all_hand_out<P: MakesMail<Request> + MakesMail<Reply> + MakesGossip<Batch>>(
+    maker: &P,
+    alloc: Global,
+) -> Result<bool, NoMemory> {
+    let both = [Some(1), Some(2), None];
+    let ask = Request::Get {
+        ask: 1,
+        key: 1,
+        required: Clock::new(alloc),
+    };
+    let again = ask.copy()?;
+    let cell = Cell::empty(alloc, Kind::Max);
+    let reply = Reply::answer(1, 1, 1, &Clock::new(alloc), &cell)?;
+    let also = reply.copy()?;
+    let (tell, once_more) = (Batch::new(alloc)?, Batch::new(alloc)?);
+    Ok(
+        taken_from::<Request, P>(maker, alloc, ask, again)? == both
+            && taken_from::<Reply, P>(maker, alloc, reply, also)? == both
+            && taken_from_weak::<Batch, P>(maker, alloc, tell, once_more)? == both,
+    )
+}
+
+/// Boxes over rings hand out what their senders sent, in turn.
+#[test]
+fn rings_hand_out_what_was_sent(rt: HostRuntime) -> Result<(), Fail> {
+    assert!(rt; all_hand_out(&RingMaker, rt.alloc())?);
+    Ok(())
+}
+
+/// Boxes over queues hand out what their senders sent, in the order in which they sent it.
+#[test]
+fn queues_hand_out_what_was_sent(rt: HostRuntime) -> Result<(), Fail> {
+    assert!(rt; all_hand_out(&QueueMaker { rt }, rt.alloc())?);
     Ok(())
 }
 

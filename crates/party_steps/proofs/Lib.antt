@@ -2,9 +2,12 @@ mod ChangedLemmas
 mod FinishedLemmas
 mod MovedLemmas
 mod PolledLemmas
-mod PolledRunLemmas
 mod ServedLemmas
 mod TurnedLemmas
-mod TurnedRunLemmas
 mod UnusedLemmas
 mod YieldedLemmas
+pub mod PlacedLemmas
+pub mod PolledRunLemmas
+pub mod StepsLemmas
+pub mod TogetherLemmas
+pub mod TurnedRunLemmas

@@ -29,16 +29,16 @@ placed_still before now goes placed = record {
 
 -- A session has gone on, whether it has ended or not: where it moved it has done more, where not nothing has changed.
 abbrev pub MovesOn : Bool → Lists → Lists → Type 0
-MovesOn moved before now = (ended : Bool) → HasMovedOn (record { ended = ended; moved = moved }) before now
+MovesOn moved before now = (ended rested : Bool) → HasMovedOn (record { ended = ended; moved = moved; rested = rested }) before now
 
 -- at first it was not polled
 pub moves_still : (lists : Lists) → MovesOn false lists lists
-moves_still lists ended = record { goes_on = goes_still lists; moved = λ is. absurd (false≢true is); still = λ is. refl }
+moves_still lists ended rested = record { goes_on = goes_still lists; moved = λ is. absurd (false≢true is); still = λ is. refl }
 
 -- a poll that does something moves it, whatever went before,
 moves_more : (moved : Bool) (before between now : Lists) → MovesOn moved before between → HasDone between now → done between + 1 ≤ done now → MovesOn true before now
-moves_more moved before between now so_far goes more ended =
-    let earlier = so_far false in
+moves_more moved before between now so_far goes more ended rested =
+    let earlier = so_far false false in
     let rises = done_rises before between earlier.goes_on in
     record {
       goes_on = goes_through before between now earlier.goes_on goes;
@@ -57,7 +57,7 @@ moved_by progress.Ended moved = moved
 moves_by : (answer : Progress) (moved : Bool) (before between now : Lists) → IsPlaced before → MovesOn moved before between → HasDone between now → HasMoved answer between now
     → MovesOn (moved_by answer moved) before now
 moves_by progress.Moved moved before between now placed so_far goes more =
-    moves_more moved before between now so_far goes (more (placed_still before between (so_far false).goes_on placed))
+    moves_more moved before between now so_far goes (more (placed_still before between (so_far false false).goes_on placed))
 moves_by progress.Rest moved before between now placed so_far goes more = moves_more moved before between now so_far goes more
 moves_by progress.NotYet moved before between now placed so_far goes same = subst (MovesOn moved before) (sym same) so_far
 moves_by progress.Ended moved before between now placed so_far goes same = subst (MovesOn moved before) (sym same) so_far

@@ -1,8 +1,7 @@
 -- A run of which sessions were polled goes on.
-use Rattle.std.specs.Prelude.{◌≡◌, ℕ, ◌+◌, All, List, length, map, slice_get, Option, Some}
+use Rattle.std.specs.Prelude.{◌≡◌, ℕ, All, List, length, slice_get, Option, Some}
 use Rattle.std.proofs.Common.{◌∙◌, ap, refl, subst, sym}
-use Rattle.std.proofs.lemmas.List.{length-map}
-use Rattle.mail_contract.specs.Standing.{About, IsSettled}
+use Rattle.mail_contract.specs.Standing.{About}
 use Rattle.placement.specs.Config.{IsOneOf}
 use Rattle.session_known.specs.declared.script.SessionPlan.{SessionPlan}
 use Rattle.session_proxy.specs.State.{PlainProxy}
@@ -10,10 +9,10 @@ use Rattle.store_msg.specs.Reply.{PlainReply}
 use Rattle.store_msg.specs.declared.request.Request.{Request}
 use Rattle.worker_core.specs.State.{Entries, PlainWorker}
 use Rattle.party_run.specs.Running.{GoesOn, HaveEnds, IsSessionOf}
-use Rattle.drain_steps.proofs.ItemsLemmas.{long_alike, of_mapped, there_too}
-use Rattle.drain_ledger.proofs.MakingLemmas.{making_stays}
+use Rattle.drain_steps.proofs.ItemsLemmas.{long_alike, there_too}
 use Rattle.party_steps.specs.Polling.{HasPolled}
-use Rattle.party_steps.proofs.ChangedLemmas.{made_stays, same_there}
+use Rattle.party_run.proofs.ChangedLemmas.{done_to_none}
+use Rattle.party_run.proofs.KeptLemmas.{KeepsSessionEnds, KeepsWorkerEnds, ends_kept, worker_keeps}
 use Rattle.party_steps.proofs.TurnedRunLemmas.{not_settled_yet}
 
 -- a session of a script that was polled is one still
@@ -32,6 +31,16 @@ session_stays {request_number} {replies_key} {senders} {received} table many pla
       (polled.in_range (subst (λ last. All (λ message. IsOneOf last message.0) (received was.ends.replies)) (sym of_all) session.of_workers));
 }
 
+-- and it keeps its ends
+pub polled_keeps : {S R SK RK : Type 0} {request_key : S → SK} {request_number : S → ℕ} {asked : S → List Request} {replies_key : R → RK} {replies_senders : RK → ℕ}
+    {replies_received : R → List (ℕ × PlainReply)} {replies_about : R → ℕ → About PlainReply} (was is : PlainProxy S R)
+    → HasPolled request_key request_number asked replies_key replies_senders replies_received replies_about was is
+    → KeepsSessionEnds request_key request_number replies_key replies_about was is
+polled_keeps {replies_about = replies_about} was is polled = record {
+  keys = polled.keys;
+  no_worker = not_settled_yet (replies_about was.ends.replies) (replies_about is.ends.replies) polled.stand;
+}
+
 module _ {S T O Q G R SK TK OK QK GK RK : Type 0} {request_key : S → SK} {request_number : S → ℕ} {asked : S → List Request}
     {reply_key : T → TK} {reply_number : T → ℕ} {gossip_key : O → OK} {gossip_number : O → ℕ}
     {requests_key : Q → QK} {requests_pairs : QK → SK → ℕ → Type 0} {requests_senders : QK → ℕ} {requests_received : Q → List (ℕ × Request)} {requests_about : Q → ℕ → About Request}
@@ -40,47 +49,6 @@ module _ {S T O Q G R SK TK OK QK GK RK : Type 0} {request_key : S → SK} {requ
     (workers : List (PlainWorker Q T O G)) (sessions sessions_now : List (PlainProxy S R)) (long : length sessions_now ≡ length sessions)
     (each : (place : ℕ) (was is : PlainProxy S R) → slice_get sessions place ≡ Some was → slice_get sessions_now place ≡ Some is
     → HasPolled request_key request_number asked replies_key replies_senders replies_received replies_about was is) where
-  -- the ends of all stay such
-  ends_stay : HaveEnds request_key request_number reply_key reply_number gossip_key gossip_number
-      requests_key requests_pairs requests_senders requests_received requests_about in_key in_pairs in_senders got in_about
-      replies_key replies_pairs replies_senders replies_about workers sessions
-      → HaveEnds request_key request_number reply_key reply_number gossip_key gossip_number
-      requests_key requests_pairs requests_senders requests_received requests_about in_key in_pairs in_senders got in_about
-      replies_key replies_pairs replies_senders replies_about workers sessions_now
-  ends_stay have = record {
-    requests =
-        making_stays (map (λ its. its.ends.requests.items) sessions) (map (λ its. its.ends.requests.items) sessions_now) workers workers have.requests
-        (as_many (λ its. its.ends.requests.items)) refl
-        (made_stays (λ its. its.ends.requests.items) (map request_key) sessions sessions_now (λ place was is there also. (each place was is there also).keys.requests_keys))
-        (made_stays (λ its. its.ends.requests.items) (map request_number) sessions sessions_now (λ place was is there also. (each place was is there also).keys.requests_numbers))
-        (λ place was is there also. ap (λ worker. requests_key worker.ends.requests) (same_there workers place was is there also))
-        (λ row place was is there also kept not.
-        subst (λ (worker : PlainWorker Q T O G). IsSettled (requests_about worker.ends.requests (row + 1)).standing → ⊥) (sym (same_there workers place was is there also)) not);
-    replies =
-        let rows : List (List T) = map (λ worker. worker.ends.replies.items) workers in
-        making_stays rows rows (map (λ its. its.ends.replies) sessions) (map (λ its. its.ends.replies) sessions_now) have.replies
-        refl (as_many (λ its. its.ends.replies))
-        (λ row was is there also. ap (map reply_key) (same_there rows row was is there also))
-        (λ row was is there also. ap (map reply_number) (same_there rows row was is there also))
-        (made_stays (λ its. its.ends.replies) replies_key sessions sessions_now (λ place was is there also. (each place was is there also).keys.replies_key))
-        (λ row place was is there also kept.
-        let before = of_mapped (λ (its : PlainProxy S R). its.ends.replies) sessions place was there in
-        let now = of_mapped (λ (its : PlainProxy S R). its.ends.replies) sessions_now place is also in
-        subst (λ box. (IsSettled (replies_about box (row + 1)).standing → ⊥) → IsSettled (replies_about is (row + 1)).standing → ⊥) before.2
-        (subst (λ box. (IsSettled (replies_about before.0.ends.replies (row + 1)).standing → ⊥) → IsSettled (replies_about box (row + 1)).standing → ⊥) now.2
-        (not_settled_yet (replies_about before.0.ends.replies) (replies_about now.0.ends.replies) (each place before.0 now.0 before.1 now.1).stand (row + 1))));
-    gossip = have.gossip;
-    request_boxes = λ place worker there. rw long (have.request_boxes place worker there);
-    gossip_boxes = have.gossip_boxes;
-    reply_boxes = λ place is there.
-        let was = there_too sessions sessions_now place is long there in
-        ap replies_senders (each place was.0 is was.1 there).keys.replies_key ∙ have.reply_boxes place was.0 was.1;
-    numbered = have.numbered;
-  }
-    where
-      as_many : {X : Type 0} (row : PlainProxy S R → X) → length (map row sessions_now) ≡ length (map row sessions)
-      as_many row = length-map sessions_now row ∙ long ∙ sym (length-map sessions row)
-
   -- and the run goes on
   pub polled_goes_on : GoesOn request_key request_number asked reply_key reply_number gossip_key gossip_number
       requests_key requests_pairs requests_senders requests_received requests_about in_key in_pairs in_senders got in_about
@@ -102,3 +70,16 @@ module _ {S T O Q G R SK TK OK QK GK RK : Type 0} {request_key : S → SK} {requ
       ends = ends_stay running.ends;
     };
   }
+    where
+      -- the ends of all stay such
+      ends_stay : HaveEnds request_key request_number reply_key reply_number gossip_key gossip_number
+          requests_key requests_pairs requests_senders requests_received requests_about in_key in_pairs in_senders got in_about
+          replies_key replies_pairs replies_senders replies_about workers sessions
+          → HaveEnds request_key request_number reply_key reply_number gossip_key gossip_number
+          requests_key requests_pairs requests_senders requests_received requests_about in_key in_pairs in_senders got in_about
+          replies_key replies_pairs replies_senders replies_about workers sessions_now
+      ends_stay =
+          ends_kept workers workers sessions sessions_now refl long
+          (done_to_none (KeepsWorkerEnds reply_key reply_number gossip_key gossip_number requests_key requests_senders requests_received requests_about in_key in_senders got in_about
+          (length workers) (length sessions)) (worker_keeps (length workers) (length sessions)) workers)
+          (λ place was is there also. polled_keeps was is (each place was is there also))

@@ -10,12 +10,21 @@ use Rattle.run_measure.proofs.TurningLemmas.{turned}
 use Rattle.run_measure.specs.Steps.{RepliesAsTaken}
 use Rattle.party_steps.specs.Progress.{HasServed}
 
+-- a worker that stays as it is took nothing,
+pub takes_still : (many : ℕ) (lists : Lists) → RepliesAsTaken many lists lists
+takes_still many lists = record { taken_more = λ session of. omega arith; replied_more = λ session of. omega arith; as_taken = λ session of. omega arith }
+
+-- and one that took twice replied to each session no more than it took of it
+pub takes_through : (many : ℕ) (before between now : Lists) → RepliesAsTaken many before between → RepliesAsTaken many between now → RepliesAsTaken many before now
+takes_through many before between now first then = record {
+  taken_more = λ session of. omega (arith, first.taken_more session of, then.taken_more session of);
+  replied_more = λ session of. omega (arith, first.replied_more session of, then.replied_more session of);
+  as_taken = λ session of. omega (arith, first.as_taken session of, then.as_taken session of);
+}
+
 -- at first it took no turn
 pub served_still : (lists : Lists) → lists.state.kept ≡ None → HasServed lists lists
-served_still lists none_kept = record {
-  replies = record { taken_more = λ session of. omega arith; replied_more = λ session of. omega arith; as_taken = λ session of. omega arith };
-  kept = none_kept;
-}
+served_still lists none_kept = record { replies = takes_still (length lists.replied) lists; kept = none_kept }
 
 -- one turn that had memory,
 pub served_once : (its : Did) (result : Result Did NoMemory) (before now : Lists) (count count_now : Counts) (room : ℕ → List Bool → Type 0) → result ≡ Ok its
@@ -27,13 +36,7 @@ served_once its result before now count count_now room is turns share none_kept 
 
 -- and one after another
 pub served_through : (before between now : Lists) → length between.replied ≡ length before.replied → HasServed before between → HasServed between now → HasServed before now
-served_through before between now as_many first then =
-    let replies = subst (λ many. RepliesAsTaken many between now) as_many then.replies in
-    record {
-      replies = record {
-        taken_more = λ session of. omega (arith, first.replies.taken_more session of, replies.taken_more session of);
-        replied_more = λ session of. omega (arith, first.replies.replied_more session of, replies.replied_more session of);
-        as_taken = λ session of. omega (arith, first.replies.as_taken session of, replies.as_taken session of);
-      };
-      kept = then.kept;
-    }
+served_through before between now as_many first then = record {
+  replies = takes_through (length before.replied) before between now first.replies (subst (λ many. RepliesAsTaken many between now) as_many then.replies);
+  kept = then.kept;
+}

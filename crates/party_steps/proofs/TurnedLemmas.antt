@@ -3,29 +3,20 @@ use Rattle.std.specs.Prelude.{ℕ, Bool, List, map, Option}
 use Rattle.std.proofs.Common.{inl, inr, refl, subst, sym}
 use Rattle.mail_contract.specs.Boxes.{Box, MayHandOut, MayTake, box_of, weak_box_of}
 use Rattle.mail_contract.specs.Parts.{Parts}
-use Rattle.mail_contract.specs.Standing.{About, AllStand}
+use Rattle.mail_contract.specs.Standing.{About}
 use Rattle.mail_contract.specs.Takes.{Answers, IsFrontOfSent}
 use Rattle.store_msg.specs.Reply.{PlainReply}
 use Rattle.store_msg.specs.declared.request.Request.{Request}
 use Rattle.worker_core.specs.Serving.{NoneTakenBack}
 use Rattle.worker_core.specs.State.{Entries, IsFixed, KeysStay, PlainWorker}
 use Rattle.drain_steps.specs.Hearing.{AreGotInRange}
-use Rattle.drain_turns.specs.Turning.{AreInRange, AreSettled, HasGoneOn}
+use Rattle.drain_turns.specs.Turning.{AreInRange, AreSettled}
 use Rattle.mail_contract.proofs.StandsLemmas.{stands_through}
 use Rattle.drain_steps.proofs.HandedOutLemmas.{hand_out_keeps}
 use Rattle.drain_turns.proofs.TurningBoxesLemmas.{take_keeps}
 use Rattle.drain_turns.proofs.TurningLemmas.{gone_on_still, gone_on_through}
 use Rattle.party_steps.specs.Fronts.{FrontsStay}
-
--- What a worker keeps in turns, one or several.
-pub record HasTurned {Q T O G QK TK OK GK : Type 0} (request_key : Q → QK) (reply_key : T → TK) (reply_number : T → ℕ)
-    (gossip_key : O → OK) (gossip_number : O → ℕ) (in_key : G → GK)
-    (complete : Bool) (senders : QK → ℕ) (received : Q → List (ℕ × Request)) (about : Q → ℕ → About Request) (replied : T → List PlainReply)
-    (all_told : Bool) (mates : GK → ℕ) (got : G → ℕ → ℕ → Option Entries) (about_mates : G → ℕ → About Entries) (before now : PlainWorker Q T O G) : Type 0 where
-  pub gone_on : HasGoneOn request_key reply_key reply_number gossip_key gossip_number in_key complete senders received about replied
-      all_told mates got about_mates before now
-  pub gossip_stands : AllStand (about_mates before.ends.gossip_in) (about_mates now.ends.gossip_in)
-  pub fronts : FrontsStay complete (received before.ends.requests) (about before.ends.requests) (received now.ends.requests) (about now.ends.requests)
+use Rattle.party_steps.specs.Turning.{HasTurned}
 
 -- what a box that is asked once, or not at all, keeps of each sender by itself
 module _ {M : Type 0} where

@@ -1,7 +1,6 @@
 -- A run of which workers took turns goes on.
-use Rattle.std.specs.Prelude.{◌≡◌, ℕ, ◌+◌, Bool, List, length, map, slice_get, Option, Some}
-use Rattle.std.proofs.Common.{◌∙◌, ap, refl, subst, sym}
-use Rattle.std.proofs.lemmas.List.{length-map}
+use Rattle.std.specs.Prelude.{◌≡◌, ℕ, ◌+◌, Bool, List, length, slice_get, Option, Some}
+use Rattle.std.proofs.Common.{◌∙◌, ap, refl, subst}
 use Rattle.mail_contract.specs.Standing.{About, AllStand, IsSettled}
 use Rattle.session_known.specs.declared.script.Script.{Script}
 use Rattle.session_proxy.specs.State.{PlainProxy}
@@ -13,9 +12,9 @@ use Rattle.party_run.specs.Running.{GoesOn, HaveEnds}
 use Rattle.placement.specs.Config.{IsOneOf}
 use Rattle.drain_turns.specs.Ready.{IsMate}
 use Rattle.drain_steps.proofs.ItemsLemmas.{long_alike, there_too}
-use Rattle.drain_ledger.proofs.MakingLemmas.{making_stays}
-use Rattle.party_steps.proofs.ChangedLemmas.{made_stays, same_there}
-use Rattle.party_steps.proofs.TurnedLemmas.{HasTurned}
+use Rattle.party_run.proofs.ChangedLemmas.{done_to_none}
+use Rattle.party_run.proofs.KeptLemmas.{KeepsSessionEnds, KeepsWorkerEnds, ends_kept, session_keeps}
+use Rattle.party_steps.specs.Turning.{HasTurned}
 use Rattle.party_steps.proofs.UnusedLemmas.{box_stays, weak_box_stays}
 
 -- a sender that was not taken in is not, where the box stands to its senders as before
@@ -40,6 +39,30 @@ worker_stays {reply_number} {gossip_number} script table place was is turned of_
       mates = ap (λ n. n + 1) (long_alike gossip_number was.ends.gossip_out.items is.ends.gossip_out.items gone_on.keys.gossip_out_numbers) ∙ of_script.mates;
     }
 
+-- and it keeps its ends
+pub turned_keeps : {Q T O G QK TK OK GK : Type 0} {reply_key : T → TK} {reply_number : T → ℕ} {gossip_key : O → OK} {gossip_number : O → ℕ}
+    {requests_key : Q → QK} {requests_senders : QK → ℕ} {requests_received : Q → List (ℕ × Request)} {requests_about : Q → ℕ → About Request}
+    {in_key : G → GK} {in_senders : GK → ℕ} {got : G → ℕ → ℕ → Option Entries} {in_about : G → ℕ → About Entries} {replied : T → List PlainReply}
+    {complete all_told : Bool} (many many_sessions place : ℕ) (was is : PlainWorker Q T O G)
+    → HasTurned requests_key reply_key reply_number gossip_key gossip_number in_key complete requests_senders requests_received requests_about replied all_told in_senders got in_about was is
+    → KeepsWorkerEnds reply_key reply_number gossip_key gossip_number requests_key requests_senders requests_received requests_about in_key in_senders got in_about
+    many many_sessions place was is
+turned_keeps {requests_key = requests_key} {requests_senders = requests_senders} {requests_received = requests_received} {requests_about = requests_about}
+    {in_key = in_key} {in_senders = in_senders} {got = got} {in_about = in_about} {complete = complete} {all_told = all_told} many many_sessions place was is turned = record {
+      me = turned.gone_on.fixed.me;
+      keys = turned.gone_on.keys;
+      no_session = not_settled_yet (requests_about was.ends.requests) (requests_about is.ends.requests) turned.gone_on.stand;
+      no_mate = not_settled_yet (in_about was.ends.gossip_in) (in_about is.ends.gossip_in) turned.gossip_stands;
+      request_box =
+          box_stays complete (IsOneOf many_sessions) (requests_senders (requests_key was.ends.requests)) (requests_senders (requests_key is.ends.requests))
+          (requests_received was.ends.requests) (requests_received is.ends.requests) (requests_about was.ends.requests) (requests_about is.ends.requests)
+          (ap requests_senders turned.gone_on.keys.requests_key) turned.gone_on.in_range turned.gone_on.stand turned.fronts;
+      gossip_box =
+          weak_box_stays all_told (IsMate many (place + 1)) (in_senders (in_key was.ends.gossip_in)) (in_senders (in_key is.ends.gossip_in))
+          (got was.ends.gossip_in) (got is.ends.gossip_in) (in_about was.ends.gossip_in) (in_about is.ends.gossip_in)
+          (ap in_senders turned.gone_on.keys.gossip_in_key) turned.gone_on.got_in_range turned.gossip_stands turned.gone_on.of_sent;
+    }
+
 module _ {S T O Q G R SK TK OK QK GK RK : Type 0} {request_key : S → SK} {request_number : S → ℕ}
     {reply_key : T → TK} {reply_number : T → ℕ} {replied : T → List PlainReply} {gossip_key : O → OK} {gossip_number : O → ℕ}
     {requests_key : Q → QK} {requests_pairs : QK → SK → ℕ → Type 0} {requests_senders : QK → ℕ} {requests_received : Q → List (ℕ × Request)} {requests_about : Q → ℕ → About Request}
@@ -49,65 +72,6 @@ module _ {S T O Q G R SK TK OK QK GK RK : Type 0} {request_key : S → SK} {requ
     (each : (place : ℕ) (was is : PlainWorker Q T O G) → slice_get workers place ≡ Some was → slice_get workers_now place ≡ Some is
     → HasTurned requests_key reply_key reply_number gossip_key gossip_number in_key complete requests_senders requests_received requests_about replied
     all_told in_senders got in_about was is) where
-  -- the ends of all stay such
-  ends_stay : HaveEnds request_key request_number reply_key reply_number gossip_key gossip_number
-      requests_key requests_pairs requests_senders requests_received requests_about in_key in_pairs in_senders got in_about
-      replies_key replies_pairs replies_senders replies_about workers sessions
-      → HaveEnds request_key request_number reply_key reply_number gossip_key gossip_number
-      requests_key requests_pairs requests_senders requests_received requests_about in_key in_pairs in_senders got in_about
-      replies_key replies_pairs replies_senders replies_about workers_now sessions
-  ends_stay have = record {
-    requests =
-        let rows : List (List S) = map (λ its. its.ends.requests.items) sessions in
-        making_stays rows rows workers workers_now have.requests refl long
-        (λ row was is there also. ap (map request_key) (same_there rows row was is there also))
-        (λ row was is there also. ap (map request_number) (same_there rows row was is there also))
-        (λ place was is there also. (each place was is there also).gone_on.keys.requests_key)
-        (λ row place was is there also kept.
-        not_settled_yet (requests_about was.ends.requests) (requests_about is.ends.requests) (each place was is there also).gone_on.stand (row + 1));
-    replies =
-        let boxes : List R = map (λ its. its.ends.replies) sessions in
-        making_stays (map (λ worker. worker.ends.replies.items) workers) (map (λ worker. worker.ends.replies.items) workers_now) boxes boxes have.replies
-        (as_many_rows (λ worker. worker.ends.replies.items)) refl
-        (made_stays (λ worker. worker.ends.replies.items) (map reply_key) workers workers_now
-        (λ place was is there also. (each place was is there also).gone_on.keys.replies_keys))
-        (made_stays (λ worker. worker.ends.replies.items) (map reply_number) workers workers_now
-        (λ place was is there also. (each place was is there also).gone_on.keys.replies_numbers))
-        (λ place was is there also. ap replies_key (same_there boxes place was is there also))
-        (λ row place was is there also kept not.
-        subst (λ box. IsSettled (replies_about box (row + 1)).standing → ⊥) (sym (same_there boxes place was is there also)) not);
-    gossip =
-        making_stays (map (λ worker. worker.ends.gossip_out.items) workers) (map (λ worker. worker.ends.gossip_out.items) workers_now) workers workers_now have.gossip
-        (as_many_rows (λ worker. worker.ends.gossip_out.items)) long
-        (made_stays (λ worker. worker.ends.gossip_out.items) (map gossip_key) workers workers_now
-        (λ place was is there also. (each place was is there also).gone_on.keys.gossip_out_keys))
-        (made_stays (λ worker. worker.ends.gossip_out.items) (map gossip_number) workers workers_now
-        (λ place was is there also. (each place was is there also).gone_on.keys.gossip_out_numbers))
-        (λ place was is there also. (each place was is there also).gone_on.keys.gossip_in_key)
-        (λ row place was is there also kept.
-        not_settled_yet (in_about was.ends.gossip_in) (in_about is.ends.gossip_in) (each place was is there also).gossip_stands (row + 1));
-    request_boxes = λ place is there.
-        let was = there_too workers workers_now place is long there in
-        let turned = each place was.0 is was.1 there in
-        box_stays complete (IsOneOf (length sessions)) (requests_senders (requests_key was.0.ends.requests)) (requests_senders (requests_key is.ends.requests))
-        (requests_received was.0.ends.requests) (requests_received is.ends.requests) (requests_about was.0.ends.requests) (requests_about is.ends.requests)
-        (ap requests_senders turned.gone_on.keys.requests_key) turned.gone_on.in_range turned.gone_on.stand turned.fronts (have.request_boxes place was.0 was.1);
-    gossip_boxes = λ place is there.
-        let was = there_too workers workers_now place is long there in
-        let turned = each place was.0 is was.1 there in
-        weak_box_stays all_told (IsMate (length workers_now) (place + 1)) (in_senders (in_key was.0.ends.gossip_in)) (in_senders (in_key is.ends.gossip_in))
-        (got was.0.ends.gossip_in) (got is.ends.gossip_in) (in_about was.0.ends.gossip_in) (in_about is.ends.gossip_in)
-        (ap in_senders turned.gone_on.keys.gossip_in_key) turned.gone_on.got_in_range turned.gossip_stands turned.gone_on.of_sent
-        (rw long (have.gossip_boxes place was.0 was.1));
-    reply_boxes = λ place proxy there. have.reply_boxes place proxy there ∙ sym long;
-    numbered = λ place is there.
-        let was = there_too workers workers_now place is long there in
-        (each place was.0 is was.1 there).gone_on.fixed.me ∙ have.numbered place was.0 was.1;
-  }
-    where
-      as_many_rows : {X : Type 0} (row : PlainWorker Q T O G → X) → length (map row workers_now) ≡ length (map row workers)
-      as_many_rows row = length-map workers_now row ∙ long ∙ sym (length-map workers row)
-
   -- and the run goes on
   pub turned_goes_on : {asked : S → List Request} {replies_received : R → List (ℕ × PlainReply)}
       → GoesOn request_key request_number asked reply_key reply_number gossip_key gossip_number
@@ -129,3 +93,15 @@ module _ {S T O Q G R SK TK OK QK GK RK : Type 0} {request_key : S → SK} {requ
       ends = ends_stay running.ends;
     };
   }
+    where
+      -- the ends of all stay such
+      ends_stay : HaveEnds request_key request_number reply_key reply_number gossip_key gossip_number
+          requests_key requests_pairs requests_senders requests_received requests_about in_key in_pairs in_senders got in_about
+          replies_key replies_pairs replies_senders replies_about workers sessions
+          → HaveEnds request_key request_number reply_key reply_number gossip_key gossip_number
+          requests_key requests_pairs requests_senders requests_received requests_about in_key in_pairs in_senders got in_about
+          replies_key replies_pairs replies_senders replies_about workers_now sessions
+      ends_stay =
+          ends_kept workers workers_now sessions sessions long refl
+          (λ place was is there also. turned_keeps (length workers) (length sessions) place was is (each place was is there also))
+          (done_to_none (λ at. KeepsSessionEnds request_key request_number replies_key replies_about) (λ at. session_keeps) sessions)

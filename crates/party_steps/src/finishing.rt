@@ -35,6 +35,8 @@ pub fn finish_run<
         script.now parties }
     requires ended { All IsAllAnswered (map proxy_of parties.sessions.items) }
     ensures workers { IfOk result (λ handed. handed.0 ≡ parties.workers) }
+    ensures left { IfOk result (λ handed. handed.1.items
+        ≡ map left_by (map proxy_of parties.sessions.items)) }
     ensures run { IfOk result (λ handed. AreOfOneRun
         S.key S.number S.sent T.key T.number O.key O.number
         Q.key Q.pairs Q.senders Q.received Q.about

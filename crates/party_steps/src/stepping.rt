@@ -1,16 +1,15 @@
 //! One party takes several steps.
 ghost use Rattle.std.specs.Prelude.{◌≡◌, IfOk, IsTrue, None, OnOk};
-ghost use Rattle.drain_turns.specs.Turning.{HasGoneOn};
-ghost use Rattle.mail_contract.specs.Standing.{AllStand};
 ghost use Rattle.party_run.specs.Session.{proxy_of};
-ghost use Rattle.party_steps.specs.Fronts.{FrontsStay};
 ghost use Rattle.party_steps.specs.Polling.{HasPolled, IsAllAnswered};
 ghost use Rattle.party_steps.specs.Progress.{HasMovedOn, HasServed};
+ghost use Rattle.party_steps.specs.Turning.{HasTurned};
 ghost use Rattle.run_measure.specs.Laws.{IsPlaced};
 ghost use Rattle.session_proxy.specs.Share.{Share};
 ghost use Rattle.session_proxy.specs.State as sessions;
 ghost use Rattle.worker_core.specs.State as workers;
 
+use crate::Pace;
 use lattice_laws::NoMemory;
 use mail_contract::{GossipRx, Rx, Tx};
 use party_run::SessionOver;
@@ -18,28 +17,27 @@ use session_proxy::Progress;
 use store_msg::{Batch, Reply, Request};
 use worker_core::{Did, WorkerOver};
 
-/// Turns a worker until it answers Idle or Blocked, at most so many times.
-pub fn turn_often<T: Tx<Reply>, O: Tx<Batch>, Q: Rx<Request>, G: GossipRx<Batch, From = O>>(
-    worker: &mut WorkerOver<Q, T, O, G>,
-    most: u32,
-) -> Result<(), NoMemory>
-    ensures gone_on { HasGoneOn Q.key T.key T.number O.key O.number G.key
+/// Turns a worker at a pace, at most so many times: until it answers Idle or Blocked and is not to try again.
+pub fn turn_often<
+    T: Tx<Reply>,
+    O: Tx<Batch>,
+    Q: Rx<Request>,
+    G: GossipRx<Batch, From = O>,
+    P: Pace,
+>(pace: &mut P, worker: &mut WorkerOver<Q, T, O, G>, most: u32) -> Result<(), NoMemory>
+    ensures turned { HasTurned Q.key T.key T.number O.key O.number G.key
         Q.keeps.complete Q.senders Q.received Q.about T.sent
         G.keeps.complete G.senders G.got G.about worker.old worker.new }
-    ensures gossip_stands { AllStand (G.about worker.old.ends.gossip_in)
-        (G.about worker.new.ends.gossip_in) }
-    ensures fronts { FrontsStay Q.keeps.complete
-        (Q.received worker.old.ends.requests) (Q.about worker.old.ends.requests)
-        (Q.received worker.new.ends.requests) (Q.about worker.new.ends.requests) }
     ensures served { worker.old.state.kept ≡ None → OnOk result (HasServed
         (workers.lists_of Q.received T.sent O.sent G.got worker.old)
         (workers.lists_of Q.received T.sent O.sent G.got worker.new)) }
 {
     worker.attest();
     for _ in 0..most {
-        match worker.turn()? {
-            Did::Idle | Did::Blocked => return Ok(()),
-            Did::Request | Did::Gossip | Did::Round => {}
+        pace.before();
+        let did = worker.turn()?;
+        if (did == Did::Idle || did == Did::Blocked) && !pace.tries_again() {
+            return Ok(());
         }
     }
     Ok(())
@@ -52,11 +50,14 @@ pub struct Polled {
     pub ended: bool,
     /// A line was answered, a request sent, or a reply taken.
     pub moved: bool,
+    /// An ask of it came to nothing: it was answered that something is lacking there.
+    pub rested: bool,
 }
 
-/// Polls a session until it answers NotYet, Rest or Ended, at most so many times. Tells whether it has ended, and
-/// whether it did anything.
-pub fn poll_often<S: Tx<Request>, R: Rx<Reply>>(
+/// Polls a session at a pace, at most so many times: until it answers Rest or Ended, or NotYet and is not to try
+/// again.
+pub fn poll_often<S: Tx<Request>, R: Rx<Reply>, P: Pace>(
+    pace: &mut P,
     session: &mut SessionOver<S, R>,
     most: u32,
 ) -> Result<Polled, NoMemory>
@@ -72,21 +73,29 @@ pub fn poll_often<S: Tx<Request>, R: Rx<Reply>>(
 {
     let mut moved = false;
     for _ in 0..most {
+        pace.before();
         match session.poll()? {
-            Progress::Ended => return Ok(Polled { ended: true, moved }),
-            Progress::NotYet => return Ok(Polled {
-                ended: false,
-                moved,
-            }),
+            Progress::Moved => moved = true,
+            Progress::NotYet => {
+                if !pace.tries_again() {
+                    break;
+                }
+            }
             Progress::Rest => return Ok(Polled {
                 ended: false,
                 moved: true,
+                rested: true,
             }),
-            Progress::Moved => moved = true,
+            Progress::Ended => return Ok(Polled {
+                ended: true,
+                moved,
+                rested: false,
+            }),
         }
     }
     Ok(Polled {
         ended: false,
         moved,
+        rested: false,
     })
 }

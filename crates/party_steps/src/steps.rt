@@ -1,14 +1,14 @@
 //! One of the parties of a run takes several steps.
-ghost use Rattle.std.specs.Prelude.{◌≡◌, ◌≢◌, ◌<◌, ℕ, IfOk, IsTrue, length, map, slice_get, None, OnOk, Some};
+ghost use Rattle.std.specs.Prelude.{◌≡◌, ◌≢◌, ◌+◌, ◌<◌, ◌≤◌, ℕ, IfOk, IsTrue, length, map, slice_get, OnOk, Some};
 ghost use Rattle.party_run.specs.Session.{proxy_of};
 ghost use Rattle.party_steps.specs.Polling.{IsAllAnswered};
-ghost use Rattle.party_steps.specs.Progress.{HasMovedOn, HasServed};
+ghost use Rattle.party_steps.specs.Progress.{HasMovedOn};
 ghost use Rattle.run_measure.specs.Laws.{IsPlaced};
+ghost use Rattle.session_known.specs.declared.script.Script.{Script};
 ghost use Rattle.session_proxy.specs.Share.{Share};
 ghost use Rattle.session_proxy.specs.State as sessions;
-ghost use Rattle.worker_core.specs.State as workers;
 
-use crate::{Polled, poll_often, turn_often};
+use crate::{Polled, Progresses, UntilNothing, poll_often, turn_often};
 use lattice_laws::NoMemory;
 use mail_contract::{GossipRx, Rx, Tx};
 use party_run::{PartiesOver, Runs};
@@ -27,16 +27,12 @@ pub fn turn_worker<
     ensures sessions { parties.new.sessions ≡ parties.old.sessions }
     ensures others { (other : ℕ) → other ≢ place
         → slice_get parties.new.workers.items other ≡ slice_get parties.old.workers.items other }
-    ensures served { (was now : workers.PlainWorker Q T O G)
-        → slice_get parties.old.workers.items place ≡ Some was
-        → slice_get parties.new.workers.items place ≡ Some now
-        → was.state.kept ≡ None → OnOk result (HasServed
-        (workers.lists_of Q.received T.sent O.sent G.got was)
-        (workers.lists_of Q.received T.sent O.sent G.got now)) }
     ensures goes_on { ⟦<PartiesOver<Q, T, O, G, S, R> as Runs>⟧.go_on
         parties.old parties.new }
+    ensures steps { OnOk result (⟦<PartiesOver<Q, T, O, G, S, R> as Progresses>⟧.step_on
+        parties.old parties.new) }
 {
-    turn_often(&mut parties.workers[place], most)
+    turn_often(&mut UntilNothing, &mut parties.workers[place], most)
 }
 
 /// Polls the session at a place until it answers NotYet, Rest or Ended, at most so many times. Tells whether
@@ -65,8 +61,15 @@ pub fn poll_session<
         → Share (sessions.lists_of S.sent R.received was)
         → IfOk result (λ polled. HasMovedOn polled
         (sessions.lists_of S.sent R.received was) (sessions.lists_of S.sent R.received now)) }
+    ensures done { (script : Script)
+        → ⟦<PartiesOver<Q, T, O, G, S, R> as Runs>⟧.are_running script parties.old
+        → IfOk result (λ polled. IsTrue polled.moved
+        → ⟦<PartiesOver<Q, T, O, G, S, R> as Progresses>⟧.done parties.old + 1
+        ≤ ⟦<PartiesOver<Q, T, O, G, S, R> as Progresses>⟧.done parties.new) }
     ensures goes_on { ⟦<PartiesOver<Q, T, O, G, S, R> as Runs>⟧.go_on
         parties.old parties.new }
+    ensures steps { OnOk result (⟦<PartiesOver<Q, T, O, G, S, R> as Progresses>⟧.step_on
+        parties.old parties.new) }
 {
-    poll_often(&mut parties.sessions[place], most)
+    poll_often(&mut UntilNothing, &mut parties.sessions[place], most)
 }

@@ -6,7 +6,8 @@
 //!
 //! The laws, each a function that does nothing and carries its law: where a worker takes turns, no session's
 //! measure rises, and that of a session falls whose request it took; where a session is polled, its measure
-//! falls by what it has done.
+//! falls by what it has done; and where all parties have gone on, in no order of steps, the measure of all
+//! sessions has fallen by what they have done.
 //!
 //! `specs/Measure.antt` says what the measure is, `specs/Steps.antt` what a step is to it.
 #![tactic(auto)]

@@ -1,6 +1,7 @@
 //! Reports that are checked, over memory.
 use super::*;
 use outside::{MemSink, MemSource, SureSink, SureSource};
+use party_epochs::FreeGate;
 use std::test::Fail;
 
 /// A script, and a report that is legal for it.
@@ -18,12 +19,16 @@ const HELD: Worked = (
 );
 
 /// Runs `check` on an input, and says how it ended and what was written.
-fn check_on(alloc: Global, input: Vec<u8>) -> Result<(Status, Vec<u8>), NoMemory> {
+fn check_on<H: Threads + Sync>(
+    rt: &H,
+    alloc: Global,
+    input: Vec<u8>,
+) -> Result<(Status, Vec<u8>), NoMemory> {
     let mut words = Vec::new(alloc);
     words.push(String::from_str(alloc, "check")?)?;
     let mut src = SureSource::new(input);
     let mut sink = SureSink::new(alloc, 1_000)?;
-    let (status, _) = run(alloc, &words, &mut src, &mut sink);
+    let (status, _) = run(rt, alloc, &words, &mut src, &mut sink, &FreeGate);
     Ok((status, sink.written().to_vec(alloc)?))
 }
 
@@ -65,7 +70,7 @@ fn what_is_judged_is_told(rt: HostRuntime) -> Result<(), Fail> {
         (&[short], Status::Unlawful, "unlawful final a @1\n"),
     ];
     for (changed, end, want) in cases {
-        let (status, text) = check_on(rt.alloc(), input_of(rt.alloc(), HELD, changed)?)?;
+        let (status, text) = check_on(&rt, rt.alloc(), input_of(rt.alloc(), HELD, changed)?)?;
         assert_eq!(rt; status, end);
         assert_eq!(rt; text.as_slice(), want.as_bytes());
     }
@@ -94,7 +99,7 @@ fn what_is_no_script_or_no_report_is_refused(rt: HostRuntime) -> Result<(), Fail
         (too_long, "refused line 0: code 12\n"),
     ];
     for (input, want) in Vec::from_array(rt.alloc(), cases)? {
-        let (status, text) = check_on(rt.alloc(), input)?;
+        let (status, text) = check_on(&rt, rt.alloc(), input)?;
         assert_eq!(rt; status, Status::Refused);
         assert_eq!(rt; text.as_slice(), want.as_bytes());
     }
@@ -109,14 +114,14 @@ fn a_check_may_meet_faults(rt: HostRuntime) -> Result<(), Fail> {
     let mut src = MemSource::new(input.to_vec(rt.alloc())?, [1].to_vec(rt.alloc())?);
     let mut sink = SureSink::new(rt.alloc(), 1_000)?;
     assert_eq!(rt;
-        run(rt.alloc(), &words, &mut src, &mut sink).0,
+        run(&rt, rt.alloc(), &words, &mut src, &mut sink, &FreeGate).0,
         Status::ReadFault
     );
     assert_eq!(rt; sink.written(), b"read fault\n".as_slice());
     let mut src = SureSource::new(input);
     let mut sink = MemSink::new(rt.alloc(), [1].to_vec(rt.alloc())?)?;
     assert_eq!(rt;
-        run(rt.alloc(), &words, &mut src, &mut sink).0,
+        run(&rt, rt.alloc(), &words, &mut src, &mut sink, &FreeGate).0,
         Status::WriteFault
     );
     assert!(rt; sink.written().is_empty());

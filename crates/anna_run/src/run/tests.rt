@@ -3,6 +3,7 @@ ghost use Rattle.std.specs.Prelude.{None};
 
 use super::*;
 use outside::{Failed, MemSink, MemSource, SureSink, SureSource};
+use party_epochs::FreeGate;
 use std::test::Fail;
 
 const FIRST: &str =
@@ -21,22 +22,31 @@ fn words_of(alloc: Global, line: &str) -> Result<Vec<String>, NoMemory> {
 }
 
 /// Runs the program with these words on an input, and says how it ended and what was written.
-fn ended(alloc: Global, words: &str, input: &[u8]) -> Result<(Status, Vec<u8>), NoMemory> {
+fn ended<H: Threads + Sync>(
+    rt: &H,
+    alloc: Global,
+    words: &str,
+    input: &[u8],
+) -> Result<(Status, Vec<u8>), NoMemory> {
     let words = words_of(alloc, words)?;
     let mut src = SureSource::new(input.to_vec(alloc)?);
     let mut sink = SureSink::new(alloc, 1_000_000)?;
-    let (status, _) = run(alloc, &words, &mut src, &mut sink);
+    let (status, _) = run(rt, alloc, &words, &mut src, &mut sink, &FreeGate);
     Ok((status, sink.written().to_vec(alloc)?))
 }
 
 /// Runs a script, and says how that ended and what was written.
-fn run_on(alloc: Global, input: &[u8]) -> Result<(Status, Vec<u8>), NoMemory> {
-    ended(alloc, "run", input)
+fn run_on<H: Threads + Sync>(
+    rt: &H,
+    alloc: Global,
+    input: &[u8],
+) -> Result<(Status, Vec<u8>), NoMemory> {
+    ended(rt, alloc, "run", input)
 }
 
 #[test]
 fn first_run(rt: HostRuntime) -> Result<(), Fail> {
-    let (status, text) = run_on(rt.alloc(), FIRST.as_bytes())?;
+    let (status, text) = run_on(&rt, rt.alloc(), FIRST.as_bytes())?;
     assert_eq!(rt; status, Status::Done);
     assert_eq!(rt; text.as_slice(), FIRST_REPORT.as_bytes());
     Ok(())
@@ -45,6 +55,7 @@ fn first_run(rt: HostRuntime) -> Result<(), Fail> {
 #[test]
 fn empty_cell(rt: HostRuntime) -> Result<(), Fail> {
     let (status, text) = run_on(
+        &rt,
         rt.alloc(),
         b"anna 1\nworkers 1\nkey a max\nsession s eventual\nget a\nend\n",
     )?;
@@ -70,7 +81,7 @@ fn a_numbers_end(rt: HostRuntime) -> Result<(), Fail> {
         ),
     ];
     for (input, want, report) in cases {
-        let (status, text) = run_on(rt.alloc(), input.as_bytes())?;
+        let (status, text) = run_on(&rt, rt.alloc(), input.as_bytes())?;
         assert_eq!(rt; status, want);
         assert_eq!(rt; text.as_slice(), report.as_bytes());
     }
@@ -80,6 +91,7 @@ fn a_numbers_end(rt: HostRuntime) -> Result<(), Fail> {
 #[test]
 fn a_get_shows_what_was_put_before_it(rt: HostRuntime) -> Result<(), Fail> {
     let (status, text) = run_on(
+        &rt,
         rt.alloc(),
         b"anna 1\nworkers 1\nkey hits max\nsession ann eventual\nput hits 3\nget hits\nput hits 9\nget hits\nput hits 4\nend",
     )?;
@@ -129,7 +141,7 @@ const SETTLED: [(&str, &str); 6] = [
 #[test]
 fn reports_of_every_schedule(rt: HostRuntime) -> Result<(), Fail> {
     for (script, report) in SETTLED {
-        let (status, text) = run_on(rt.alloc(), script.as_bytes())?;
+        let (status, text) = run_on(&rt, rt.alloc(), script.as_bytes())?;
         assert_eq!(rt; status, Status::Done);
         assert_eq!(rt; text.as_slice(), report.as_bytes());
     }
@@ -145,7 +157,7 @@ fn has_line(text: &[u8], line: &str) -> bool {
 #[test]
 fn another_replica_may_be_behind(rt: HostRuntime) -> Result<(), Fail> {
     let script = "anna 1\nworkers 2\nkey a max at 1 2\nsession s eventual\nput a 5\nget a 2\nend\n";
-    let (status, text) = run_on(rt.alloc(), script.as_bytes())?;
+    let (status, text) = run_on(&rt, rt.alloc(), script.as_bytes())?;
     assert_eq!(rt; status, Status::Done);
     assert!(rt;
         has_line(&text, "get a @2 clock - top 0 value none")
@@ -158,7 +170,7 @@ fn another_replica_may_be_behind(rt: HostRuntime) -> Result<(), Fail> {
 fn a_chain_of_causes(rt: HostRuntime) -> Result<(), Fail> {
     let script =
         "anna 1\nworkers 3\nkey a max at 1 2 3\nkey b max at 2\nsession s causal\nput a 5\nsession t causal\nawait a s 1\nput b 6\nsession u causal\nawait b t 1\nget a\nend\n";
-    let (status, text) = run_on(rt.alloc(), script.as_bytes())?;
+    let (status, text) = run_on(&rt, rt.alloc(), script.as_bytes())?;
     assert_eq!(rt; status, Status::Done);
     assert!(rt; has_line(&text, "await b t 1 @2 clock t:1 top 2 value 6 needs a{s:1}"));
     assert!(rt;
@@ -173,7 +185,7 @@ fn a_chain_of_causes(rt: HostRuntime) -> Result<(), Fail> {
 fn what_never_comes_is_given_up(rt: HostRuntime) -> Result<(), Fail> {
     let script =
         "anna 1\nworkers 1\nkey a max\nsession s causal\nawait a t 3\nsession t eventual\nput a 5\nend\n";
-    let (status, text) = run_on(rt.alloc(), script.as_bytes())?;
+    let (status, text) = run_on(&rt, rt.alloc(), script.as_bytes())?;
     assert_eq!(rt; status, Status::Done);
     assert!(rt; has_line(&text, "await a t 3 gave up after 8 @1 clock t:1"));
     Ok(())
@@ -202,7 +214,7 @@ const SHOP_FINALS: [(&str, &str); 6] = [
 
 #[test]
 fn sessions_of_all_levels_on_keys_of_all_kinds(rt: HostRuntime) -> Result<(), Fail> {
-    let (status, text) = run_on(rt.alloc(), SHOP.as_bytes())?;
+    let (status, text) = run_on(&rt, rt.alloc(), SHOP.as_bytes())?;
     assert_eq!(rt; status, Status::Done);
     assert!(rt; text.starts_with(SHOP_ANSWERS.as_bytes()));
     for line in ["put profile held", "put stock held", "commit 2 at 1"] {
@@ -218,7 +230,7 @@ fn sessions_of_all_levels_on_keys_of_all_kinds(rt: HostRuntime) -> Result<(), Fa
     // The report is legal for its script.
     let mut both = SHOP.as_bytes().to_vec(rt.alloc())?;
     both.extend_from_slice(&text)?;
-    let (status, text) = ended(rt.alloc(), "check", &both)?;
+    let (status, text) = ended(&rt, rt.alloc(), "check", &both)?;
     assert_eq!(rt; status, Status::Done);
     assert_eq!(rt; text.as_slice(), b"legal\n".as_slice());
     Ok(())
@@ -228,11 +240,11 @@ fn sessions_of_all_levels_on_keys_of_all_kinds(rt: HostRuntime) -> Result<(), Fa
 
 #[test]
 fn large_work_is_the_same_each_time(rt: HostRuntime) -> Result<(), Fail> {
-    let (status, first) = ended(rt.alloc(), "big/7", b"")?;
+    let (status, first) = ended(&rt, rt.alloc(), "big/7", b"")?;
     assert_eq!(rt; status, Status::Done);
     assert!(rt; first.starts_with(b"anna big 7\ncommands 3200\nputs "));
     assert_eq!(rt; first.as_slice().split(|byte| *byte == b'\n').count(), 37);
-    let (status, again) = ended(rt.alloc(), "big/007", b"")?;
+    let (status, again) = ended(&rt, rt.alloc(), "big/007", b"")?;
     assert_eq!(rt; status, Status::Done);
     assert_eq!(rt; again.as_slice(), first.as_slice());
     Ok(())
@@ -244,7 +256,7 @@ fn large_work_is_the_same_each_time(rt: HostRuntime) -> Result<(), Fail> {
 fn spaces_tabs_returns_and_comments_change_nothing(rt: HostRuntime) -> Result<(), Fail> {
     let input =
         b"\r\n# any bytes: \x00\x07\x1b\x7f\x80\xc3\xff\r\nanna\t1\r\n  workers   01 \r\n\n \t \r\nkey\t \ta  max\t\r\nsession s eventual\n\t#\xfe put a 9\r\nput a 005\r\n put a 3\r\nget\ta\r\nend\t\r\n\r\n#\xff\r";
-    let (status, text) = run_on(rt.alloc(), input)?;
+    let (status, text) = run_on(&rt, rt.alloc(), input)?;
     assert_eq!(rt; status, Status::Done);
     assert_eq!(rt; text.as_slice(), FIRST_REPORT.as_bytes());
     Ok(())
@@ -258,6 +270,7 @@ fn refused(alloc: Global, line: u32, code: u8) -> Result<String, NoMemory> {
 #[test]
 fn a_byte_that_is_no_text_is_refused(rt: HostRuntime) -> Result<(), Fail> {
     let (status, text) = run_on(
+        &rt,
         rt.alloc(),
         b"anna 1\nworkers 1\nkey a max\nsession s eventual\nput a \x80\nput a 3\nget a\nend\n",
     )?;
@@ -283,13 +296,13 @@ fn script_of(alloc: Global, keys: u32, sessions: u32) -> Result<String, NoMemory
 fn as_many_keys_and_sessions_as_there_may_be(rt: HostRuntime) -> Result<(), Fail> {
     for (keys, sessions, line) in [(129, 0, 131), (1, 17, 20)] {
         let input = script_of(rt.alloc(), keys, sessions)?;
-        let (status, text) = run_on(rt.alloc(), input.as_bytes())?;
+        let (status, text) = run_on(&rt, rt.alloc(), input.as_bytes())?;
         let want = refused(rt.alloc(), line, 8)?;
         assert_eq!(rt; status, Status::Refused);
         assert_eq!(rt; text.as_slice(), want.as_bytes());
     }
     let input = script_of(rt.alloc(), 128, 16)?;
-    let (status, text) = run_on(rt.alloc(), input.as_bytes())?;
+    let (status, text) = run_on(&rt, rt.alloc(), input.as_bytes())?;
     assert_eq!(rt; status, Status::Done);
     // The header, `final` and `end`, a line for each key and each session, and nothing after the last.
     assert_eq!(rt; text.as_slice().split(|byte| *byte == b'\n').count(), 148);
@@ -306,11 +319,11 @@ fn filled(alloc: Global, length: usize) -> Result<Vec<u8>, NoMemory> {
 #[test]
 fn as_many_bytes_as_there_may_be(rt: HostRuntime) -> Result<(), Fail> {
     let input = filled(rt.alloc(), 1_048_576)?;
-    let (status, text) = run_on(rt.alloc(), &input)?;
+    let (status, text) = run_on(&rt, rt.alloc(), &input)?;
     assert_eq!(rt; status, Status::Done);
     assert_eq!(rt; text.as_slice(), FIRST_REPORT.as_bytes());
     let input = filled(rt.alloc(), 1_048_577)?;
-    let (status, text) = run_on(rt.alloc(), &input)?;
+    let (status, text) = run_on(&rt, rt.alloc(), &input)?;
     assert_eq!(rt; status, Status::Refused);
     assert_eq!(rt; text.as_slice(), b"refused line 0: code 12\n".as_slice());
     Ok(())
@@ -319,10 +332,14 @@ fn as_many_bytes_as_there_may_be(rt: HostRuntime) -> Result<(), Fail> {
 // ---- words
 
 /// Runs these words on the first script, and says that they are refused and the source left alone.
-fn is_refused(alloc: Global, words: &[String]) -> Result<bool, NoMemory> {
+fn is_refused<H: Threads + Sync>(
+    rt: &H,
+    alloc: Global,
+    words: &[String],
+) -> Result<bool, NoMemory> {
     let mut src = SureSource::new(FIRST.as_bytes().to_vec(alloc)?);
     let mut sink = SureSink::new(alloc, 1_000)?;
-    let (status, _) = run(alloc, words, &mut src, &mut sink);
+    let (status, _) = run(rt, alloc, words, &mut src, &mut sink, &FreeGate);
     let mut into = [0u8; 200];
     let left = src.take(&mut into);
     Ok(
@@ -334,7 +351,7 @@ fn is_refused(alloc: Global, words: &[String]) -> Result<bool, NoMemory> {
 
 #[test]
 fn words_of_no_accepted_form(rt: HostRuntime) -> Result<(), Fail> {
-    assert!(rt; is_refused(rt.alloc(), &[])?);
+    assert!(rt; is_refused(&rt, rt.alloc(), &[])?);
     for line in [
         "",
         "run/x",
@@ -354,7 +371,7 @@ fn words_of_no_accepted_form(rt: HostRuntime) -> Result<(), Fail> {
         "big/000000000000000000007",
     ] {
         let words = words_of(rt.alloc(), line)?;
-        assert!(rt; is_refused(rt.alloc(), &words)?, "{line:?}");
+        assert!(rt; is_refused(&rt, rt.alloc(), &words)?, "{line:?}");
     }
     Ok(())
 }
@@ -405,7 +422,7 @@ fn each_read_fails_in_turn(rt: HostRuntime) -> Result<(), Fail> {
         let mut src = Slow(MemSource::new(input, [call].to_vec(rt.alloc())?));
         let mut sink = SureSink::new(rt.alloc(), 1_000)?;
         assert_eq!(rt;
-            run(rt.alloc(), &words, &mut src, &mut sink).0,
+            run(&rt, rt.alloc(), &words, &mut src, &mut sink, &FreeGate).0,
             Status::ReadFault
         );
         assert_eq!(rt; sink.written(), b"read fault\n".as_slice());
@@ -414,7 +431,7 @@ fn each_read_fails_in_turn(rt: HostRuntime) -> Result<(), Fail> {
     let mut src = Slow(MemSource::new(input, Vec::new(rt.alloc())));
     let mut sink = SureSink::new(rt.alloc(), 1_000)?;
     assert_eq!(rt;
-        run(rt.alloc(), &words, &mut src, &mut sink).0,
+        run(&rt, rt.alloc(), &words, &mut src, &mut sink, &FreeGate).0,
         Status::Done
     );
     assert_eq!(rt; sink.written(), FIRST_REPORT.as_bytes());
@@ -429,7 +446,7 @@ fn each_write_fails_in_turn(rt: HostRuntime) -> Result<(), Fail> {
         let mut src = SureSource::new(FIRST.as_bytes().to_vec(rt.alloc())?);
         let mut sink = Narrow(MemSink::new(rt.alloc(), [call].to_vec(rt.alloc())?)?);
         assert_eq!(rt;
-            run(rt.alloc(), &words, &mut src, &mut sink).0,
+            run(&rt, rt.alloc(), &words, &mut src, &mut sink, &FreeGate).0,
             Status::WriteFault
         );
         assert!(rt; FIRST_REPORT.as_bytes().starts_with(sink.0.written()));
@@ -449,7 +466,10 @@ fn faults_outside(rt: HostRuntime) -> Result<(), Fail> {
     ] {
         let mut src = SureSource::new(FIRST.as_bytes().to_vec(rt.alloc())?);
         let mut sink = MemSink::new(rt.alloc(), [failing].to_vec(rt.alloc())?)?;
-        assert_eq!(rt; run(rt.alloc(), &words, &mut src, &mut sink).0, status);
+        assert_eq!(rt;
+            run(&rt, rt.alloc(), &words, &mut src, &mut sink, &FreeGate).0,
+            status
+        );
         assert_eq!(rt; sink.written(), written.as_bytes());
     }
     Ok(())
@@ -481,7 +501,10 @@ fn a_long_report_is_written_in_blocks(rt: HostRuntime) -> Result<(), Fail> {
     ] {
         let mut src = SureSource::new(script.as_bytes().to_vec(rt.alloc())?);
         let mut sink = MemSink::new(rt.alloc(), [failing].to_vec(rt.alloc())?)?;
-        assert_eq!(rt; run(rt.alloc(), &words, &mut src, &mut sink).0, status);
+        assert_eq!(rt;
+            run(&rt, rt.alloc(), &words, &mut src, &mut sink, &FreeGate).0,
+            status
+        );
         assert_eq!(rt; sink.written().len(), length);
         assert!(rt; report.as_bytes().starts_with(sink.written()));
     }
@@ -497,7 +520,7 @@ fn the_first_read_fails(rt: HostRuntime) -> Result<(), Fail> {
     );
     let mut sink = MemSink::new(rt.alloc(), Vec::new(rt.alloc()))?;
     assert_eq!(rt;
-        run(rt.alloc(), &words, &mut src, &mut sink).0,
+        run(&rt, rt.alloc(), &words, &mut src, &mut sink, &FreeGate).0,
         Status::ReadFault
     );
     assert_eq!(rt; sink.written(), b"read fault\n".as_slice());

@@ -1,5 +1,6 @@
 use Rattle.std.proofs.Common.{inl, sym, subst, ◌∙◌}
 use Rattle.anna_run.proofs.RunLemmas.{can_sum_up, can_write, is_done, line_ends, lined, owed_as, owed_report, owed_summary, served, text_ends, worked}
+use Rattle.anna_run.specs.Outcomes.{IsReport}
 use Rattle.anna_run.specs.Run.{IsEnd}
 use Rattle.anna_run.specs.declared.run.OutcomeOver.TheVariants as outcomes
 use Rattle.anna_run.proofs.run.run.Goals as goal
@@ -40,3 +41,8 @@ returns-in-Ok-Line-clause-ends g c =
     let owed = owed_as _ _ _ _ (outcomes.Line its.status its.text) its.field-0-is its.ensures.owed in
     let is = lined _ _ _ its.status its.text owed in
     line_ends _ _ _ its.status _ _ _ c.deref.ensures.value is c.finish.ensures.wrote
+
+pub returns-in-Ok-Line-clause-complete : goal.returns-in-Ok-Line-clause-complete
+returns-in-Ok-Line-clause-complete g c = λ input script asked tells is faultless.
+    let its = c.in-Ok-Line in
+    absurd (subst IsReport its.field-0-is (its.ensures.complete input script asked tells is faultless.0))

@@ -4,7 +4,7 @@ use Rattle.worker_core.specs.State.{PlainWorker}
 use Rattle.drain_turns.specs.Ready.{AreShown, Sees, Steady, steady_of}
 use Rattle.drain_turns.proofs.PairLemmas.{is_steady, sees_mate, either_way, shown_both}
 use Rattle.drain_turns.proofs.PairListsLemmas.{back_read, both_change, front_read}
-use Rattle.drain_turns.proofs.ReadyLemmas.{has_sender_to, is_paired, numbers_differ}
+use Rattle.drain_turns.proofs.MatesLemmas.{has_sender_to, is_paired, numbers_differ}
 use Rattle.drain_turns.proofs.passes.show_pair.Given.{Over}
 use Rattle.drain_turns.proofs.passes.show_pair.Goals as goal
 use Rattle.drain_turns.proofs.passes.show_pair.Goals.{After-beside_mate, After-index-back-0}
@@ -75,12 +75,12 @@ module _ (g : Over) where
       sees : SeesMate c.min-low.result c.max-high.result low c.beside_mate.new.self high
       sees =
           let is = c.beside_mate.ensures in
-          sees_mate c.requires.ready c.min-low.result c.max-high.result low c.beside_mate.new.self high low_there high_there differs is.gossip.learned is.gossip.told is.room is.others
+          sees_mate c.requires.mates c.min-low.result c.max-high.result low c.beside_mate.new.self high low_there high_there differs is.gossip.learned is.gossip.told is.room is.others
 
       seen : SeesMate c.max-high.result c.min-low.result high c.beside_mate.new.mate low
       seen =
           let is = c.beside_mate.ensures in
-          sees_mate c.requires.ready c.max-high.result c.min-low.result high c.beside_mate.new.mate low high_there low_there (λ same. differs (sym same)) is.mate_gossip.learned
+          sees_mate c.requires.mates c.max-high.result c.min-low.result high c.beside_mate.new.mate low high_there low_there (λ same. differs (sym same)) is.mate_gossip.learned
           is.mate_gossip.told is.mate_room is.mate_others
 
       shown : Shown c.min-low.result c.max-high.result c.args.workers.now
@@ -92,21 +92,21 @@ module _ (g : Over) where
 
 pub beside_mate-requires-clause-differ : goal.beside_mate-requires-clause-differ
 beside_mate-requires-clause-differ g c =
-    numbers_differ c.requires.ready c.min-low.result c.max-high.result (lower g c) (higher g c) (lower_there g c) (higher_there g c) (differs g c)
+    numbers_differ c.requires.mates c.min-low.result c.max-high.result (lower g c) (higher g c) (lower_there g c) (higher_there g c) (differs g c)
 
 pub beside_mate-requires-clause-place : goal.beside_mate-requires-clause-place
-beside_mate-requires-clause-place g c = has_sender_to c.requires.ready c.min-low.result c.max-high.result (lower g c) (higher g c) (lower_there g c) (higher_there g c) (differs g c)
+beside_mate-requires-clause-place g c = has_sender_to c.requires.mates c.min-low.result c.max-high.result (lower g c) (higher g c) (lower_there g c) (higher_there g c) (differs g c)
 
 pub beside_mate-requires-clause-mate_place : goal.beside_mate-requires-clause-mate_place
 beside_mate-requires-clause-mate_place g c =
-    has_sender_to c.requires.ready c.max-high.result c.min-low.result (higher g c) (lower g c) (higher_there g c) (lower_there g c) (λ same. differs g c (sym same))
+    has_sender_to c.requires.mates c.max-high.result c.min-low.result (higher g c) (lower g c) (higher_there g c) (lower_there g c) (λ same. differs g c (sym same))
 
 pub beside_mate-requires-clause-pair : goal.beside_mate-requires-clause-pair
-beside_mate-requires-clause-pair g c = is_paired c.requires.ready c.min-low.result c.max-high.result (lower g c) (higher g c) (lower_there g c) (higher_there g c) (differs g c)
+beside_mate-requires-clause-pair g c = is_paired c.requires.mates c.min-low.result c.max-high.result (lower g c) (higher g c) (lower_there g c) (higher_there g c) (differs g c)
 
 pub beside_mate-requires-clause-mate_pair : goal.beside_mate-requires-clause-mate_pair
 beside_mate-requires-clause-mate_pair g c =
-    is_paired c.requires.ready c.max-high.result c.min-low.result (higher g c) (lower g c) (higher_there g c) (lower_there g c) (λ same. differs g c (sym same))
+    is_paired c.requires.mates c.max-high.result c.min-low.result (higher g c) (lower g c) (higher_there g c) (lower_there g c) (λ same. differs g c (sym same))
 
 pub returns : goal.returns
 returns g c =

@@ -11,8 +11,8 @@ use Rattle.drain_turns.proofs.passes.show_to_all.Invariants.{IsShownTo}
 pub loop-other-init : goal.loop-other-init
 loop-other-init g c = record { gone_on = all_stay c.args.workers.now; steady = refl; knows = λ other now mate below. absurd (omega (arith, below)) }
 
-pub show_pair-requires-clause-ready : goal.show_pair-requires-clause-ready
-show_pair-requires-clause-ready g c = ready_stays c.args.workers.now c.loop-other.workers c.loop-other.invariant.gone_on c.requires.ready
+pub show_pair-requires-clause-mates : goal.show_pair-requires-clause-mates
+show_pair-requires-clause-mates g c = (ready_stays c.args.workers.now c.loop-other.workers c.loop-other.invariant.gone_on c.requires.ready).are_mates
 
 pub loop-other-preserved : goal.loop-other-preserved
 loop-other-preserved g c =

@@ -1,16 +1,12 @@
 use Rattle.std.proofs.Common.{◌≡◌, ◌∙◌, ◌++◌, ℕ, List, OnOk, ap, drop, inl, inr, length, slice_get, subst, sym, take, Some}
-use Rattle.std.proofs.Math.Seq.{take-append_seam}
 use Rattle.mail_contract.specs.Boxes.{box_of}
 use Rattle.worker_core.specs.State.{PlainWorker}
 use Rattle.drain_turns.specs.Ready.{FindPlaces}
 use Rattle.drain_turns.specs.Turning.{IsDone}
+use Rattle.drain_turns.proofs.PairListsLemmas.{whole}
 use Rattle.drain_turns.proofs.passes.turn_all.Given.{Over}
 use Rattle.drain_turns.proofs.passes.turn_all.Goals as goal
 use Rattle.drain_turns.proofs.passes.turn_all.Goals.{After-turn_passes}
-
--- a slice of all items, put back, is all
-whole : {X : Type 0} (old now : List X) (n : ℕ) → n ≡ length old → length now ≡ length old → take n (now ++ drop (length now) old) ≡ now
-whole old now n many as_many = ap (λ n. take n (now ++ drop (length now) old)) (many ∙ sym as_many) ∙ take-append_seam now (drop (length now) old)
 
 abbrev Worker : Over → Type 0
 Worker g = PlainWorker g.row.Q.Denot g.row.T.Denot g.row.O.Denot g.row.G.Denot

@@ -15,7 +15,7 @@ use Rattle.drain_turns.proofs.PassesHeldLemmas.{no_reply_held, none_to_take}
 use Rattle.drain_turns.proofs.PassesTurnLemmas.{all_met, has_heard, none_back, one_goes_on}
 use Rattle.drain_turns.proofs.passes.turn_at.Given.{Over}
 use Rattle.drain_turns.proofs.passes.turn_at.Goals as goal
-use Rattle.drain_turns.proofs.passes.turn_at.Goals.{After-attest, After-index-workers-place, After-turn_out}
+use Rattle.drain_turns.proofs.passes.turn_at.Goals.{After-index-workers-place, After-turn_out}
 
 module _ (g : Over) where
   abbrev Worker : Type 0
@@ -126,7 +126,7 @@ module _ (g : Over) where
         omega (arith, not_taken, none_kept)
 
     mates : length was.ends.gossip_out.items + 1 ≡ length c.args.workers.now
-    mates = (ready_stays c.args.workers.now c.show_to_all.new.workers c.show_to_all.ensures.gone_on c.requires.ready).mates c.args.place was was_there ∙ c.show_to_all.ensures.gone_on.long
+    mates = (ready_stays c.args.workers.now c.show_to_all.new.workers c.show_to_all.ensures.gone_on c.requires.ready).are_mates.mates c.args.place was was_there ∙ c.show_to_all.ensures.gone_on.long
 
     -- where it was Blocked, fewer keys are left to tell
     fewer : is.state.held ≡ None → FreesPlaces g.G.GossipRx.keeps → MatesHeard c.args.place (all_steady c.args.workers.now)

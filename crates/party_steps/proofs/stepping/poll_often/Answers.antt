@@ -1,4 +1,4 @@
-use Rattle.std.proofs.Common.{◌≡◌, ◌∙◌, Ok, ap}
+use Rattle.std.proofs.Common.{◌≡◌, ◌∙◌, Ok, ap, subst, sym}
 use Rattle.party_run.specs.Session.{proxy_of}
 use Rattle.run_measure.specs.Laws.{IsPlaced}
 use Rattle.session_proxy.specs.Share.{Share}
@@ -11,7 +11,7 @@ use Rattle.party_steps.proofs.MovedLemmas.{MovesOn, moved_by, moves_once, moves_
 use Rattle.party_steps.proofs.PolledLemmas.{polled_once, polled_still, polled_through}
 use Rattle.party_steps.proofs.stepping.poll_often.Given.{Over}
 use Rattle.party_steps.proofs.stepping.poll_often.Goals as goal
-use Rattle.party_steps.proofs.stepping.poll_often.Goals.{After-poll}
+use Rattle.party_steps.proofs.stepping.poll_often.Goals.{After-poll, in-Moved, in-NotYet+else-not-tries_again}
 
 -- the session after one more poll
 polled : (g : Over) (c : After-poll g)
@@ -39,28 +39,31 @@ loop-init g c = record {
 pub loop-preserved : goal.loop-preserved
 loop-preserved g c =
     let after = (goal.at.loop-preserved g c).After-poll in
-    record { polled = polled g after; moved = moved g after progress.Moved (c.in_ok-poll.was ∙ ap Ok c.in-Moved.is) }
+    elim c.match-branch-2.branch [
+      | in-Moved w ↦ record { polled = polled g after; moved = λ placed share. subst (λ moved. MovesOn moved (lists_of g.S.Tx.sent g.R.Rx.received (proxy_of c.args.session.now)) (lists_of g.S.Tx.sent g.R.Rx.received (proxy_of c.poll.new.self))) (sym w.moved-is) (moved g after progress.Moved (c.in_ok-poll.was ∙ ap Ok w.in-Moved.is) placed share) }
+      | in-NotYet+else-not-tries_again w ↦ record { polled = polled g after; moved = λ placed share. subst (λ moved. MovesOn moved (lists_of g.S.Tx.sent g.R.Rx.received (proxy_of c.args.session.now)) (lists_of g.S.Tx.sent g.R.Rx.received (proxy_of c.poll.new.self))) (sym w.moved-is) (moved g after progress.NotYet (c.in_ok-poll.was ∙ ap Ok w.in-NotYet.is) placed share) }
+    ]
 
 pub returns-in_err-poll-clause-polled : goal.returns-in_err-poll-clause-polled
 returns-in_err-poll-clause-polled g c = polled g (goal.at.returns-in_err-poll-clause-polled g c).After-poll
 
 pub returns-in-Ended-clause-moved : goal.returns-in-Ended-clause-moved
 returns-in-Ended-clause-moved g c placed share =
-    moved g (goal.at.returns-in-Ended-clause-moved g c).After-poll progress.Ended (c.in_ok-poll.was ∙ ap Ok c.in-Ended.is) placed share _
+    moved g (goal.at.returns-in-Ended-clause-moved g c).After-poll progress.Ended (c.in_ok-poll.was ∙ ap Ok c.in-Ended.is) placed share _ _
 
-pub returns-in-NotYet-clause-polled : goal.returns-in-NotYet-clause-polled
-returns-in-NotYet-clause-polled g c = polled g (goal.at.returns-in-NotYet-clause-polled g c).After-poll
+pub returns-then-not-tries_again-clause-polled : goal.returns-then-not-tries_again-clause-polled
+returns-then-not-tries_again-clause-polled g c = polled g (goal.at.returns-then-not-tries_again-clause-polled g c).After-poll
 
-pub returns-in-NotYet-clause-moved : goal.returns-in-NotYet-clause-moved
-returns-in-NotYet-clause-moved g c placed share =
-    moved g (goal.at.returns-in-NotYet-clause-moved g c).After-poll progress.NotYet (c.in_ok-poll.was ∙ ap Ok c.in-NotYet.is) placed share _
+pub returns-then-not-tries_again-clause-moved : goal.returns-then-not-tries_again-clause-moved
+returns-then-not-tries_again-clause-moved g c placed share =
+    moved g (goal.at.returns-then-not-tries_again-clause-moved g c).After-poll progress.NotYet (c.in_ok-poll.was ∙ ap Ok c.in-NotYet.is) placed share _ _
 
 pub returns-in-Rest-clause-polled : goal.returns-in-Rest-clause-polled
 returns-in-Rest-clause-polled g c = polled g (goal.at.returns-in-Rest-clause-polled g c).After-poll
 
 pub returns-in-Rest-clause-moved : goal.returns-in-Rest-clause-moved
 returns-in-Rest-clause-moved g c placed share =
-    moved g (goal.at.returns-in-Rest-clause-moved g c).After-poll progress.Rest (c.in_ok-poll.was ∙ ap Ok c.in-Rest.is) placed share _
+    moved g (goal.at.returns-in-Rest-clause-moved g c).After-poll progress.Rest (c.in_ok-poll.was ∙ ap Ok c.in-Rest.is) placed share _ _
 
-pub returns-clause-moved : goal.returns-clause-moved
-returns-clause-moved g c placed share = c.loop.invariant.moved placed share _
+pub returns-after-loop-clause-moved : goal.returns-after-loop-clause-moved
+returns-after-loop-clause-moved g c placed share = c.loop.invariant.moved placed share _ _

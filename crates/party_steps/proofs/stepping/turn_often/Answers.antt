@@ -4,7 +4,8 @@ use Rattle.worker_core.specs.declared.did.Did.{Did}
 use Rattle.party_steps.specs.Progress.{HasServed}
 use Rattle.party_steps.proofs.ChangedLemmas.{as_many_made}
 use Rattle.party_steps.proofs.ServedLemmas.{served_once, served_still, served_through}
-use Rattle.party_steps.proofs.TurnedLemmas.{HasTurned, turned_once, turned_still, turned_through}
+use Rattle.party_steps.specs.Turning.{HasTurned}
+use Rattle.party_steps.proofs.TurnedLemmas.{turned_once, turned_still, turned_through}
 use Rattle.party_steps.proofs.stepping.turn_often.Given.{Over}
 use Rattle.party_steps.proofs.stepping.turn_often.Goals as goal
 use Rattle.party_steps.proofs.stepping.turn_often.Goals.{After-turn}
@@ -39,14 +40,14 @@ loop-init g c = record {
 pub loop-preserved : goal.loop-preserved
 loop-preserved g c =
     let after = (goal.at.loop-preserved g c).After-turn in
-    record { turned = turned g after; share = c.turn.ensures.share; served = served g after c.in_ok-turn.field-0 c.in_ok-turn.was }
+    record { turned = turned g after; share = c.turn.ensures.share; served = served g after c.in_ok-did.did c.in_ok-did.was }
 
-pub returns-in_err-turn-clause-gone_on : goal.returns-in_err-turn-clause-gone_on
-returns-in_err-turn-clause-gone_on g c = (turned g (goal.at.returns-in_err-turn-clause-gone_on g c).After-turn).gone_on
+pub returns-in_err-did-clause-turned : goal.returns-in_err-did-clause-turned
+returns-in_err-did-clause-turned g c = turned g (goal.at.returns-in_err-did-clause-turned g c).After-turn
 
-pub returns-in-Idle-clause-gone_on : goal.returns-in-Idle-clause-gone_on
-returns-in-Idle-clause-gone_on g c = (turned g (goal.at.returns-in-Idle-clause-gone_on g c).After-turn).gone_on
+pub returns-then-not-tries_again-clause-turned : goal.returns-then-not-tries_again-clause-turned
+returns-then-not-tries_again-clause-turned g c = turned g (goal.at.returns-then-not-tries_again-clause-turned g c).After-turn
 
-pub returns-in-Idle-clause-served : goal.returns-in-Idle-clause-served
-returns-in-Idle-clause-served g c =
-    served g (goal.at.returns-in-Idle-clause-served g c).After-turn c.in_ok-turn.field-0 c.in_ok-turn.was
+pub returns-then-not-tries_again-clause-served : goal.returns-then-not-tries_again-clause-served
+returns-then-not-tries_again-clause-served g c =
+    served g (goal.at.returns-then-not-tries_again-clause-served g c).After-turn c.in_ok-did.did c.in_ok-did.was

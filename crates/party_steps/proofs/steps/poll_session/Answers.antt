@@ -1,16 +1,28 @@
-use Rattle.std.proofs.Common.{◌∙◌, ap, IfOk, map, slice_get, slice_set, subst, sym}
+use Rattle.std.proofs.Common.{◌≡◌, ◌∙◌, ℕ, ap, IfOk, List, map, refl, slice_get, slice_set, Some, subst, sym}
 use Rattle.std.proofs.lemmas.List.{length-map, length-set, map-set}
+use Rattle.std.proofs.lemmas.Option.{same_Some, slice_get-get_or}
 use Rattle.mail_contract.proofs.PostsLemmas.{stays_elsewhere}
+use Rattle.run_measure.proofs.DoneLemmas.{goes_still}
 use Rattle.run_measure.specs.Laws.{IsPlaced}
+use Rattle.run_measure.specs.Steps.{HasDone}
 use Rattle.session_proxy.specs.Share.{Share}
-use Rattle.session_proxy.specs.State.{lists_of}
+use Rattle.session_proxy.specs.State.{Lists, PlainProxy, lists_of}
+use Rattle.worker_core.specs.State as workers
+use Rattle.drain_steps.proofs.ItemsLemmas.{mapped}
+use Rattle.drain_steps.proofs.PlacesLemmas.{now_there}
+use Rattle.party_run.specs.Running.{GoesOn}
 use Rattle.party_run.specs.Session.{proxy_of}
 use Rattle.party_steps.specs.Polling.{HasPolled, IsAllAnswered}
-use Rattle.party_steps.specs.Progress.{HasMovedOn}
-use Rattle.party_steps.proofs.ChangedLemmas.{made_at_place, made_goes_on, now_made, on_ok}
+use Rattle.party_steps.specs.Progress.{HasMovedOn, HasServed}
+use Rattle.party_steps.proofs.ChangedLemmas.{made_at_place, made_goes_on, now_made, on_ok, where_value}
+use Rattle.party_steps.proofs.PlacedLemmas.{may_be_polled}
 use Rattle.party_steps.proofs.PolledLemmas.{polled_still}
 use Rattle.party_steps.proofs.PolledRunLemmas.{polled_goes_on}
+use Rattle.party_steps.proofs.ServedLemmas.{served_still}
+use Rattle.party_steps.proofs.TogetherLemmas.{all_stepped, done_more, each_goes}
+use Rattle.party_steps.proofs.steps.poll_session.Given.{Over}
 use Rattle.party_steps.proofs.steps.poll_session.Goals as goal
+use Rattle.party_steps.proofs.steps.poll_session.Goals.{After-poll_often}
 
 pub returns-clause-others : goal.returns-clause-others
 returns-clause-others g c other apart =
@@ -29,11 +41,80 @@ returns-clause-moved g c =
     made_at_place (λ was now. IsPlaced (lists was) → Share (lists was) → IfOk c.poll_often.result (λ polled. HasMovedOn polled (lists was) (lists now))) proxy_of
     c.args.parties.now.sessions.items c.args.place c.index_mut.result.now c.poll_often.new.session c.requires c.index_mut.ensures.value c.poll_often.ensures.moved
 
+module _ (g : Over) (c : After-poll_often g) where
+  abbrev its : PlainProxy g.row.S.Denot g.row.R.Denot → Lists
+  its = lists_of g.S.Tx.sent g.R.Rx.received
+
+  abbrev proxies : List (PlainProxy g.row.S.Denot g.row.R.Denot)
+  proxies = map proxy_of c.args.parties.now.sessions.items
+
+  abbrev proxies_now : List (PlainProxy g.row.S.Denot g.row.R.Denot)
+  proxies_now = map proxy_of (slice_set c.args.parties.now.sessions.items c.args.place c.poll_often.new.session)
+
+  -- the session that was polled
+  there : slice_get c.args.parties.now.sessions.items c.args.place ≡ Some c.index_mut.result.now
+  there = slice_get-get_or c.args.parties.now.sessions.items c.args.place c.index_mut.result.now c.requires ∙ ap Some (sym c.index_mut.ensures.value)
+
+  -- each session has gone on, if the one that was polled did
+  each : ((at : ℕ) (proxy : PlainProxy g.row.S.Denot g.row.R.Denot) → slice_get proxies at ≡ Some proxy → IsPlaced (its proxy) × Share (its proxy))
+      → (IsPlaced (its (proxy_of c.index_mut.result.now)) → Share (its (proxy_of c.index_mut.result.now))
+      → HasDone (its (proxy_of c.index_mut.result.now)) (its (proxy_of c.poll_often.new.session)))
+      → (at : ℕ) (was is : PlainProxy g.row.S.Denot g.row.R.Denot) → slice_get proxies at ≡ Some was → slice_get proxies_now at ≡ Some is → HasDone (its was) (its is)
+  each may goes at was is there also =
+      made_goes_on (λ was now. IsPlaced (its was) → Share (its was) → HasDone (its was) (its now)) (λ proxy placed share. goes_still (its proxy)) proxy_of
+      c.args.parties.now.sessions.items c.args.place c.index_mut.result.now c.poll_often.new.session c.requires c.index_mut.ensures.value goes at was is there also
+      (may at was there).0 (may at was there).1
+
+  goes_on : GoesOn g.S.Tx.key g.S.Tx.number g.S.Tx.sent g.T.Tx.key g.T.Tx.number g.O.Tx.key g.O.Tx.number
+      g.Q.Rx.key g.Q.Rx.pairs g.Q.Rx.senders g.Q.Rx.received g.Q.Rx.about
+      g.G.GossipRx.key g.G.GossipRx.pairs g.G.GossipRx.senders g.G.GossipRx.got g.G.GossipRx.about
+      g.R.Rx.key g.R.Rx.pairs g.R.Rx.senders g.R.Rx.received g.R.Rx.about
+      c.args.parties.now.workers.items c.args.parties.now.workers.items proxies proxies_now
+  goes_on =
+      let sessions = c.args.parties.now.sessions.items in
+      let sessions_now = slice_set sessions c.args.place c.poll_often.new.session in
+      polled_goes_on c.args.parties.now.workers.items proxies proxies_now
+      (length-map sessions_now proxy_of ∙ length-set sessions c.args.place c.poll_often.new.session ∙ sym (length-map sessions proxy_of))
+      (made_goes_on (HasPolled g.S.Tx.key g.S.Tx.number g.S.Tx.sent g.R.Rx.key g.R.Rx.senders g.R.Rx.received g.R.Rx.about) polled_still proxy_of sessions
+      c.args.place c.index_mut.result.now c.poll_often.new.session c.requires c.index_mut.ensures.value c.poll_often.ensures.polled)
+
 pub returns-clause-goes_on : goal.returns-clause-goes_on
-returns-clause-goes_on g c =
+returns-clause-goes_on g c = goes_on g (goal.at.returns-clause-goes_on g c).After-poll_often
+
+-- the session that was polled may be
+its_may : (g : Over) (c : After-poll_often g) → ((at : ℕ) (proxy : PlainProxy g.row.S.Denot g.row.R.Denot) → slice_get (proxies g c) at ≡ Some proxy → IsPlaced (its g c proxy) × Share (its g c proxy))
+    → IsPlaced (its g c (proxy_of c.index_mut.result.now)) × Share (its g c (proxy_of c.index_mut.result.now))
+its_may g c may = may c.args.place (proxy_of c.index_mut.result.now) (mapped proxy_of c.args.parties.now.sessions.items c.args.place c.index_mut.result.now (there g c))
+
+pub returns-clause-done : goal.returns-clause-done
+returns-clause-done g c script running =
+    let after = (goal.at.returns-clause-done g c).After-poll_often in
     let sessions = c.args.parties.now.sessions.items in
     let sessions_now = slice_set sessions c.args.place c.poll_often.new.session in
-    polled_goes_on c.args.parties.now.workers.items (map proxy_of sessions) (map proxy_of sessions_now)
-    (length-map sessions_now proxy_of ∙ length-set sessions c.args.place c.poll_often.new.session ∙ sym (length-map sessions proxy_of))
-    (made_goes_on (HasPolled g.S.Tx.key g.S.Tx.number g.S.Tx.sent g.R.Rx.key g.R.Rx.senders g.R.Rx.received g.R.Rx.about) polled_still proxy_of sessions
-    c.args.place c.index_mut.result.now c.poll_often.new.session c.requires c.index_mut.ensures.value c.poll_often.ensures.polled)
+    let may = may_be_polled script c.args.parties.now.workers.items (map proxy_of sessions) running in
+    let one = its_may g after may in
+    on_ok c.poll_often.result (λ polled on moved.
+    done_more (map (its g after) (proxies g after)) (map (its g after) (proxies_now g after))
+    (length-map (proxies_now g after) (its g after) ∙ (goes_on g after).sessions_long ∙ sym (length-map (proxies g after) (its g after)))
+    (each_goes g.S.Tx.sent g.T.Tx.sent g.O.Tx.sent g.Q.Rx.received g.G.GossipRx.got g.R.Rx.received (proxies g after) (proxies_now g after) (each g after may (λ placed share. on.goes_on)))
+    c.args.place (its g after (proxy_of c.index_mut.result.now)) (its g after (proxy_of c.poll_often.new.session))
+    (mapped (its g after) (proxies g after) c.args.place (proxy_of c.index_mut.result.now) (mapped proxy_of sessions c.args.place c.index_mut.result.now (there g after)))
+    (mapped (its g after) (proxies_now g after) c.args.place (proxy_of c.poll_often.new.session)
+    (mapped proxy_of sessions_now c.args.place c.poll_often.new.session (now_there sessions c.args.place c.poll_often.new.session c.requires)))
+    (on.moved moved)) (c.poll_often.ensures.moved one.0 one.1)
+
+pub returns-clause-steps : goal.returns-clause-steps
+returns-clause-steps g c =
+    let after = (goal.at.returns-clause-steps g c).After-poll_often in
+    let sessions = c.args.parties.now.sessions.items in
+    let lists = workers.lists_of g.Q.Rx.received g.T.Tx.sent g.O.Tx.sent g.G.GossipRx.got in
+    where_value c.poll_often.result c.poll_often.ensures.moved (λ polled on. record {
+      goes_on = goes_on g after;
+      gone_on = λ script running.
+          let may = may_be_polled script c.args.parties.now.workers.items (map proxy_of sessions) running in
+          all_stepped g.S.Tx.sent g.T.Tx.sent g.O.Tx.sent g.Q.Rx.received g.G.GossipRx.got g.R.Rx.received
+          c.args.parties.now.workers.items c.args.parties.now.workers.items (proxies g after) (proxies_now g after) refl (goes_on g after).sessions_long
+          (λ place was there. (running.workers_are place was there).sessions ∙ sym running.as_many_sessions)
+          (λ place was is there also kept. subst (λ is. HasServed (lists was) (lists is)) (same_Some was is (sym there ∙ also)) (served_still (lists was) kept))
+          (each g after may (λ placed share. (on placed share).goes_on));
+    })

@@ -1,27 +1,58 @@
-use Rattle.std.proofs.Common.{◌≡◌, map, None, OnOk, slice_set}
+use Rattle.std.proofs.Common.{◌≡◌, ◌∙◌, map, None, refl, slice_set, subst, sym}
 use Rattle.std.proofs.lemmas.List.{length-set}
+use Rattle.std.proofs.lemmas.Option.{same_Some}
+use Rattle.session_proxy.specs.State.{lists_of as session_lists}
 use Rattle.worker_core.specs.State.{lists_of}
+use Rattle.party_run.specs.Running.{GoesOn}
 use Rattle.party_run.specs.Session.{proxy_of}
-use Rattle.drain_steps.proofs.PlacesLemmas.{at_place}
+use Rattle.run_measure.proofs.DoneLemmas.{goes_still}
+use Rattle.run_measure.specs.Steps.{HasDone}
 use Rattle.party_steps.specs.Progress.{HasServed}
-use Rattle.party_steps.proofs.ChangedLemmas.{one_changed}
-use Rattle.party_steps.proofs.TurnedLemmas.{HasTurned, turned_still}
+use Rattle.party_run.proofs.ChangedLemmas.{done_to_one}
+use Rattle.party_steps.proofs.ChangedLemmas.{where_ok}
+use Rattle.party_steps.proofs.ServedLemmas.{served_still}
+use Rattle.party_steps.proofs.TogetherLemmas.{all_stepped}
+use Rattle.party_steps.specs.Turning.{HasTurned}
+use Rattle.party_steps.proofs.TurnedLemmas.{turned_still}
 use Rattle.party_steps.proofs.TurnedRunLemmas.{turned_goes_on}
+use Rattle.party_steps.proofs.steps.turn_worker.Given.{Over}
 use Rattle.party_steps.proofs.steps.turn_worker.Goals as goal
+use Rattle.party_steps.proofs.steps.turn_worker.Goals.{After-turn_often}
 
-pub returns-clause-served : goal.returns-clause-served
-returns-clause-served g c =
-    let lists = lists_of g.Q.Rx.received g.T.Tx.sent g.O.Tx.sent g.G.GossipRx.got in
-    at_place (λ was now. was.state.kept ≡ None → OnOk c.turn_often.result (HasServed (lists was) (lists now))) c.args.parties.now.workers.items c.args.place
-    c.index_mut.result.now c.turn_often.new.worker c.requires c.index_mut.ensures.value c.turn_often.ensures.served
+-- the run goes on
+module _ (g : Over) (c : After-turn_often g) where
+  goes_on : GoesOn g.S.Tx.key g.S.Tx.number g.S.Tx.sent g.T.Tx.key g.T.Tx.number g.O.Tx.key g.O.Tx.number
+      g.Q.Rx.key g.Q.Rx.pairs g.Q.Rx.senders g.Q.Rx.received g.Q.Rx.about
+      g.G.GossipRx.key g.G.GossipRx.pairs g.G.GossipRx.senders g.G.GossipRx.got g.G.GossipRx.about
+      g.R.Rx.key g.R.Rx.pairs g.R.Rx.senders g.R.Rx.received g.R.Rx.about
+      c.args.parties.now.workers.items (slice_set c.args.parties.now.workers.items c.args.place c.turn_often.new.worker)
+      (map proxy_of c.args.parties.now.sessions.items) (map proxy_of c.args.parties.now.sessions.items)
+  goes_on =
+      let workers = c.args.parties.now.workers.items in
+      turned_goes_on workers (slice_set workers c.args.place c.turn_often.new.worker) (map proxy_of c.args.parties.now.sessions.items)
+      (length-set workers c.args.place c.turn_often.new.worker)
+      (done_to_one
+      (λ at. HasTurned g.Q.Rx.key g.T.Tx.key g.T.Tx.number g.O.Tx.key g.O.Tx.number g.G.GossipRx.key g.Q.Rx.keeps.complete g.Q.Rx.senders g.Q.Rx.received g.Q.Rx.about g.T.Tx.sent
+      g.G.GossipRx.keeps.complete g.G.GossipRx.senders g.G.GossipRx.got g.G.GossipRx.about) (λ at. turned_still) workers c.args.place c.index_mut.result.now c.turn_often.new.worker
+      c.requires c.index_mut.ensures.value
+      c.turn_often.ensures.turned)
 
 pub returns-clause-goes_on : goal.returns-clause-goes_on
-returns-clause-goes_on g c =
+returns-clause-goes_on g c = goes_on g (goal.at.returns-clause-goes_on g c).After-turn_often
+
+pub returns-clause-steps : goal.returns-clause-steps
+returns-clause-steps g c =
     let workers = c.args.parties.now.workers.items in
-    turned_goes_on workers (slice_set workers c.args.place c.turn_often.new.worker) (map proxy_of c.args.parties.now.sessions.items)
-    (length-set workers c.args.place c.turn_often.new.worker)
-    (one_changed
-    (HasTurned g.Q.Rx.key g.T.Tx.key g.T.Tx.number g.O.Tx.key g.O.Tx.number g.G.GossipRx.key g.Q.Rx.keeps.complete g.Q.Rx.senders g.Q.Rx.received g.Q.Rx.about g.T.Tx.sent
-    g.G.GossipRx.keeps.complete g.G.GossipRx.senders g.G.GossipRx.got g.G.GossipRx.about) turned_still workers c.args.place c.index_mut.result.now c.turn_often.new.worker
-    c.requires c.index_mut.ensures.value
-    (record { gone_on = c.turn_often.ensures.gone_on; gossip_stands = c.turn_often.ensures.gossip_stands; fronts = c.turn_often.ensures.fronts }))
+    let proxies = map proxy_of c.args.parties.now.sessions.items in
+    let lists = lists_of g.Q.Rx.received g.T.Tx.sent g.O.Tx.sent g.G.GossipRx.got in
+    let its = session_lists g.S.Tx.sent g.R.Rx.received in
+    where_ok c.turn_often.result c.turn_often.ensures.served (λ served. record {
+      goes_on = goes_on g (goal.at.returns-clause-steps g c).After-turn_often;
+      gone_on = λ script running.
+          all_stepped g.S.Tx.sent g.T.Tx.sent g.O.Tx.sent g.Q.Rx.received g.G.GossipRx.got g.R.Rx.received
+          workers (slice_set workers c.args.place c.turn_often.new.worker) proxies proxies (length-set workers c.args.place c.turn_often.new.worker) refl
+          (λ place was there. (running.workers_are place was there).sessions ∙ sym running.as_many_sessions)
+          (done_to_one (λ at was is. was.state.kept ≡ None → HasServed (lists was) (lists is)) (λ at worker. served_still (lists worker))
+          workers c.args.place c.index_mut.result.now c.turn_often.new.worker c.requires c.index_mut.ensures.value served)
+          (λ at was is there also. subst (λ is. HasDone (its was) (its is)) (same_Some was is (sym there ∙ also)) (goes_still (its was)));
+    })

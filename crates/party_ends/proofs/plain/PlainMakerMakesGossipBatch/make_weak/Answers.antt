@@ -1,19 +1,12 @@
-use Rattle.std.proofs.Common.{◌∙◌, ap, length}
-use Rattle.std.proofs.lemmas.List.{length-replicate}
-use Rattle.mail_contract.proofs.StandsLemmas.{apart_is_not_settled}
-use Rattle.mail_contract.proofs.MapsLemmas.{each_shows}
-use Rattle.party_ends.proofs.PlainLemmas.{as_many, none_got, numbered, pair_up, six_tell}
+use Rattle.std.proofs.Common.{◌∙◌, ap, sym}
+use Rattle.std.proofs.lemmas.Result.{IfOk-at_ok}
+use Rattle.party_ends.proofs.FreshLemmas.{if_made, lanes_are_fresh_weak}
 use Rattle.party_ends.proofs.plain.PlainMakerMakesGossipBatch.make_weak.Goals as goal
 
 pub returns : goal.returns
 returns c =
-    six_tell _ _ _ _ _ _ _ c.plain.result c.plain.ensures.numbers c.plain.ensures.sent c.plain.ensures.given c.plain.ensures.delivered c.plain.ensures.received c.plain.ensures.about
-    (λ ends numbers sent given delivered received about. record {
-      long = as_many _ ends.0.items c.args.senders numbers;
-      numbered = numbered _ ends.0.items c.args.senders numbers;
-      nothing_sent = each_shows _ ends.0.items c.args.senders _ sent;
-      paired = pair_up _ ends.0.items c.args.senders numbers _ _ given delivered;
-      senders_are = ap length delivered ∙ length-replicate c.args.senders _;
-      none_got = none_got _ received;
-      not_taken_in = λ sender within. apart_is_not_settled _ (ap (λ it. it.standing) (about sender));
-    })
+    let plain = c.plain.ensures in
+    if_made _ _ c.plain.result plain.about (λ ends made about.
+    lanes_are_fresh_weak _ _ _ _ _ _ c.args.senders ends.0.items ends.1
+    (IfOk-at_ok _ made plain.numbers) (IfOk-at_ok _ made plain.sent) (IfOk-at_ok _ made plain.given ∙ sym (IfOk-at_ok _ made plain.delivered)) (IfOk-at_ok _ made plain.received)
+    (λ sender within. ap (λ known. known.standing) (about sender)))

@@ -1,0 +1,129 @@
+-- A worker and a session of a run are held beside each other: their ends are of one making, no more was taken than was sent, and both keep their ends.
+use Rattle.std.specs.Prelude.{◌≡◌, ℕ, ◌+◌, ◌-◌, ◌<◌, ◌≤◌, false, List, [], ◌∷◌, length, map, slice_get, slice_index_or, Option, Some}
+use Rattle.std.proofs.Common.{◌∙◌, add-one, ap, arith, refl, subst, sym}
+use Rattle.std.proofs.lemmas.List.{length-append, length-map}
+use Rattle.std.proofs.lemmas.List.Elements.{All-map}
+use Rattle.std.proofs.lemmas.Option.{slice_get_within}
+use Rattle.mail_contract.specs.Lanes.{IsLaneOf}
+use Rattle.mail_contract.specs.Standing.{About}
+use Rattle.mail_contract.specs.Takes.{IsFront, from_sender}
+use Rattle.run_measure.specs.Measure.{AreCounted}
+use Rattle.session_proxy.specs.State.{PlainProxy, lists_of as session_lists}
+use Rattle.store_msg.specs.Reply.{PlainReply}
+use Rattle.store_msg.specs.declared.request.Request.{Request}
+use Rattle.worker_core.specs.Share.{held_for}
+use Rattle.worker_core.specs.State.{Entries, PlainWorker, lists_of as worker_lists}
+use Rattle.drain_steps.proofs.ItemsLemmas.{at_its_place, mapped, there_is}
+use Rattle.drain_ledger.specs.Handed.{AreOfOneMaking}
+use Rattle.drain_ledger.proofs.AsksLemmas.{front_few}
+use Rattle.drain_ledger.proofs.ListsLemmas.{mapped_or}
+use Rattle.party_run.specs.Running.{HaveEnds}
+
+module _ {S P M K SK : Type 0} {sender_key : S → SK} {number : S → ℕ} {pairs : K → SK → ℕ → Type 0} {key : P → K} {about : P → ℕ → About M}
+    {rows : List (List S)} {boxes : List P} (making : AreOfOneMaking sender_key number pairs key about false rows boxes)
+    (row place : ℕ) (senders : List S) (box : P) (row_is : slice_get rows row ≡ Some senders) (box_is : slice_get boxes place ≡ Some box) where
+  -- a row has a sender for each box
+  pub row_long : length senders ≡ length boxes
+  row_long = let long = at_its_place (λ senders. length senders + 0 ≡ length boxes) rows row senders making.many row_is in omega (arith, long)
+
+  row_within : place < length senders
+  row_within = let within = slice_get_within boxes place box box_is in omega (arith, within, row_long)
+
+  -- of the row's number
+  pub number_is : slice_index_or (map number senders) place 0 ≡ row + 1
+  number_is =
+      All-map (λ n. n ≡ row + 1) number senders (making.numbers row senders row_is) place 0 (let long = length-map senders number in omega (arith, long, row_within))
+
+  -- and it is of one making with the box
+  pub lane_is : (n : ℕ) → n ≡ row + 1 → IsLaneOf (λ lane its. pairs its lane n) (map sender_key senders) (key box) (place + 1)
+  lane_is n is =
+      let sender = there_is senders place row_within in
+      let numbered = at_its_place (λ one. number one ≡ row + 1) senders place sender.0 (making.numbers row senders row_is) sender.1 in
+      let paired = making.paired row place senders sender.0 box row_is box_is refl sender.1 in (
+        omega arith,
+        let long = length-map senders sender_key in omega (arith, long, row_within),
+        λ lane there.
+            let lane_there : sender_key sender.0 ≡ lane =
+            sym (mapped_or sender_key senders place sender.0 lane sender.1)
+            ∙ subst (λ at. slice_index_or (map sender_key senders) at lane ≡ lane) (omega arith) there
+            in
+            subst (λ (both : SK × ℕ). pairs (key box) both.0 both.1) (λ j. (lane_there j, (numbered ∙ sym is) j)) paired,
+      )
+
+module _ {S T O Q G R SK TK OK QK GK RK : Type 0} {request_key : S → SK} {request_number : S → ℕ}
+    {reply_key : T → TK} {reply_number : T → ℕ} {gossip_key : O → OK} {gossip_number : O → ℕ}
+    {requests_key : Q → QK} {requests_pairs : QK → SK → ℕ → Type 0} {requests_senders : QK → ℕ} {requests_received : Q → List (ℕ × Request)} {requests_about : Q → ℕ → About Request}
+    {in_key : G → GK} {in_pairs : GK → OK → ℕ → Type 0} {in_senders : GK → ℕ} {got : G → ℕ → ℕ → Option Entries} {in_about : G → ℕ → About Entries}
+    {replies_key : R → RK} {replies_pairs : RK → TK → ℕ → Type 0} {replies_senders : RK → ℕ} {replies_about : R → ℕ → About PlainReply}
+    {workers : List (PlainWorker Q T O G)} {sessions : List (PlainProxy S R)}
+    (have : HaveEnds request_key request_number reply_key reply_number gossip_key gossip_number
+    requests_key requests_pairs requests_senders requests_received requests_about in_key in_pairs in_senders got in_about
+    replies_key replies_pairs replies_senders replies_about workers sessions)
+    (place at : ℕ) (worker : PlainWorker Q T O G) (proxy : PlainProxy S R) (there : slice_get workers place ≡ Some worker) (here : slice_get sessions at ≡ Some proxy) where
+  -- the session's senders of requests, and the worker's of replies, stand among those of all
+  asks_there : slice_get (map (λ (its : PlainProxy S R). its.ends.requests.items) sessions) at ≡ Some proxy.ends.requests.items
+  asks_there = mapped (λ (its : PlainProxy S R). its.ends.requests.items) sessions at proxy here
+
+  replies_there : slice_get (map (λ (its : PlainWorker Q T O G). its.ends.replies.items) workers) place ≡ Some worker.ends.replies.items
+  replies_there = mapped (λ (its : PlainWorker Q T O G). its.ends.replies.items) workers place worker there
+
+  box_there : slice_get (map (λ (its : PlainProxy S R). its.ends.replies) sessions) at ≡ Some proxy.ends.replies
+  box_there = mapped (λ (its : PlainProxy S R). its.ends.replies) sessions at proxy here
+
+  -- the worker has a sender of replies for the session
+  pub has_replies : at + 1 ≤ length worker.ends.replies.items
+  has_replies = let within = row_within have.replies place at worker.ends.replies.items proxy.ends.replies replies_there box_there in omega (arith, within)
+
+  me_less : worker.state.me - 1 ≡ place
+  me_less = let me = have.numbered place worker there in omega (arith, me)
+
+  -- the numbers of both at each other's boxes
+  pub session_number : slice_index_or (map request_number proxy.ends.requests.items) (worker.state.me - 1) 0 ≡ at + 1
+  session_number =
+      ap (λ n. slice_index_or (map request_number proxy.ends.requests.items) n 0) me_less
+      ∙ number_is have.requests at place proxy.ends.requests.items worker asks_there there
+
+  pub worker_number : slice_index_or (map reply_number worker.ends.replies.items) at 0 ≡ place + 1
+  worker_number = number_is have.replies place at worker.ends.replies.items proxy.ends.replies replies_there box_there
+
+  -- the ends of both are of one making
+  pub are_paired : (sender : T) → slice_get worker.ends.replies.items at ≡ Some sender
+      → IsLaneOf (λ lane its. requests_pairs its lane (slice_index_or (map request_number proxy.ends.requests.items) (worker.state.me - 1) 0))
+      (map request_key proxy.ends.requests.items) (requests_key worker.ends.requests) worker.state.me
+      × replies_pairs (replies_key proxy.ends.replies) (reply_key sender) (reply_number sender) × (reply_number sender ≡ worker.state.me)
+  are_paired sender sender_is =
+      let me = have.numbered place worker there in (
+        subst (IsLaneOf (λ lane its. requests_pairs its lane (slice_index_or (map request_number proxy.ends.requests.items) (worker.state.me - 1) 0))
+            (map request_key proxy.ends.requests.items) (requests_key worker.ends.requests)) (sym me)
+            (lane_is have.requests at place proxy.ends.requests.items worker asks_there there
+            (slice_index_or (map request_number proxy.ends.requests.items) (worker.state.me - 1) 0) session_number),
+        have.replies.paired place at worker.ends.replies.items sender proxy.ends.replies replies_there box_there refl sender_is,
+        at_its_place (λ one. reply_number one ≡ place + 1) worker.ends.replies.items at sender (have.replies.numbers place worker.ends.replies.items replies_there) sender_is ∙ sym me,
+      )
+
+  -- where each received a front of what the other sent, no more was taken than was sent
+  pub met_counted : (asked : S → List Request) (replied : T → List PlainReply) (told : O → List Entries) (replies_received : R → List (ℕ × PlainReply))
+      → IsFront (from_sender (slice_index_or (map request_number proxy.ends.requests.items) (worker.state.me - 1) 0) (requests_received worker.ends.requests))
+      (slice_index_or (map asked proxy.ends.requests.items) (worker.state.me - 1) [])
+      → IsFront (from_sender worker.state.me (replies_received proxy.ends.replies)) (slice_index_or (map replied worker.ends.replies.items) at [])
+      → AreCounted (at + 1) (session_lists asked replies_received proxy) (place + 1) (worker_lists requests_received replied told got worker)
+  met_counted asked replied told replies_received requests_front replies_front =
+      let me = have.numbered place worker there in
+      let sent : slice_index_or ([] ∷ map replied worker.ends.replies.items) (at + 1) [] ≡ slice_index_or (map replied worker.ends.replies.items) at [] = rw add-one refl in
+      let none_more = front_few (from_sender worker.state.me (replies_received proxy.ends.replies)) (slice_index_or (map replied worker.ends.replies.items) at []) replies_front in
+      record {
+        requests = subst (λ (both : ℕ × ℕ). length (from_sender both.0 (requests_received worker.ends.requests))
+            ≤ length (slice_index_or (map asked proxy.ends.requests.items) both.1 [])) (λ j. (session_number j, (me_less ∙ next) j))
+            (front_few (from_sender (slice_index_or (map request_number proxy.ends.requests.items) (worker.state.me - 1) 0) (requests_received worker.ends.requests))
+            (slice_index_or (map asked proxy.ends.requests.items) (worker.state.me - 1) []) requests_front);
+        replies = omega (
+          arith,
+          none_more,
+          ap (λ n. length (from_sender n (replies_received proxy.ends.replies))) me,
+          ap length sent,
+          length-append (slice_index_or ([] ∷ map replied worker.ends.replies.items) (at + 1) []) (held_for (at + 1) worker.state.held),
+        );
+      }
+    where
+      next : place ≡ place + 1 - 1
+      next = omega arith

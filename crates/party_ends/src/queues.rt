@@ -1,0 +1,50 @@
+//! Mail over queues is made.
+use crate::{MakesGossip, MakesMail};
+use lattice_laws::NoMemory;
+use mailbox_rule::{QueueRx, QueueTx, queue};
+use std::alloc::Global;
+use std::sync::Wait;
+use store_msg::{Batch, Reply, Request};
+
+/// Makes boxes over one queue each, for threads; their calls may wait.
+#[derive(Drop)]
+pub struct QueueMaker<W: Wait + Copy> {
+    /// What the ends wait with.
+    pub rt: W,
+}
+
+impl<W: Wait + Copy> MakesMail<Request> for QueueMaker<W> {
+    type Mailbox = QueueRx<Request, W>;
+
+    fn make(
+        &self,
+        alloc: Global,
+        senders: u16,
+    ) -> Result<(Vec<QueueTx<Request, W>>, QueueRx<Request, W>), NoMemory> {
+        queue(self.rt, alloc, senders)
+    }
+}
+
+impl<W: Wait + Copy> MakesMail<Reply> for QueueMaker<W> {
+    type Mailbox = QueueRx<Reply, W>;
+
+    fn make(
+        &self,
+        alloc: Global,
+        senders: u16,
+    ) -> Result<(Vec<QueueTx<Reply, W>>, QueueRx<Reply, W>), NoMemory> {
+        queue(self.rt, alloc, senders)
+    }
+}
+
+impl<W: Wait + Copy> MakesGossip<Batch> for QueueMaker<W> {
+    type Mailbox = QueueRx<Batch, W>;
+
+    fn make_weak(
+        &self,
+        alloc: Global,
+        senders: u16,
+    ) -> Result<(Vec<QueueTx<Batch, W>>, QueueRx<Batch, W>), NoMemory> {
+        queue(self.rt, alloc, senders)
+    }
+}

@@ -1,0 +1,142 @@
+use Rattle.std.proofs.Common.{◌≡◌, ◌∙◌, ℕ, ap, IsTrue, length, List, map, None, slice_get, Some, subst, sym}
+use Rattle.std.proofs.lemmas.List.{length-map}
+use Rattle.std.proofs.lemmas.Simd.{map-map}
+use Rattle.session_proxy.specs.State as sessions
+use Rattle.worker_core.specs.State as workers
+use Rattle.run_measure.specs.Laws.{IsPlaced}
+use Rattle.run_measure.specs.Steps.{HasDone}
+use Rattle.session_proxy.specs.Share.{Share}
+use Rattle.drain_steps.proofs.ItemsLemmas.{mapped, of_mapped, there_too}
+use Rattle.party_run.proofs.GoesOnLemmas.{goes_on_through}
+use Rattle.party_run.specs.Session.{proxy_of}
+use Rattle.party_steps.specs.Polling.{HasPolled}
+use Rattle.party_steps.specs.Progress.{HasServed}
+use Rattle.party_steps.specs.Turning.{HasTurned}
+use Rattle.party_steps.proofs.PlacedLemmas.{may_be_polled}
+use Rattle.party_steps.proofs.PolledRunLemmas.{polled_goes_on}
+use Rattle.party_steps.proofs.TogetherLemmas.{all_stepped, done_more, each_goes}
+use Rattle.party_steps.proofs.TurnedRunLemmas.{turned_goes_on}
+use Rattle.party_epochs.proofs.EpochLemmas.{as_many_pieces, each_became, each_kept}
+use Rattle.party_epochs.proofs.epoch.run_epoch.Given.{Over}
+use Rattle.party_epochs.proofs.epoch.run_epoch.Goals as goal
+use Rattle.party_epochs.proofs.epoch.run_epoch.Goals.{After-drop-parties-2}
+
+module _ (g : Over) where
+  abbrev Worker : Type 0
+  Worker = workers.PlainWorker g.row.Q.Denot g.row.T.Denot g.row.O.Denot g.row.G.Denot
+
+  abbrev Proxy : Type 0
+  Proxy = sessions.PlainProxy g.row.S.Denot g.row.R.Denot
+
+  abbrev of_worker : Worker → workers.Lists
+  of_worker = workers.lists_of g.Q.Rx.received g.T.Tx.sent g.O.Tx.sent g.G.GossipRx.got
+
+  abbrev of_session : Proxy → sessions.Lists
+  of_session = sessions.lists_of g.S.Tx.sent g.R.Rx.received
+
+  module _ (c : After-drop-parties-2 g) where
+    -- the workers before the epoch and after it, and the proxies of the sessions
+    abbrev those : List Worker
+    those = c.args.parties.now.workers.items
+
+    abbrev those_now : List Worker
+    those_now = c.in_ok-parties.field-0.items
+
+    abbrev proxies : List Proxy
+    proxies = map proxy_of c.args.parties.now.sessions.items
+
+    abbrev proxies_now : List Proxy
+    proxies_now = map proxy_of c.in_ok-parties-2.field-0.items
+
+    begun : map (λ part. part.worker) c.in_ok-turned.turned.items ≡ those
+    begun = c.in_ok-turned.ensures ∙ ap (λ vec. vec.items) c.replace-workers.ensures.value
+
+    ended : those_now ≡ map (λ part. part.worker) c.run_parts.new.turned.items
+    ended = c.in_ok-parties.ensures
+
+    sessions_begun : map (λ part. proxy_of part.session) c.in_ok-polled.polled.items ≡ proxies
+    sessions_begun =
+        sym (map-map proxy_of (λ part. part.session) c.in_ok-polled.polled.items) ∙ ap (map proxy_of) (c.in_ok-polled.ensures ∙ ap (λ vec. vec.items) c.replace-sessions.ensures.value)
+
+    sessions_ended : proxies_now ≡ map (λ part. proxy_of part.session) c.run_parts.new.polled.items
+    sessions_ended = ap (map proxy_of) c.in_ok-parties-2.ensures ∙ map-map proxy_of (λ part. part.session) c.run_parts.new.polled.items
+
+    as_many : length those_now ≡ length those
+    as_many =
+        ap length ended ∙ length-map c.run_parts.new.turned.items (λ part. part.worker)
+        ∙ as_many_pieces _ c.in_ok-turned.turned.items c.run_parts.new.turned.items c.in_ok-run_parts.ensures.turned
+        ∙ sym (length-map c.in_ok-turned.turned.items (λ part. part.worker)) ∙ ap length begun
+
+    so_many : length proxies_now ≡ length proxies
+    so_many =
+        ap length sessions_ended ∙ length-map c.run_parts.new.polled.items (λ part. proxy_of part.session)
+        ∙ as_many_pieces _ c.in_ok-polled.polled.items c.run_parts.new.polled.items c.in_ok-run_parts.ensures.polled
+        ∙ sym (length-map c.in_ok-polled.polled.items (λ part. proxy_of part.session)) ∙ ap length sessions_begun
+
+    -- what came of the sessions' turns
+    came : c.in_ok-came.came.items ≡ map (λ part. part.polled) c.run_parts.new.polled.items
+    came = c.in_ok-came.ensures ∙ ap (map (λ part. part.polled)) c.deref-5.ensures.value
+
+    -- each worker took its turns,
+    turned : (place : ℕ) (was is : Worker) → slice_get those place ≡ Some was → slice_get those_now place ≡ Some is
+        → HasTurned g.Q.Rx.key g.T.Tx.key g.T.Tx.number g.O.Tx.key g.O.Tx.number g.G.GossipRx.key g.Q.Rx.keeps.complete g.Q.Rx.senders g.Q.Rx.received g.Q.Rx.about g.T.Tx.sent
+        g.G.GossipRx.keeps.complete g.G.GossipRx.senders g.G.GossipRx.got g.G.GossipRx.about was is × (was.state.kept ≡ None → HasServed (of_worker was) (of_worker is))
+    turned place was is there also =
+        each_kept _
+        (λ was is. HasTurned g.Q.Rx.key g.T.Tx.key g.T.Tx.number g.O.Tx.key g.O.Tx.number g.G.GossipRx.key g.Q.Rx.keeps.complete g.Q.Rx.senders g.Q.Rx.received g.Q.Rx.about g.T.Tx.sent
+        g.G.GossipRx.keeps.complete g.G.GossipRx.senders g.G.GossipRx.got g.G.GossipRx.about was is × (was.state.kept ≡ None → HasServed (of_worker was) (of_worker is)))
+        (λ part. part.worker) (λ before now became. became) c.in_ok-turned.turned.items c.run_parts.new.turned.items c.in_ok-run_parts.ensures.turned place was is
+        (ap (λ all. slice_get all place) begun ∙ there) (ap (λ all. slice_get all place) (sym ended) ∙ also)
+
+    -- and each session was polled
+    polled : (place : ℕ) (was is : Proxy) → slice_get proxies place ≡ Some was → slice_get proxies_now place ≡ Some is
+        → HasPolled g.S.Tx.key g.S.Tx.number g.S.Tx.sent g.R.Rx.key g.R.Rx.senders g.R.Rx.received g.R.Rx.about was is
+    polled place was is there also =
+        each_kept _ (HasPolled g.S.Tx.key g.S.Tx.number g.S.Tx.sent g.R.Rx.key g.R.Rx.senders g.R.Rx.received g.R.Rx.about)
+        (λ part. proxy_of part.session) (λ before now became. became.0) c.in_ok-polled.polled.items c.run_parts.new.polled.items c.in_ok-run_parts.ensures.polled place was is
+        (ap (λ all. slice_get all place) sessions_begun ∙ there) (ap (λ all. slice_get all place) (sym sessions_ended) ∙ also)
+
+    -- so each session of a run has gone on
+    done_each : ((at : ℕ) (proxy : Proxy) → slice_get proxies at ≡ Some proxy → IsPlaced (of_session proxy) × Share (of_session proxy))
+        → (place : ℕ) (was is : Proxy) → slice_get proxies place ≡ Some was → slice_get proxies_now place ≡ Some is → HasDone (of_session was) (of_session is)
+    done_each may place was is there also =
+        each_kept _ (λ was is. IsPlaced (of_session was) → Share (of_session was) → HasDone (of_session was) (of_session is))
+        (λ part. proxy_of part.session) (λ before now became placed share. (became.2 placed share).goes_on) c.in_ok-polled.polled.items c.run_parts.new.polled.items
+        c.in_ok-run_parts.ensures.polled place was is
+        (ap (λ all. slice_get all place) sessions_begun ∙ there) (ap (λ all. slice_get all place) (sym sessions_ended) ∙ also) (may place was there).0 (may place was there).1
+
+pub returns-clause-steps : goal.returns-clause-steps
+returns-clause-steps g c = record {
+  goes_on =
+      goes_on_through (those g c) (those_now g c) (those_now g c) (proxies g c) (proxies g c) (proxies_now g c)
+      (turned_goes_on (those g c) (those_now g c) (proxies g c) (as_many g c) (λ place was is there also. (turned g c place was is there also).0))
+      (polled_goes_on (those_now g c) (proxies g c) (proxies_now g c) (so_many g c) (polled g c));
+  gone_on = λ script running.
+      all_stepped g.S.Tx.sent g.T.Tx.sent g.O.Tx.sent g.Q.Rx.received g.G.GossipRx.got g.R.Rx.received (those g c) (those_now g c) (proxies g c) (proxies_now g c) (as_many g c) (so_many g c)
+      (λ place was there. (running.workers_are place was there).sessions ∙ sym running.as_many_sessions)
+      (λ place was is there also. (turned g c place was is there also).1)
+      (done_each g c (may_be_polled script (those g c) (proxies g c) running));
+}
+
+pub returns-clause-each : goal.returns-clause-each
+returns-clause-each g c =
+    ap length (came g c) ∙ length-map c.run_parts.new.polled.items (λ part. part.polled)
+    ∙ as_many_pieces _ c.in_ok-polled.polled.items c.run_parts.new.polled.items c.in_ok-run_parts.ensures.polled
+    ∙ sym (length-map c.in_ok-polled.polled.items (λ part. part.session)) ∙ ap length (c.in_ok-polled.ensures ∙ ap (λ vec. vec.items) c.replace-sessions.ensures.value)
+
+pub returns-clause-moved : goal.returns-clause-moved
+returns-clause-moved g c script running at its told moved =
+    let may = may_be_polled script (those g c) (proxies g c) running in
+    let all = c.in_ok-run_parts.ensures.polled in
+    let now = of_mapped (λ part. part.polled) c.run_parts.new.polled.items at its (ap (λ all. slice_get all at) (sym (came g c)) ∙ told) in
+    let was = there_too c.in_ok-polled.polled.items c.run_parts.new.polled.items at now.0 (as_many_pieces _ c.in_ok-polled.polled.items c.run_parts.new.polled.items all) now.1 in
+    let became = each_became _ c.in_ok-polled.polled.items c.run_parts.new.polled.items all at was.0 now.0 was.1 now.1 in
+    let before = ap (λ all. slice_get all at) (sym (sessions_begun g c)) ∙ mapped (λ part. proxy_of part.session) c.in_ok-polled.polled.items at was.0 was.1 in
+    let after = ap (λ all. slice_get all at) (sessions_ended g c) ∙ mapped (λ part. proxy_of part.session) c.run_parts.new.polled.items at now.0 now.1 in
+    let on = became.2 (may at (proxy_of was.0.session) before).0 (may at (proxy_of was.0.session) before).1 in
+    done_more (map (of_session g) (proxies g c)) (map (of_session g) (proxies_now g c))
+    (length-map (proxies_now g c) (of_session g) ∙ so_many g c ∙ sym (length-map (proxies g c) (of_session g)))
+    (each_goes g.S.Tx.sent g.T.Tx.sent g.O.Tx.sent g.Q.Rx.received g.G.GossipRx.got g.R.Rx.received (proxies g c) (proxies_now g c) (done_each g c may))
+    at (of_session g (proxy_of was.0.session)) (of_session g (proxy_of now.0.session))
+    (mapped (of_session g) (proxies g c) at (proxy_of was.0.session) before) (mapped (of_session g) (proxies_now g c) at (proxy_of now.0.session) after)
+    (on.moved (subst (λ polled. IsTrue polled.moved) (sym now.2) moved))

@@ -1,0 +1,92 @@
+//! The parts that workers and sessions take in an epoch.
+use crate::gate::EpochPace;
+use crate::{Gate, Piece};
+use lattice_laws::NoMemory;
+use mail_contract::{GossipRx, Rx, Tx};
+use party_run::SessionOver;
+use party_steps::{Polled, poll_often, turn_often};
+use store_msg::{Batch, Reply, Request};
+use worker_core::WorkerOver;
+
+/// How many turns a party takes in an epoch, at most.
+const MOST_TURNS: u32 = 128;
+
+/// A worker, as it takes its part in an epoch.
+#[derive(Drop)]
+pub struct TurnedOver<Q: Rx<Request>, T: Tx<Reply>, O: Tx<Batch>, G: GossipRx<Batch, From = O>> {
+    pub worker: WorkerOver<Q, T, O, G>,
+    /// Its number among the parties, from 0.
+    pub party: u16,
+    /// How many turns it has taken.
+    pub turns: u64,
+}
+
+impl<Q: Rx<Request>, T: Tx<Reply>, O: Tx<Batch>, G: GossipRx<Batch, From = O>> Piece
+    for TurnedOver<Q, T, O, G> {
+    ghost use Rattle.std.specs.Prelude.{◌≡◌, None};
+    ghost use Rattle.party_steps.specs.Progress.{HasServed};
+    ghost use Rattle.party_steps.specs.Turning.{HasTurned};
+    ghost use Rattle.worker_core.specs.State as workers;
+
+    ghost becomes = { λ before now.
+        HasTurned Q.key T.key T.number O.key O.number G.key
+        Q.keeps.complete Q.senders Q.received Q.about T.sent
+        G.keeps.complete G.senders G.got G.about before.worker now.worker
+        × (before.worker.state.kept ≡ None → HasServed
+        (workers.lists_of Q.received T.sent O.sent G.got before.worker)
+        (workers.lists_of Q.received T.sent O.sent G.got now.worker)) };
+
+    fn part<E: Gate>(&mut self, gate: &E) -> Result<(), NoMemory> {
+        let mut pace = EpochPace {
+            gate,
+            party: self.party,
+            turns: self.turns,
+        };
+        turn_often(&mut pace, &mut self.worker, MOST_TURNS)?;
+        self.turns = pace.turns;
+        Ok(())
+    }
+}
+
+/// A session, as it takes its part in an epoch.
+#[derive(Drop)]
+pub struct PolledOver<S: Tx<Request>, R: Rx<Reply>> {
+    pub session: SessionOver<S, R>,
+    /// Its number among the parties: sessions come after the workers.
+    pub party: u16,
+    /// How many turns it has taken.
+    pub turns: u64,
+    /// What came of its part.
+    pub polled: Polled,
+}
+
+impl<S: Tx<Request>, R: Rx<Reply>> Piece for PolledOver<S, R> {
+    ghost use Rattle.std.specs.Prelude.{IsTrue};
+    ghost use Rattle.party_run.specs.Session.{proxy_of};
+    ghost use Rattle.party_steps.specs.Polling.{HasPolled, IsAllAnswered};
+    ghost use Rattle.party_steps.specs.Progress.{HasMovedOn};
+    ghost use Rattle.run_measure.specs.Laws.{IsPlaced};
+    ghost use Rattle.session_proxy.specs.Share.{Share};
+    ghost use Rattle.session_proxy.specs.State as sessions;
+
+    ghost becomes = { λ before now.
+        HasPolled S.key S.number S.sent R.key R.senders R.received R.about
+        (proxy_of before.session) (proxy_of now.session)
+        × (IsTrue now.polled.ended → IsAllAnswered (proxy_of now.session))
+        × (IsPlaced (sessions.lists_of S.sent R.received (proxy_of before.session))
+        → Share (sessions.lists_of S.sent R.received (proxy_of before.session))
+        → HasMovedOn now.polled
+        (sessions.lists_of S.sent R.received (proxy_of before.session))
+        (sessions.lists_of S.sent R.received (proxy_of now.session))) };
+
+    fn part<E: Gate>(&mut self, gate: &E) -> Result<(), NoMemory> {
+        let mut pace = EpochPace {
+            gate,
+            party: self.party,
+            turns: self.turns,
+        };
+        self.polled = poll_often(&mut pace, &mut self.session, MOST_TURNS)?;
+        self.turns = pace.turns;
+        Ok(())
+    }
+}

@@ -1,0 +1,3 @@
+mod EndedLemmas
+mod MovedLemmas
+mod ToldLemmas

@@ -1,0 +1,31 @@
+-- What is told of the parties of a run that were held beside each other.
+use Rattle.std.specs.Prelude.{ℕ, ◌+◌, List, [], map, slice_index_or, Option}
+use Rattle.std.proofs.Common.{subst}
+use Rattle.mail_contract.specs.Takes.{IsFront, from_sender}
+use Rattle.session_proxy.specs.State as sessions
+use Rattle.store_msg.specs.Reply.{PlainReply}
+use Rattle.store_msg.specs.declared.request.Request.{Request}
+use Rattle.worker_core.specs.State as workers
+use Rattle.drain_ledger.specs.Handed.{AreFrontsOfSent}
+use Rattle.drain_steps.proofs.ItemsLemmas.{mapped, of_mapped}
+use Rattle.party_beside.specs.Told.{AreAllTold}
+use Rattle.party_steps.specs.Polling.{left_by}
+use Rattle.run_measure.specs.Measure.{AreAllCounted}
+
+-- no more was taken than was sent
+pub all_counted : (all : List workers.Lists) (those : List sessions.Lists) → AreAllTold all those → AreAllCounted all those
+all_counted all those told place at worker its there here = (told place at worker its there here).counted
+
+-- and of the sessions that left their ends it is told what they received of the workers
+pub all_fronts : {S T O Q G R : Type 0} (asked : S → List Request) (replied : T → List PlainReply) (told : O → List workers.Entries)
+    (received : Q → List (ℕ × Request)) (got : G → ℕ → ℕ → Option workers.Entries) (heard : R → List (ℕ × PlainReply))
+    (those : List (workers.PlainWorker Q T O G)) (proxies : List (sessions.PlainProxy S R))
+    → AreAllTold (map (workers.lists_of received replied told got) those) (map (sessions.lists_of asked heard) proxies)
+    → AreFrontsOfSent replied heard those (map left_by proxies)
+all_fronts asked replied told received got heard those proxies all place session worker its there left =
+    let proxy = of_mapped left_by proxies session its left in
+    let told_of_it =
+    all place session (workers.lists_of received replied told got worker) (sessions.lists_of asked heard proxy.0)
+    (mapped (workers.lists_of received replied told got) those place worker there) (mapped (sessions.lists_of asked heard) proxies session proxy.0 proxy.1)
+    in
+    subst (λ its. IsFront (from_sender (place + 1) (heard its.1.replies)) (slice_index_or (map replied worker.ends.replies.items) session [])) proxy.2 told_of_it.front

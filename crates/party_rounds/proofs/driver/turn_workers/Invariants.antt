@@ -1,0 +1,12 @@
+-- The parties so far took steps.
+use Rattle.std.proofs.Common.{map}
+use Rattle.party_run.specs.Session.{proxy_of}
+use Rattle.party_steps.specs.Progress.{StepsOn}
+use Rattle.party_rounds.proofs.driver.turn_workers.Given as goal
+
+abbrev pub invariant-loop-place : goal.invariant-loop-place
+invariant-loop-place g l = StepsOn g.S.Tx.key g.S.Tx.number g.S.Tx.sent g.T.Tx.key g.T.Tx.number g.T.Tx.sent g.O.Tx.key g.O.Tx.number g.O.Tx.sent
+    g.Q.Rx.key g.Q.Rx.pairs g.Q.Rx.senders g.Q.Rx.received g.Q.Rx.about
+    g.G.GossipRx.key g.G.GossipRx.pairs g.G.GossipRx.senders g.G.GossipRx.got g.G.GossipRx.about
+    g.R.Rx.key g.R.Rx.pairs g.R.Rx.senders g.R.Rx.received g.R.Rx.about
+    l.initial.parties.workers.items l.parties.workers.items (map proxy_of l.initial.parties.sessions.items) (map proxy_of l.parties.sessions.items)

@@ -1,0 +1,3 @@
+pub mod ChangedLemmas
+pub mod GoesOnLemmas
+pub mod KeptLemmas

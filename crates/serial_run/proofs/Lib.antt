@@ -1,9 +1,0 @@
-mod CarriedLemmas
-mod CountedLemmas
-mod EndedLemmas
-mod GoesOnLemmas
-mod LeftLemmas
-mod ParcelLemmas
-mod PlacedLemmas
-mod PlainEndsLemmas
-mod WithinLemmas
