@@ -1,42 +1,36 @@
 -- No reply is wanting: each worker sent each ended session as many replies as the session asked it for.
-use Rattle.std.specs.Prelude.{◌≡◌, ℕ, zero, suc, ◌+◌, ◌-◌, ◌<◌, ◌≤◌, min, List, [], ◌∷◌, All, length, map, slice_get, slice_index_or, Option, Some}
+use Rattle.std.specs.Prelude.{◌≡◌, ℕ, zero, suc, ◌+◌, ◌-◌, ◌<◌, ◌≤◌, List, [], ◌∷◌, All, length, map, slice_get, slice_index_or, Option, Some}
 use Rattle.std.proofs.Common.{◌∙◌, refl, sym, ap, subst, arith}
-use Rattle.std.proofs.lemmas.List.{length-map, length-take}
-use Rattle.std.proofs.lemmas.List.Elements.{All-take}
+use Rattle.std.proofs.lemmas.List.{length-map}
 use Rattle.std.proofs.lemmas.Option.{get_or_from_slice_get, slice_get_within}
-use Rattle.lattice_laws.proofs.ListLemmas.{All-front}
 use Rattle.mail_contract.specs.Parts.{Parts}
 use Rattle.mail_contract.specs.Standing.{About, Settled}
 use Rattle.mail_contract.specs.Takes.{IsFront, from_sender}
 use Rattle.placement.specs.Config.{IsOneOf}
 use Rattle.session_known.specs.Accepted.{client_of}
-use Rattle.session_known.specs.Session.{Client, start}
+use Rattle.session_known.specs.Session.{Client}
 use Rattle.session_known.specs.declared.report.Answer.{Answer}
 use Rattle.session_known.specs.declared.script.Script.{Script}
 use Rattle.session_known.specs.declared.script.SessionPlan.{SessionPlan}
+use Rattle.session_proxy.specs.Share.{open_sent}
 use Rattle.session_proxy.specs.State as sessions
 use Rattle.store_msg.specs.Reply.{PlainReply}
 use Rattle.store_msg.specs.declared.ends.SessionEndsOver.{SessionEndsOver}
 use Rattle.store_msg.specs.declared.request.Request.{Request}
-use Rattle.worker_core.specs.Share.{IsReplyTo, Share, gets_after, held_for, replies_to}
-use Rattle.worker_core.specs.State.{Entries, Lists, PlainWorker, lists_of}
+use Rattle.worker_core.specs.Share.{Share}
+use Rattle.worker_core.specs.State.{Entries, PlainWorker, lists_of}
 use Rattle.run_ledger.specs.Parties.{HasEnded, HaveEnded}
-use Rattle.run_ledger.proofs.EndedRepliesLemmas.{part_few}
-use Rattle.run_ledger.proofs.EndedSessionsLemmas.{answered, its_replies, part_taken, sent_to}
-use Rattle.run_ledger.proofs.FrontsLemmas.{each_from}
-use Rattle.run_ledger.proofs.GetsLemmas.{from_worker, gets_in, lines_as_many}
-use Rattle.run_ledger.proofs.MomentsLemmas.{in_all}
-use Rattle.run_ledger.proofs.RepliesLemmas.{all_by_worker, zip_right}
+use Rattle.run_ledger.proofs.EndedSessionsLemmas.{none_sent}
+use Rattle.run_ledger.proofs.GetsLemmas.{gets_in, gets_to}
+use Rattle.run_ledger.proofs.HeldLemmas.{own_taken}
+use Rattle.run_ledger.proofs.MessagesLemmas.{each_from}
+pub use Rattle.run_ledger.proofs.MessagesLemmas.{front_few}
+use Rattle.run_ledger.proofs.SessionsLemmas.{by_number}
+use Rattle.run_ledger.proofs.UnheardLemmas.{few_unheard}
 use Rattle.drain_turns.specs.Ready.{AreReplied, FindPlaces, FreesPlaces}
-use Rattle.drain_turns.specs.Turning.{settled_sent}
+use Rattle.drain_turns.specs.Turning.{known_sent}
 use Rattle.drain_ledger.specs.Handed.{AreFrontsOfSent, AreOfOneRun, lists_left}
 use Rattle.drain_steps.proofs.ItemsLemmas.{mapped, there_is}
-
--- a front is no longer than the whole
-pub front_few : {M : Type 0} (front whole : List M) → IsFront front whole → length front ≤ length whole
-front_few front whole is =
-    let fits : min (length front) (length whole) ≡ length front = sym (length-take (length front) whole) ∙ ap length is in
-    omega (arith, fits)
 
 -- what a worker replied to the session at a place
 abbrev replied_to : {Q T O G : Type 0} → (T → List PlainReply) → PlainWorker Q T O G → ℕ → List PlainReply
@@ -46,33 +40,15 @@ replied_to replied worker session = slice_index_or (map replied worker.ends.repl
 abbrev lists_of_it : {A S R : Type 0} → (S → List Request) → (R → List (ℕ × PlainReply)) → sessions.Course → A × SessionEndsOver S R → sessions.Lists
 lists_of_it asked received course its = record { course = course; sent = map asked its.1.requests.items; received = received its.1.replies }
 
--- the replies that a worker sent have its number
-own_replies : (lists : Lists) → Share lists → (session : ℕ) → session < length lists.replied
-    → All (λ reply. reply.worker ≡ lists.state.me) (slice_index_or lists.replied session [])
-own_replies lists share session within =
-    let number : ℕ = suc session in
-    All-front (λ reply. reply.worker ≡ lists.state.me) (slice_index_or lists.replied session []) (held_for number lists.state.held)
-    (zip_right (IsReplyTo lists.state share.cells.joined) (λ reply. reply.worker ≡ lists.state.me) (λ get reply is. ap (λ (its : PlainReply). its.worker) is.is)
-    (gets_after number [] share.cells.worked) (replies_to lists number) (share.replies.each number (omega arith, omega (arith, within))))
-
 module _ (table : List (List ℕ)) (workers : ℕ) (client : Client) (plan : SessionPlan) (session : sessions.Lists) (ended : HasEnded table workers client plan session) where
   -- An ended session, all of whose messages are replies of their senders, received of each worker at least as many as it asked it for.
   few_asked : All (λ message. message.1.worker ≡ message.0) session.received → (worker : ℕ) → IsOneOf workers worker
       → length (gets_in (slice_index_or session.sent (worker - 1) [])) ≤ length (from_sender worker session.received)
   few_asked own worker within =
-      let replies : List (List PlainReply) = its_replies table workers client plan session ended in
-      let plain : List PlainReply = map (λ message. message.1) session.received in
-      let asked : length (gets_in (slice_index_or session.sent (worker - 1) [])) ≡ length (from_worker worker (in_all replies)) =
-      ap (λ those. length (gets_in those)) (sent_to table workers client plan session ended worker within)
-      ∙ lines_as_many worker table client start 1 plan.lines session.course.answers replies (answered table workers client plan session ended)
-      in
-      let few : length (from_worker worker (in_all replies)) ≤ length (from_worker worker plain) =
-      part_few (part_taken table workers client plan session ended) worker
-      in
-      let heard : length (from_sender worker session.received) ≡ length (from_worker worker plain) =
-      ap (λ those. length (from_sender worker those)) (all_by_worker session.received own)
-      in
-      omega (arith, asked, few, heard)
+      let asked = ended.asked in
+      let none : gets_to worker (open_sent session.course) ≡ 0 = ap (gets_to worker) (none_sent table workers client plan session ended) in
+      let few = few_unheard session ended.share worker (within.0, omega (arith, within.1, asked)) own 0 (omega (arith, none)) in
+      omega (arith, few)
 
 module _ {A S R : Type 0} (asked : S → List Request) (received : R → List (ℕ × PlainReply)) (table : List (List ℕ)) (workers : ℕ) where
   -- The session at a place, by what it left, has ended.
@@ -122,24 +98,19 @@ module _ {S T O Q G R SK TK OK QK GK RK : Type 0}
           → All (λ reply. reply.worker ≡ place + 1) (from_sender (place + 1) (replies_received its.1.replies))
       of_its_worker place worker is =
           let of_script = run.workers_are place worker is in
-          let sent : List PlainReply = replied_to replied worker session in
           let long : length (map replied worker.ends.replies.items) ≡ length script.sessions = length-map worker.ends.replies.items replied ∙ of_script.sessions in
-          let own : All (λ reply. reply.worker ≡ worker.state.me) sent =
-          own_replies (lists_of requests_received replied told got worker) (shares place worker is) session (omega (arith, long, within))
-          in
-          subst (All (λ (reply : PlainReply). reply.worker ≡ place + 1)) (fronts place session worker its is its_is)
-          (All-take (λ (reply : PlainReply). reply.worker ≡ place + 1) (length (from_sender (place + 1) (replies_received its.1.replies))) sent
-          (subst (λ me. All (λ (reply : PlainReply). reply.worker ≡ me) sent) of_script.me own))
+          let at : session ≡ session + 1 - 1 = omega arith in
+          let heard : List PlainReply = from_sender (place + 1) (replies_received its.1.replies) in
+          own_taken (lists_of requests_received replied told got worker) (shares place worker is) (session + 1) (omega arith, omega (arith, long, within))
+          (place + 1) of_script.me heard (subst (λ at. IsFront heard (slice_index_or (map replied worker.ends.replies.items) at [])) at (fronts place session worker its is its_is))
 
       -- so of each
       of_each_worker : (number : ℕ) → IsOneOf script.config.workers number
           → All (λ reply. reply.worker ≡ number) (from_sender number (replies_received its.1.replies))
       of_each_worker number inside =
           let as_many = run.as_many in
-          let there = there_is workers (number - 1) (omega (arith, inside.0, inside.1, as_many)) in
-          let same : number - 1 + 1 ≡ number = omega (arith, inside.0) in
-          subst (λ n. All (λ (reply : PlainReply). reply.worker ≡ n) (from_sender n (replies_received its.1.replies))) same
-          (of_its_worker (number - 1) there.0 there.1)
+          (by_number (λ n worker. All (λ (reply : PlainReply). reply.worker ≡ n) (from_sender n (replies_received its.1.replies))) workers of_its_worker
+          number (inside.0, omega (arith, inside.1, as_many))).1
 
       -- so each message is a reply of its sender
       own : All (λ message. message.1.worker ≡ message.0) (replies_received its.1.replies)
@@ -225,7 +196,7 @@ module _ {S T O Q G R SK TK OK QK GK RK : Type 0}
             omega (
               arith,
               enough,
-              ap (λ those. length (gets_in (settled_sent those))) standing,
+              ap (λ those. length (gets_in (known_sent those))) standing,
               ap (λ replies. length (slice_index_or (map replied replies.items) (session - 1) [])) same_replies,
             )
 

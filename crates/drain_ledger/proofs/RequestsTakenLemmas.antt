@@ -19,11 +19,11 @@ use Rattle.store_msg.specs.declared.ends.SessionEndsOver.{SessionEndsOver}
 use Rattle.store_msg.specs.declared.request.Request.{Request}
 use Rattle.worker_core.specs.State.{Entries, PlainWorker}
 use Rattle.run_ledger.specs.Parties.{HaveEnded}
-use Rattle.run_ledger.proofs.FrontsLemmas.{each_from}
+use Rattle.run_ledger.proofs.MessagesLemmas.{each_from}
 use Rattle.drain_steps.specs.Settling.{MayTakeAll, MayTakeIn, TakesAll, TakesInRequests, column}
 use Rattle.drain_steps.proofs.ChainLemmas.{Does, IsNumbered, IsSettledAs, TakenInAll, all_taken, may_all, others_stay}
 use Rattle.drain_turns.specs.Ready.{AreReady}
-use Rattle.drain_turns.specs.Turning.{AreInRange, AreSettled, HasGoneOn, IsDone}
+use Rattle.drain_turns.specs.Turning.{AreInRange, AreKnown, HasGoneOn, IsDone, IsKnown}
 use Rattle.drain_turns.proofs.PassesGoingOn.{mates_stay}
 use Rattle.drain_ledger.specs.Handed.{AreOfOneRun, IsOfScript, IsUnused, lists_left}
 use Rattle.drain_ledger.proofs.MakingLemmas.{made_mates}
@@ -42,10 +42,10 @@ as_many_left table workers number asked received (plan ∷ plans) (course ∷ co
     let rest = as_many_left table workers (number + 1) asked received plans courses left (omega (arith, same)) have.1 in
     omega (arith, rest)
 
--- what a sender that is settled sent, and that what was received is a front of it, in the words for any sender
-settled_as : {M : Type 0} (complete : Bool) (standing : Standing M) (sent front : List M) → standing ≡ Settled sent → IsFront front sent
-    → IsSettled standing × OfSent complete standing (λ all. IsFront front all)
-settled_as complete standing sent front is told = subst (λ its. IsSettled its × OfSent complete its (λ all. IsFront front all)) (sym is) (tt, told)
+-- what a sender that is settled sent is known, and what was received is a front of it, in the words for any sender
+known_as : {M : Type 0} (complete : Bool) (standing : Standing M) (sent front : List M) → standing ≡ Settled sent → IsFront front sent
+    → IsKnown complete standing × OfSent complete standing (λ all. IsFront front all)
+known_as complete standing sent front is told = subst (λ its. IsKnown complete its × OfSent complete its (λ all. IsFront front all)) (sym is) (tt, told)
 
 module _ {S T O Q G R SK TK OK QK GK RK : Type 0}
     {request_key : S → SK} {request_number : S → ℕ} {asked : S → List Request}
@@ -237,28 +237,28 @@ module _ {S T O Q G R SK TK OK QK GK RK : Type 0}
             )
           ]
 
-      -- a sender is settled, and what was received of it is a front of what it sent
-      abbrev IsSettledFor : Bool → PlainWorker Q T O G → ℕ → Type 0
-      IsSettledFor complete now n = IsSettled (about_of now n).standing × IsFrontOfSent complete (requests_received now.ends.requests) (about_of now) n
+      -- it is known what a sender sent, and what was received of it is a front of that
+      abbrev IsKnownFor : Bool → PlainWorker Q T O G → ℕ → Type 0
+      IsKnownFor complete now n = IsKnown complete (about_of now n).standing × IsFrontOfSent complete (requests_received now.ends.requests) (about_of now) n
 
       of_session : (complete : Bool) (place n : ℕ) (now : PlainWorker Q T O G) → slice_get taken place ≡ Some now → IsOneOf (length script.sessions) n
-          → IsSettledFor complete now n
+          → IsKnownFor complete now n
       of_session complete place n now is within =
           let was = as_it_was place now is in
           let entry = entry_of n within in
           let sender = sender_there place entry.0 was.0 entry.2 was.1 entry.3 in
-          subst (IsSettledFor complete now) (sym entry.1)
-          (settled_as complete (about_of now (entry.0 + 1)).standing (asked sender.0) (from_sender (entry.0 + 1) (requests_received now.ends.requests))
+          subst (IsKnownFor complete now) (sym entry.1)
+          (known_as complete (about_of now (entry.0 + 1)).standing (asked sender.0) (from_sender (entry.0 + 1) (requests_received now.ends.requests))
           (sent_is place entry.0 now entry.2 sender.0 is entry.3 sender.1) (front_is place entry.0 now entry.2 sender.0 is entry.3 sender.1))
 
-      -- all senders of a box are settled, and what was received of each is a front of what it sent
-      pub all_settled : (complete : Bool) (place : ℕ) (now : PlainWorker Q T O G) → slice_get taken place ≡ Some now
-          → AreSettled complete (requests_senders (requests_key now.ends.requests)) (requests_received now.ends.requests) (requests_about now.ends.requests)
-      all_settled complete place now is n within = elim (cases_lt (length script.sessions) n) [
+      -- so of all senders of a box
+      pub all_known : (complete : Bool) (place : ℕ) (now : PlainWorker Q T O G) → slice_get taken place ≡ Some now
+          → AreKnown complete (requests_senders (requests_key now.ends.requests)) (requests_received now.ends.requests) (requests_about now.ends.requests)
+      all_known complete place now is n within = elim (cases_lt (length script.sessions) n) [
         | inl past ↦
             let was = as_it_was place now is in
             let unused = stays_unused place n was.0 now was.1 is past within in
-            settled_as complete (requests_about now.ends.requests n).standing [] (from_sender n (requests_received now.ends.requests)) unused.0.nothing
+            known_as complete (requests_about now.ends.requests n).standing [] (from_sender n (requests_received now.ends.requests)) unused.0.nothing
             (subst (λ front. IsFront front []) (sym unused.1) refl)
         | inr low ↦ of_session complete place n now is (within.0, omega (arith, low))
       ]
@@ -276,7 +276,7 @@ module _ {S T O Q G R SK TK OK QK GK RK : Type 0}
               numbers = ap (λ senders. map gossip_number senders.items) (same_gossip_out place before now was is);
               box_key = ap in_key (same_gossip_in place before now was is);
             }) (made_mates in_about workers few (λ place worker there. (run.workers_are place worker there).me) run.gossip);
-        settled = λ place now is. all_settled complete place now is;
+        known = λ place now is. all_known complete place now is;
         met = λ place now is sender within.
             let was = as_it_was place now is in
             let same = same_gossip_in place was.0 now was.1 is in

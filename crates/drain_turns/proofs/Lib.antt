@@ -6,6 +6,7 @@ pub mod PassesGoingOn
 pub mod PassesHeldLemmas
 pub mod PassesLemmas
 pub mod PassesTurnLemmas
+pub mod ServesLemmas
 pub mod ShownLemmas
 pub mod StretchLemmas
 pub mod TurningBoxesLemmas

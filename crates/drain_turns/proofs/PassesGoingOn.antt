@@ -12,9 +12,10 @@ use Rattle.store_msg.specs.declared.request.Request.{Request}
 use Rattle.worker_core.specs.Share.{asked_by}
 use Rattle.worker_core.specs.State.{Entries, PlainWorker, place_at}
 use Rattle.drain_turns.specs.Ready.{AreMates, AreReady, FindPlaces, HaveGoneOn, IsMate, StandsOrIsShown}
-use Rattle.drain_turns.specs.Turning.{HasGoneOn, settled_sent}
+use Rattle.drain_turns.specs.Turning.{AreKnown, HasGoneOn, known_sent}
 use Rattle.drain_steps.proofs.ItemsLemmas.{there_too}
 use Rattle.drain_turns.proofs.PairListsLemmas.{still_at}
+use Rattle.drain_turns.proofs.TurningBoxesLemmas.{known_stays}
 use Rattle.drain_turns.proofs.TurningLemmas.{gone_on_still, gone_on_through}
 
 -- how a box stands to its senders may stay
@@ -142,7 +143,12 @@ module _ {Q T O G QK TK OK GK : Type 0} {request_key : Q → QK} {reply_key : T 
     are_mates = mates_stay before now goes_on.long (λ place was is there also.
         let goes = goes_on.gone_on place was is there also in
         record { me = goes.fixed.me; keys = goes.keys.gossip_out_keys; numbers = goes.keys.gossip_out_numbers; box_key = goes.keys.gossip_in_key }) ready.are_mates;
-    settled = λ place is there. let was = who_was place is there in (goes_on.gone_on place was.0 is was.1 there).settled (ready.settled place was.0 was.1);
+    known = λ place is there.
+        let was = who_was place is there in
+        let goes = goes_on.gone_on place was.0 is was.1 there in
+        subst (λ key. AreKnown complete (senders key) (received is.ends.requests) (about is.ends.requests)) (sym goes.keys.requests_key)
+        (known_stays complete (senders (request_key was.0.ends.requests)) (received was.0.ends.requests) (received is.ends.requests) (about was.0.ends.requests) (about is.ends.requests)
+        goes.stand goes.fronts (ready.known place was.0 was.1));
     met = λ place is there sender one_of.
         let was = who_was place is there in
         let same_key = (goes_on.gone_on place was.0 is was.1 there).keys.gossip_in_key in
@@ -165,7 +171,7 @@ module _ {Q T O G QK TK OK GK : Type 0} {request_key : Q → QK} {reply_key : T 
         let goes = goes_on.gone_on place was.0 is was.1 there in
         let enough = finds.replied place was.0 was.1 session (subst (λ n. IsOneOf n session) (as_many_items reply_key was.0.ends.replies.items is.ends.replies.items goes.keys.replies_keys) one_of) in
         let more = goes.replied_more (session - 1) in
-        let same = ap (λ those. length (flat_map (asked_by []) (settled_sent those))) (goes.stand session).0 in
+        let same = ap (λ those. length (flat_map (asked_by []) (known_sent those))) (goes.stand session).0 in
         omega (arith, enough, more, same);
     senders_are = λ place is there session one_of.
         let was = who_was place is there in

@@ -7,13 +7,14 @@ use Rattle.std.proofs.lemmas.Option.{same_Some, slice_get-map}
 use Rattle.mail_contract.specs.Got.{AreIn, IsOfSent}
 use Rattle.mail_contract.specs.Parts.{Parts}
 use Rattle.mail_contract.specs.Standing.{About, IsSettled, OfSent, Shown}
+use Rattle.mail_contract.specs.Takes.{IsFrontOfSent}
 use Rattle.store_msg.specs.Reply.{PlainReply}
 use Rattle.store_msg.specs.declared.request.Request.{Request}
 use Rattle.worker_core.specs.Room.{LearnsRoom, LearnsRoomAt}
 use Rattle.worker_core.specs.State.{Entries, PlainWorker, place_at}
 use Rattle.drain_turns.specs.Ready.{AreShown, HaveGoneOn, Knows, Sees, StandsOrIsShown, Steady, steady_of, told_at}
 use Rattle.drain_steps.specs.Hearing.{AreGotInRange}
-use Rattle.drain_turns.specs.Turning.{AreInRange, AreSettled, HasGoneOn}
+use Rattle.drain_turns.specs.Turning.{AreInRange, HasGoneOn}
 use Rattle.drain_steps.proofs.ItemsLemmas.{there_is}
 use Rattle.drain_turns.proofs.PairListsLemmas.{still_at}
 use Rattle.drain_turns.proofs.PairPlacesLemmas.{same_place}
@@ -76,9 +77,9 @@ module _ {Q T O G OK GK : Type 0} {clear : O → Type 0} {unseen : O → ℕ} {t
             subst (λ box. AreInRange (senders (request_key was.ends.requests)) (received was.ends.requests) → AreInRange (senders (request_key box)) (received box)) (sym requests)
             (λ range. range);
         stand = λ sender. (ap (λ box. (about box sender).standing) requests, ap (λ box. (about box sender).met) requests);
-        settled =
-            subst (λ box. AreSettled complete (senders (request_key was.ends.requests)) (received was.ends.requests) (about was.ends.requests)
-            → AreSettled complete (senders (request_key box)) (received box) (about box)) (sym requests) (λ settled. settled);
+        fronts = λ sender.
+            subst (λ box. IsFrontOfSent complete (received was.ends.requests) (about was.ends.requests) sender → IsFrontOfSent complete (received box) (about box) sender) (sym requests)
+            (λ front. front);
         got_more = λ sender at batch is. ap (λ those. those sender at) gots ∙ is;
         got_in_range =
             subst (λ (both : GK × (ℕ → ℕ → Option Entries)). AreGotInRange (mates (in_key was.ends.gossip_in)) (got was.ends.gossip_in) → AreGotInRange (mates both.0) both.1)

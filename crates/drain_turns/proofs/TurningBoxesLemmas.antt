@@ -1,17 +1,19 @@
 -- What one take, or none, keeps of a box, and how many messages are left then.
-use Rattle.std.specs.Prelude.{◌≡◌, ◌≢◌, ℕ, ◌+◌, ◌-◌, ◌≤◌, Bool, true, List, [], ◌∷◌, ◌++◌, length, Option, Some, None, Result, Ok, Err}
+use Rattle.std.specs.Prelude.{◌≡◌, ◌≢◌, ℕ, ◌+◌, ◌-◌, ◌≤◌, Bool, true, false, List, [], ◌∷◌, ◌++◌, length, Option, Some, None, Result, Ok, Err}
 use Rattle.std.proofs.Common.{refl, sym, ap, subst, ◌∙◌, inl, inr, arith}
-use Rattle.std.proofs.lemmas.List.{append-nil, length-append, length-take, same_from_push}
+use Rattle.std.proofs.lemmas.Bool.{false≢true}
+use Rattle.std.proofs.lemmas.List.{append-nil, length-append, same_from_push}
 use Rattle.std.proofs.lemmas.List.Elements.{All-push}
 use Rattle.lattice_laws.specs.declared.lattice.NoMemory.{NoMemory}
 use Rattle.mail_contract.specs.Boxes.{Box, MayTake, Takes}
 use Rattle.mail_contract.specs.Parts.{Parts}
-use Rattle.mail_contract.specs.Standing.{About, AllStand, Apart, IsSettled, OfSent, Settled, Shown, Standing}
-use Rattle.mail_contract.specs.Takes.{IsFront, from_sender}
+use Rattle.mail_contract.specs.Standing.{About, AllStand, Apart, OfSent, Settled, Shown, Standing}
+use Rattle.mail_contract.specs.Takes.{IsFront, IsFrontOfSent, from_sender}
 use Rattle.mail_contract.proofs.WeakLemmas.{none_less, one_less}
 use Rattle.mail_contract.proofs.WovenLemmas.{from_sender_more, from_sender_same}
 use Rattle.placement.specs.Config.{IsOneOf}
-use Rattle.drain_turns.specs.Turning.{AreInRange, AreSettled, not_taken, settled_sent}
+use Rattle.run_ledger.proofs.MessagesLemmas.{front_few}
+use Rattle.drain_turns.specs.Turning.{AreInRange, AreKnown, FrontsStay, IsKnown, known_sent, not_taken}
 
 -- what stays of a box
 pub record Keeps {M : Type 0} (complete : Bool) (senders : ℕ) (before now : Box M) : Type 0 where
@@ -19,9 +21,15 @@ pub record Keeps {M : Type 0} (complete : Bool) (senders : ℕ) (before now : Bo
   pub received_is : now.received ≡ before.received ++ more
   pub in_range : AreInRange senders before.received → AreInRange senders now.received
   pub stand : AllStand before.about now.about
-  pub settled : AreSettled complete senders before.received before.about → AreSettled complete senders now.received now.about
+  pub fronts : FrontsStay complete before.received before.about now.received now.about
 
 module _ {M : Type 0} where
+  -- senders that are known stay known
+  pub known_stays : (complete : Bool) (senders : ℕ) (received received_now : List (ℕ × M)) (about about_now : ℕ → About M) → AllStand about about_now
+      → FrontsStay complete received about received_now about_now → AreKnown complete senders received about → AreKnown complete senders received_now about_now
+  known_stays complete senders received received_now about about_now stand fronts known sender one_of =
+      (subst (λ standing. IsKnown complete standing) (sym (stand sender).0) (known sender one_of).0, fronts sender (known sender one_of).1)
+
   -- a box that is asked once, or not at all
   pub take_keeps : (keeps : Parts) (senders : ℕ) (before now : Box M) → MayTake keeps senders before now → Keeps keeps.complete senders before now
   take_keeps keeps senders before now (inl same) = record {
@@ -29,14 +37,10 @@ module _ {M : Type 0} where
     received_is = ap (λ (box : Box M). box.received) same ∙ sym (append-nil before.received);
     in_range = λ are. subst (λ (box : Box M). AreInRange senders box.received) (sym same) are;
     stand = λ sender. (ap (λ (box : Box M). (box.about sender).standing) same, ap (λ (box : Box M). (box.about sender).met) same);
-    settled = λ are. subst (λ (box : Box M). AreSettled keeps.complete senders box.received box.about) (sym same) are;
+    fronts = λ sender. subst (λ (box : Box M). IsFrontOfSent keeps.complete box.received box.about sender) (sym same);
   }
   take_keeps keeps senders before now (inr (answer, takes)) = by_answer answer takes
     where
-      settled_on : {answer : Result (Option (ℕ × M)) NoMemory} → Takes keeps senders answer before now
-          → AreSettled keeps.complete senders before.received before.about → AreSettled keeps.complete senders now.received now.about
-      settled_on takes are sender is = (subst (λ standing. IsSettled standing) (sym (takes.standing sender).0) (are sender is).0, takes.told sender (are sender is).1)
-
       as_it_was : {answer : Result (Option (ℕ × M)) NoMemory} → Takes keeps senders answer before now → now.received ≡ before.received
           → Keeps keeps.complete senders before now
       as_it_was takes same = record {
@@ -44,7 +48,7 @@ module _ {M : Type 0} where
         received_is = same ∙ sym (append-nil before.received);
         in_range = λ are. subst (AreInRange senders) (sym same) are;
         stand = takes.standing;
-        settled = settled_on takes;
+        fronts = takes.told;
       }
 
       by_answer : (answer : Result (Option (ℕ × M)) NoMemory) → Takes keeps senders answer before now → Keeps keeps.complete senders before now
@@ -55,7 +59,7 @@ module _ {M : Type 0} where
             subst (AreInRange senders) (sym takes.received)
             (All-push (λ (message : ℕ × M). IsOneOf senders message.0) before.received message are takes.sender);
         stand = takes.standing;
-        settled = settled_on takes;
+        fronts = takes.told;
       }
       by_answer (Ok None) takes = as_it_was takes takes.received
       by_answer (Err error) takes = as_it_was takes takes.received
@@ -85,29 +89,30 @@ module _ {M : Type 0} where
 
   -- how many messages of a sender are not taken
   abbrev not_taken_of : List (ℕ × M) → (ℕ → About M) → ℕ → ℕ
-  not_taken_of received about sender = length (settled_sent (about sender).standing) - length (from_sender sender received)
+  not_taken_of received about sender = length (known_sent (about sender).standing) - length (from_sender sender received)
 
   -- where none more was received as many are left
   pub none_taken : (senders : ℕ) (received received_now : List (ℕ × M)) (about about_now : ℕ → About M) → received_now ≡ received → AllStand about about_now
       → not_taken senders received_now about_now ≡ not_taken senders received about
   none_taken senders received received_now about about_now same stand =
       none_less senders (as_left (not_taken_of received about)) (as_left (not_taken_of received_now about_now))
-      (λ sender j. length (settled_sent ((stand sender).0 j)) - length (from_sender sender (same j)))
+      (λ sender j. length (known_sent ((stand sender).0 j)) - length (from_sender sender (same j)))
 
-  -- what is known of all that a settled sender sent
-  of_settled : (complete : Bool) (standing : Standing M) (holds : List M → Type 0) → IsSettled standing → OfSent complete standing holds → holds (settled_sent standing)
-  of_settled complete Apart holds settled is = absurd settled
-  of_settled complete (Shown sent) holds settled is = absurd settled
-  of_settled complete (Settled sent) holds settled is = is
+  -- what is told of all that a sender sent is told of what is known
+  pub of_known : (complete : Bool) (standing : Standing M) (holds : List M → Type 0) → IsKnown complete standing → OfSent complete standing holds → holds (known_sent standing)
+  of_known complete Apart holds known is = absurd known
+  of_known true (Shown sent) holds known is = is
+  of_known false (Shown sent) holds known is = absurd (false≢true known)
+  of_known complete (Settled sent) holds known is = is
 
-  -- where one more was received of a settled sender one fewer is left
+  -- where one more was received of a sender that is known one fewer is left
   pub one_taken : (complete : Bool) (senders : ℕ) (message : ℕ × M) (received received_now : List (ℕ × M)) (about about_now : ℕ → About M) → IsOneOf senders message.0
-      → received_now ≡ received ++ message ∷ [] → AllStand about about_now → AreSettled complete senders received_now about_now
+      → received_now ≡ received ++ message ∷ [] → AllStand about about_now → AreKnown complete senders received_now about_now
       → not_taken senders received_now about_now + 1 ≡ not_taken senders received about
-  one_taken complete senders message received received_now about about_now one_of more stand settled =
+  one_taken complete senders message received received_now about about_now one_of more stand known =
       one_less senders message.0 (as_left (not_taken_of received about)) (as_left (not_taken_of received_now about_now)) one_of.0 one_of.1 (λ sender low high. refl)
       (λ met. omega (arith, sent_is, ap length here, length-append (from_sender message.0 received) (message.1 ∷ []), short))
-      (λ other apart j. length (settled_sent ((stand other).0 j)) - length (there other apart j))
+      (λ other apart j. length (known_sent ((stand other).0 j)) - length (there other apart j))
     where
       here : from_sender message.0 received_now ≡ from_sender message.0 received ++ message.1 ∷ []
       here = ap (from_sender message.0) more ∙ from_sender_more message.0 received message refl
@@ -115,14 +120,11 @@ module _ {M : Type 0} where
       there : (other : ℕ) → other ≢ message.0 → from_sender other received_now ≡ from_sender other received
       there other apart = ap (from_sender other) more ∙ from_sender_same other received message (λ same. apart (sym same))
 
-      sent_is : length (settled_sent (about_now message.0).standing) ≡ length (settled_sent (about message.0).standing)
-      sent_is = ap (λ standing. length (settled_sent standing)) (stand message.0).0
+      sent_is : length (known_sent (about_now message.0).standing) ≡ length (known_sent (about message.0).standing)
+      sent_is = ap (λ standing. length (known_sent standing)) (stand message.0).0
 
-      front_short : (front whole : List M) → IsFront front whole → length front ≤ length whole
-      front_short front whole is = omega (arith, ap length is, length-take (length front) whole)
-
-      short : length (from_sender message.0 received_now) ≤ length (settled_sent (about_now message.0).standing)
+      short : length (from_sender message.0 received_now) ≤ length (known_sent (about_now message.0).standing)
       short =
-          front_short (from_sender message.0 received_now) (settled_sent (about_now message.0).standing)
-          (of_settled complete (about_now message.0).standing (λ sent. IsFront (from_sender message.0 received_now) sent)
-          (settled message.0 one_of).0 (settled message.0 one_of).1)
+          front_few (from_sender message.0 received_now) (known_sent (about_now message.0).standing)
+          (of_known complete (about_now message.0).standing (λ sent. IsFront (from_sender message.0 received_now) sent)
+          (known message.0 one_of).0 (known message.0 one_of).1)

@@ -1,14 +1,21 @@
 -- A worker that goes on: one thing that nothing changes, and one step after another.
-use Rattle.std.specs.Prelude.{ℕ, Bool, List, [], ◌++◌, Option}
-use Rattle.std.proofs.Common.{refl, sym, ap, ◌∙◌, append_assoc, arith}
+use Rattle.std.specs.Prelude.{ℕ, Bool, List, [], ◌++◌, map, Option}
+use Rattle.std.proofs.Common.{refl, sym, ap, subst, ◌∙◌, append_assoc, arith}
 use Rattle.std.proofs.lemmas.List.{append-nil}
-use Rattle.mail_contract.specs.Standing.{About}
+use Rattle.mail_contract.specs.Boxes.{MayHandOut, MayTake, box_of, weak_box_of}
+use Rattle.mail_contract.specs.Parts.{Parts}
+use Rattle.mail_contract.specs.Standing.{About, AllStand}
+use Rattle.mail_contract.specs.Takes.{Answers}
 use Rattle.mail_contract.proofs.StandsLemmas.{stands_through}
 use Rattle.store_msg.specs.Reply.{PlainReply}
 use Rattle.store_msg.specs.declared.request.Request.{Request}
+use Rattle.worker_core.specs.Serving.{NoneTakenBack}
 use Rattle.worker_core.specs.State.{Entries, IsFixed, KeysStay, PlainWorker, State}
+use Rattle.drain_steps.specs.Hearing.{AreGotInRange}
+use Rattle.drain_steps.proofs.HandedOutLemmas.{hand_out_keeps}
 use Rattle.drain_turns.specs.Stretch.{GoesOn}
-use Rattle.drain_turns.specs.Turning.{HasGoneOn}
+use Rattle.drain_turns.specs.Turning.{AreInRange, HasGoneOn}
+use Rattle.drain_turns.proofs.TurningBoxesLemmas.{take_keeps}
 
 fixed_through : {before between now : State} → IsFixed before between → IsFixed between now → IsFixed before now
 fixed_through first then = record {
@@ -46,7 +53,7 @@ module _ {Q T O G QK TK OK GK : Type 0} {request_key : Q → QK} {reply_key : T 
       received_is = sym (append-nil (received worker.ends.requests));
       in_range = λ are. are;
       stand = λ sender. (refl, refl);
-      settled = λ are. are;
+      fronts = λ sender is. is;
       got_more = λ sender place batch is. is;
       got_in_range = λ are. are;
       of_sent = λ sender is. is;
@@ -65,7 +72,7 @@ module _ {Q T O G QK TK OK GK : Type 0} {request_key : Q → QK} {reply_key : T 
       received_is = then.received_is ∙ ap (λ those. those ++ then.more) first.received_is ∙ append_assoc (received before.ends.requests) first.more then.more;
       in_range = λ are. then.in_range (first.in_range are);
       stand = stands_through (about before.ends.requests) (about between.ends.requests) (about now.ends.requests) first.stand then.stand;
-      settled = λ are. then.settled (first.settled are);
+      fronts = λ sender is. then.fronts sender (first.fronts sender is);
       got_more = λ sender place batch is. then.got_more sender place batch (first.got_more sender place batch is);
       got_in_range = λ are. then.got_in_range (first.got_in_range are);
       of_sent = λ sender is. then.of_sent sender (first.of_sent sender is);
@@ -94,3 +101,35 @@ module _ {Q T O G QK TK OK GK : Type 0} {request_key : Q → QK} {reply_key : T 
       to_serve = omega (arith, first.to_serve, then.to_serve);
       changed = λ none. omega (arith, first.changed none, then.changed (omega (arith, none, first.left)));
     }
+
+  -- What one turn tells is enough; and how its box of gossip stands to the mates stays too.
+  pub gone_on_once : {senders : QK → ℕ} {received : Q → List (ℕ × Request)} {about : Q → ℕ → About Request} {replied : T → List PlainReply}
+      {mates : GK → ℕ} {got : G → ℕ → ℕ → Option Entries} {about_mates : G → ℕ → About Entries}
+      {keeps mates_keep : Parts} (answers : Q → Answers) (gossip_answers : G → Answers) (due : G → ℕ → Bool) (most : G → ℕ) (was is : PlainWorker Q T O G)
+      → IsFixed was.state is.state → KeysStay request_key reply_key reply_number gossip_key gossip_number in_key was is
+      → NoneTakenBack (map replied was.ends.replies.items) (map replied is.ends.replies.items)
+      → MayTake keeps (senders (request_key was.ends.requests)) (box_of received answers about was.ends.requests) (box_of received answers about is.ends.requests)
+      → MayHandOut mates_keep (mates (in_key was.ends.gossip_in)) (weak_box_of got gossip_answers about_mates due most was.ends.gossip_in)
+      (weak_box_of got gossip_answers about_mates due most is.ends.gossip_in)
+      → HasGoneOn request_key reply_key reply_number gossip_key gossip_number in_key keeps.complete senders received about replied mates_keep.complete mates got about_mates was is
+      × AllStand (about_mates was.ends.gossip_in) (about_mates is.ends.gossip_in)
+  gone_on_once {senders} {received} {about} {replied} {mates} {got} {about_mates} {keeps} {mates_keep} answers gossip_answers due most was is fixed keys replied_more takes hands_out =
+      let took = take_keeps keeps (senders (request_key was.ends.requests)) (box_of received answers about was.ends.requests) (box_of received answers about is.ends.requests) takes in
+      let handed = hand_out_keeps mates_keep (mates (in_key was.ends.gossip_in)) (weak_box_of got gossip_answers about_mates due most was.ends.gossip_in)
+      (weak_box_of got gossip_answers about_mates due most is.ends.gossip_in) hands_out
+      in (
+        record {
+          fixed = fixed;
+          keys = keys;
+          replied_more = replied_more;
+          more = took.more;
+          received_is = took.received_is;
+          in_range = λ are. subst (λ key. AreInRange (senders key) (received is.ends.requests)) (sym keys.requests_key) (took.in_range are);
+          stand = took.stand;
+          fronts = took.fronts;
+          got_more = handed.got_more;
+          got_in_range = λ are. subst (λ key. AreGotInRange (mates key) (got is.ends.gossip_in)) (sym keys.gossip_in_key) (handed.got_in_range are);
+          of_sent = handed.of_sent;
+        },
+        handed.stand,
+      )

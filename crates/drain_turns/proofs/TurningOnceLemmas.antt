@@ -15,8 +15,8 @@ use Rattle.worker_core.specs.declared.did.Did.{Did}
 use Rattle.worker_core.specs.declared.did.Did.TheVariants as did
 use Rattle.worker_core.proofs.ToldLemmas.{some_dirty}
 use Rattle.drain_turns.specs.Stretch.{KeepsRoom, OnBatch, OnBlocked, OnRequest, RoomAfter, held_replies, left_to_serve}
-use Rattle.drain_turns.specs.Turning.{AreSettled, SomeBack, not_taken, requests_left}
-use Rattle.drain_turns.proofs.TurningBoxesLemmas.{Keeps, none_taken, one_taken, sender_of_more, take_keeps}
+use Rattle.drain_turns.specs.Turning.{AreKnown, SomeBack, not_taken, requests_left}
+use Rattle.drain_turns.proofs.TurningBoxesLemmas.{Keeps, known_stays, none_taken, one_taken, sender_of_more, take_keeps}
 use Rattle.drain_turns.proofs.TurningKeysLemmas.{gossip_tells, gossip_tells_some}
 
 -- one reply is held at most
@@ -64,7 +64,7 @@ module _ {Q T O G : Type 0} (keeps : Parts) (senders : Q → ℕ) (received : Q 
   pub record Boxes : Type 0 where
     pub same_senders : senders now.ends.requests ≡ senders before.ends.requests
     pub takes : MayTake keeps (senders before.ends.requests) (box_of received answers about before.ends.requests) (box_of received answers about now.ends.requests)
-    pub settled : AreSettled keeps.complete (senders before.ends.requests) (received before.ends.requests) (about before.ends.requests)
+    pub known : AreKnown keeps.complete (senders before.ends.requests) (received before.ends.requests) (about before.ends.requests)
 
   abbrev box : PlainWorker Q T O G → Box Request
   box worker = box_of received answers about worker.ends.requests
@@ -86,7 +86,9 @@ module _ {Q T O G : Type 0} (keeps : Parts) (senders : Q → ℕ) (received : Q 
     one_fewer message more =
         ap (λ (senders : ℕ). not_taken senders (received now.ends.requests) (about now.ends.requests) + 1) boxes.same_senders
         ∙ one_taken keeps.complete (senders before.ends.requests) message (received before.ends.requests) (received now.ends.requests) (about before.ends.requests)
-        (about now.ends.requests) (sender_of_more message boxes.takes more) more of_box.stand (of_box.settled boxes.settled)
+        (about now.ends.requests) (sender_of_more message boxes.takes more) more of_box.stand
+        (known_stays keeps.complete (senders before.ends.requests) (received before.ends.requests) (received now.ends.requests) (about before.ends.requests) (about now.ends.requests)
+        of_box.stand of_box.fronts boxes.known)
 
     -- a request that is worked on is one fewer that is left
     serves_one : (session : ℕ) (request : Request) → IsTaken session request at_first at_last → now.state.kept ≡ None → left now + 1 ≡ left before

@@ -9,7 +9,7 @@ use Rattle.store_msg.specs.declared.request.Request.{Request}
 use Rattle.worker_core.specs.Room.{LearnsRoomAt}
 use Rattle.worker_core.specs.Share.{asked_by}
 use Rattle.worker_core.specs.State.{Entries, PlainWorker, State, dirty, kept_request, place_at}
-use Rattle.drain_turns.specs.Turning.{AreSettled, HasGoneOn, not_taken, settled_sent}
+use Rattle.drain_turns.specs.Turning.{AreKnown, HasGoneOn, known_sent, not_taken}
 
 -- a mate of a worker: another one of so many
 abbrev pub IsMate : ℕ → ℕ → ℕ → Type 0
@@ -25,14 +25,14 @@ pub record AreMates {Q T O G OK GK : Type 0} (out_key : O → OK) (number : O �
   pub paired : (place other : ℕ) (worker mate : PlainWorker Q T O G) (sender : O) → slice_get workers place ≡ Some worker → slice_get workers other ≡ Some mate → other ≢ place
       → slice_get worker.ends.gossip_out.items (place_at (place + 1) (other + 1)) ≡ Some sender → pairs (in_key mate.ends.gossip_in) (out_key sender) (number sender)
 
--- Workers that can be held beside each other and whose sessions are settled; and of each sender of a box that is none of a mate it is known how many
+-- Workers that can be held beside each other and of whose sessions it is known what they sent; and of each sender of a box that is none of a mate it is known how many
 -- messages are left.
 pub record AreReady {Q T O G OK GK : Type 0} (complete : Bool) (senders : Q → ℕ) (received : Q → List (ℕ × Request)) (about : Q → ℕ → About Request)
     (out_key : O → OK) (number : O → ℕ) (in_key : G → GK) (pairs : GK → OK → ℕ → Type 0) (in_senders : GK → ℕ) (in_about : G → ℕ → About Entries)
     (workers : List (PlainWorker Q T O G)) : Type 0 where
   pub are_mates : AreMates out_key number in_key pairs workers
-  pub settled : (place : ℕ) (worker : PlainWorker Q T O G) → slice_get workers place ≡ Some worker
-      → AreSettled complete (senders worker.ends.requests) (received worker.ends.requests) (about worker.ends.requests)
+  pub known : (place : ℕ) (worker : PlainWorker Q T O G) → slice_get workers place ≡ Some worker
+      → AreKnown complete (senders worker.ends.requests) (received worker.ends.requests) (about worker.ends.requests)
   pub met : (place : ℕ) (worker : PlainWorker Q T O G) → slice_get workers place ≡ Some worker → (sender : ℕ) → IsOneOf (in_senders (in_key worker.ends.gossip_in)) sender
       → IsMate (length workers) (place + 1) sender ⊎ IsTrue (in_about worker.ends.gossip_in sender).met
 
@@ -40,7 +40,7 @@ pub record AreReady {Q T O G OK GK : Type 0} (complete : Bool) (senders : Q → 
 abbrev pub AreReplied : {Q T O G : Type 0} → (Q → ℕ → About Request) → (T → List PlainReply) → PlainWorker Q T O G → Type 0
 AreReplied about sent worker =
     (session : ℕ) → IsOneOf (length worker.ends.replies.items) session
-    → length (flat_map (asked_by []) (settled_sent (about worker.ends.requests session).standing)) ≤ length (slice_index_or (map sent worker.ends.replies.items) (session - 1) [])
+    → length (flat_map (asked_by []) (known_sent (about worker.ends.requests session).standing)) ≤ length (slice_index_or (map sent worker.ends.replies.items) (session - 1) [])
 
 -- no sender ever wants for a place
 abbrev pub NeverFull : (T O : Type 0) → (T → ℕ) → (O → ℕ) → Type 0

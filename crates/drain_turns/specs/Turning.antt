@@ -1,10 +1,10 @@
 -- What it changes of a worker to be turned until nothing is left to do.
-use Rattle.std.specs.Prelude.{◌≡◌, ℕ, ◌+◌, ◌-◌, ◌≤◌, Bool, false, List, [], ◌∷◌, ◌++◌, All, length, map, sum_by, Option, Some, None}
+use Rattle.std.specs.Prelude.{◌≡◌, ℕ, ◌+◌, ◌-◌, ◌≤◌, Bool, false, IsTrue, List, [], ◌∷◌, ◌++◌, All, length, map, slice_get, sum_by, Option, Some, None, IfSome, ⊤}
 use Rattle.std.specs.List.{range_with_len}
 use Rattle.mail_contract.specs.Boxes.{Box, FindsNothing}
 use Rattle.mail_contract.specs.Got.{IsOfSent}
 use Rattle.mail_contract.specs.Parts.{Parts}
-use Rattle.mail_contract.specs.Standing.{About, AllStand, Apart, IsSettled, Settled, Shown, Standing}
+use Rattle.mail_contract.specs.Standing.{About, AllStand, Apart, Settled, Shown, Standing}
 use Rattle.mail_contract.specs.Takes.{IsFrontOfSent, from_sender}
 use Rattle.placement.specs.Config.{IsOneOf}
 use Rattle.store_msg.specs.Reply.{PlainReply}
@@ -14,20 +14,31 @@ use Rattle.worker_core.specs.Serving.{NoneTakenBack}
 use Rattle.worker_core.specs.State.{Entries, IsFixed, KeysStay, PlainWorker, dirty, kept_request}
 use Rattle.drain_steps.specs.Hearing.{AreGotInRange}
 
--- all that a settled sender sent
-abbrev pub settled_sent : {M : Type 0} → Standing M → List M
-settled_sent Apart = []
-settled_sent (Shown sent) = []
-settled_sent (Settled sent) = sent
+-- what a box knows that a sender sent: all that a settled one sent, and what a shown one had sent
+abbrev pub known_sent : {M : Type 0} → Standing M → List M
+known_sent Apart = []
+known_sent (Shown sent) = sent
+known_sent (Settled sent) = sent
 
--- how many messages of so many settled senders a box has not handed out
+-- it tells that this was sent: a complete box of those that it shows too
+abbrev pub IsKnown : {M : Type 0} → Bool → Standing M → Type 0
+IsKnown complete Apart = ⊥
+IsKnown complete (Shown sent) = IsTrue complete
+IsKnown complete (Settled sent) = ⊤
+
+-- how many messages that are known to be sent by so many senders a box has not handed out
 abbrev pub not_taken : {M : Type 0} → ℕ → List (ℕ × M) → (ℕ → About M) → ℕ
-not_taken senders received about = sum_by (λ sender. length (settled_sent (about sender).standing) - length (from_sender sender received)) (range_with_len 1 senders)
+not_taken senders received about = sum_by (λ sender. length (known_sent (about sender).standing) - length (from_sender sender received)) (range_with_len 1 senders)
 
--- each of so many senders is settled, and what was received of it is a front of what it sent
-abbrev pub AreSettled : {M : Type 0} → Bool → ℕ → List (ℕ × M) → (ℕ → About M) → Type 0
-AreSettled complete senders received about =
-    (sender : ℕ) → IsOneOf senders sender → IsSettled (about sender).standing × IsFrontOfSent complete received about sender
+-- of each of so many senders it is known what it sent, and what was received of it is a front of that
+abbrev pub AreKnown : {M : Type 0} → Bool → ℕ → List (ℕ × M) → (ℕ → About M) → Type 0
+AreKnown complete senders received about =
+    (sender : ℕ) → IsOneOf senders sender → IsKnown complete (about sender).standing × IsFrontOfSent complete received about sender
+
+-- Of each sender by itself: what was received of it stays a front of what it sent, so far as the box tells that.
+abbrev pub FrontsStay : {M : Type 0} → Bool → List (ℕ × M) → (ℕ → About M) → List (ℕ × M) → (ℕ → About M) → Type 0
+FrontsStay complete received about received_now about_now =
+    (sender : ℕ) → IsFrontOfSent complete received about sender → IsFrontOfSent complete received_now about_now sender
 
 -- what was received is of so many senders
 abbrev pub AreInRange : {M : Type 0} → ℕ → List (ℕ × M) → Type 0
@@ -45,8 +56,7 @@ pub record HasGoneOn {Q T O G QK TK OK GK : Type 0} (request_key : Q → QK) (re
   pub received_is : received now.ends.requests ≡ received before.ends.requests ++ more
   pub in_range : AreInRange (senders (request_key before.ends.requests)) (received before.ends.requests) → AreInRange (senders (request_key now.ends.requests)) (received now.ends.requests)
   pub stand : AllStand (about before.ends.requests) (about now.ends.requests)
-  pub settled : AreSettled complete (senders (request_key before.ends.requests)) (received before.ends.requests) (about before.ends.requests)
-      → AreSettled complete (senders (request_key now.ends.requests)) (received now.ends.requests) (about now.ends.requests)
+  pub fronts : FrontsStay complete (received before.ends.requests) (about before.ends.requests) (received now.ends.requests) (about now.ends.requests)
   pub got_more : (sender place : ℕ) (batch : Entries) → got before.ends.gossip_in sender place ≡ Some batch → got now.ends.gossip_in sender place ≡ Some batch
   pub got_in_range : AreGotInRange (mates (in_key before.ends.gossip_in)) (got before.ends.gossip_in) → AreGotInRange (mates (in_key now.ends.gossip_in)) (got now.ends.gossip_in)
   pub of_sent : (sender : ℕ) → IsOfSent all_told (got before.ends.gossip_in) (about_mates before.ends.gossip_in) sender
@@ -60,6 +70,12 @@ requests_left senders received about worker =
 -- to some mate the first batch came back
 abbrev pub SomeBack : {O : Type 0} → (O → Type 0) → Bool → (O → ℕ) → List O → Type 0
 SomeBack clear roomy unseen senders = (place : ℕ) × (tries : List Bool) × (place_is : place + 1 ≤ length senders) × RoomAt clear roomy unseen senders place (false ∷ tries)
+
+-- Where a reply is held, the sender to its session found no place for the next one at first, or has sent one since.
+abbrev pub HasSentSince : {T M R : Type 0} → (T → Type 0) → (T → List M) → List T → List T → Option (ℕ × R) → Type 0
+HasSentSince {T} clear sent before now held =
+    IfSome held (λ held. (was is : T) → slice_get before (held.0 - 1) ≡ Some was → slice_get now (held.0 - 1) ≡ Some is → clear was
+    → length (sent was) + 1 ≤ length (sent is))
 
 -- Nothing is left to a worker: no request, no reply, and no key to tell.
 pub record IsDone {Q T O G : Type 0} (keeps : Parts) (box : Q → Box Request) (worker : PlainWorker Q T O G) : Type 0 where

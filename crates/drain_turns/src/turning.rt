@@ -1,10 +1,12 @@
 //! A worker is turned until nothing is left to do.
 ghost use Rattle.std.specs.Prelude.{◌≡◌, ◌⊎◌, ◌+◌, ◌≤◌, false, is_some, IfOk, IsFalse, IsTrue, None, OnOk};
 ghost use Rattle.drain_turns.specs.Stretch.{GoesOn, OnBatch, OnBlocked, OnIdle, OnRequest, RoomAfter, left_to_serve};
-ghost use Rattle.drain_turns.specs.Turning.{AreSettled, HasGoneOn, SomeBack, requests_left};
+ghost use Rattle.drain_turns.specs.Turning.{AreKnown, HasGoneOn, HasSentSince, SomeBack, requests_left};
 ghost use Rattle.mail_contract.specs.Boxes.{FindsNothing, FindsNothingWeak, box_of, weak_box_of};
 ghost use Rattle.mail_contract.specs.Standing.{AllStand, AreMet};
-ghost use Rattle.worker_core.specs.State.{dirty, kept_batch};
+ghost use Rattle.run_measure.specs.Steps.{HasServed};
+ghost use Rattle.worker_core.specs.Room.{StayClear, WantsPlace};
+ghost use Rattle.worker_core.specs.State.{dirty, kept_batch, lists_of};
 ghost use Rattle.worker_core.specs.Turns.{OnNothing, may_come};
 
 use drain_steps::{ByMeasure, HearsOut};
@@ -23,7 +25,7 @@ pub trait TurnsOut<
     /// Turns a worker until it answers Idle or Blocked, and tells whether it was Idle.
     fn turn_out(&self, worker: &mut WorkerOver<Q, T, O, G>) -> Result<bool, NoMemory>
         requires finite { IsFalse Self.waits → IsTrue G.keeps.finite }
-        requires settled { AreSettled Q.keeps.complete (Q.senders (Q.key worker.old.ends.requests))
+        requires known { AreKnown Q.keeps.complete (Q.senders (Q.key worker.old.ends.requests))
             (Q.received worker.old.ends.requests) (Q.about worker.old.ends.requests) }
         requires met { AreMet (G.senders (G.key worker.old.ends.gossip_in))
             (G.about worker.old.ends.gossip_in) }
@@ -32,6 +34,9 @@ pub trait TurnsOut<
             G.keeps.complete G.senders G.got G.about worker.old worker.new }
         ensures gossip_stand { AllStand (G.about worker.old.ends.gossip_in)
             (G.about worker.new.ends.gossip_in) }
+        ensures served { worker.old.state.kept ≡ None → OnOk result (HasServed
+            (lists_of Q.received T.sent O.sent G.got worker.old)
+            (lists_of Q.received T.sent O.sent G.got worker.new)) }
 
         // What is left to do becomes no more, and no key becomes changed where no request is left.
         ensures left { requests_left (λ its. Q.senders (Q.key its)) Q.received Q.about worker.new
@@ -47,6 +52,8 @@ pub trait TurnsOut<
             (weak_box_of G.got G.answers G.about G.due G.most worker.new.ends.gossip_in)) }
         ensures idle { IfOk result (λ idle. IsTrue idle
             → (dirty worker.new.state ≡ 0) × (worker.new.state.held ≡ None)) }
+        ensures wants_place { OnOk result (HasSentSince T.clear T.sent
+            worker.old.ends.replies.items worker.new.ends.replies.items worker.new.state.held) }
 
         // Where it was Blocked: a reply is held, or a batch went out, or to some mate the first came back. And so it
         // is only where a sender wanted for a place.
@@ -76,13 +83,18 @@ fn turn_on<T: Tx<Reply>, O: Tx<Batch>, Q: Rx<Request>, G: GossipRx<Batch, From =
     worker: &mut WorkerOver<Q, T, O, G>,
 ) -> Result<Did, NoMemory>
     requires finite { IsTrue G.keeps.finite }
-    requires settled { AreSettled Q.keeps.complete (Q.senders (Q.key worker.old.ends.requests))
+    requires known { AreKnown Q.keeps.complete (Q.senders (Q.key worker.old.ends.requests))
         (Q.received worker.old.ends.requests) (Q.about worker.old.ends.requests) }
     requires met { AreMet (G.senders (G.key worker.old.ends.gossip_in))
         (G.about worker.old.ends.gossip_in) }
     ensures goes_on { GoesOn Q.key T.key T.number O.key O.number G.key
         Q.keeps.complete Q.senders Q.received Q.about T.sent
         G.keeps.complete G.senders G.got G.about worker.old worker.new }
+    ensures served { worker.old.state.kept ≡ None → OnOk result (HasServed
+        (lists_of Q.received T.sent O.sent G.got worker.old)
+        (lists_of Q.received T.sent O.sent G.got worker.new)) }
+    ensures stay_clear { OnOk result (StayClear T.clear T.sent
+        worker.old.ends.replies.items worker.new.ends.replies.items) }
     ensures fewer_requests { OnRequest result
         (left_to_serve (λ its. Q.senders (Q.key its)) Q.received Q.about worker.new + 1
         ≤ left_to_serve (λ its. Q.senders (Q.key its)) Q.received Q.about worker.old) }
@@ -96,6 +108,8 @@ fn turn_on<T: Tx<Reply>, O: Tx<Batch>, Q: Rx<Request>, G: GossipRx<Batch, From =
         (weak_box_of G.got G.answers G.about G.due G.most worker.new.ends.gossip_in)) }
     ensures idle { OnIdle result
         ((dirty worker.new.state ≡ 0) × (worker.new.state.held ≡ None)) }
+    ensures wants_place { OnNothing result (HasSentSince T.clear T.sent
+        worker.old.ends.replies.items worker.new.ends.replies.items worker.new.state.held) }
     ensures never_full { ((sender : T) → T.fulls sender ≡ 0) → ((sender : O) → O.fulls sender ≡ 0)
         → OnBlocked result ⊥ }
 {
@@ -111,13 +125,18 @@ fn turn_on<T: Tx<Reply>, O: Tx<Batch>, Q: Rx<Request>, G: GossipRx<Batch, From =
 pub(crate) fn turn_once<T: Tx<Reply>, O: Tx<Batch>, Q: Rx<Request>, G: GossipRx<Batch, From = O>>(
     worker: &mut WorkerOver<Q, T, O, G>,
 ) -> Result<Did, NoMemory>
-    requires settled { AreSettled Q.keeps.complete (Q.senders (Q.key worker.old.ends.requests))
+    requires known { AreKnown Q.keeps.complete (Q.senders (Q.key worker.old.ends.requests))
         (Q.received worker.old.ends.requests) (Q.about worker.old.ends.requests) }
     requires met { AreMet (G.senders (G.key worker.old.ends.gossip_in))
         (G.about worker.old.ends.gossip_in) }
     ensures goes_on { GoesOn Q.key T.key T.number O.key O.number G.key
         Q.keeps.complete Q.senders Q.received Q.about T.sent
         G.keeps.complete G.senders G.got G.about worker.old worker.new }
+    ensures served { worker.old.state.kept ≡ None → OnOk result (HasServed
+        (lists_of Q.received T.sent O.sent G.got worker.old)
+        (lists_of Q.received T.sent O.sent G.got worker.new)) }
+    ensures stay_clear { OnOk result (StayClear T.clear T.sent
+        worker.old.ends.replies.items worker.new.ends.replies.items) }
     ensures fewer_requests { OnRequest result
         (left_to_serve (λ its. Q.senders (Q.key its)) Q.received Q.about worker.new + 1
         ≤ left_to_serve (λ its. Q.senders (Q.key its)) Q.received Q.about worker.old) }
@@ -135,6 +154,8 @@ pub(crate) fn turn_once<T: Tx<Reply>, O: Tx<Batch>, Q: Rx<Request>, G: GossipRx<
         (weak_box_of G.got G.answers G.about G.due G.most worker.new.ends.gossip_in)) }
     ensures idle { OnIdle result
         ((dirty worker.new.state ≡ 0) × (worker.new.state.held ≡ None)) }
+    ensures wants_place { OnNothing result (WantsPlace T.clear
+        worker.old.ends.replies.items worker.new.state.held) }
     ensures never_full { ((sender : T) → T.fulls sender ≡ 0) → ((sender : O) → O.fulls sender ≡ 0)
         → OnBlocked result ⊥ }
 {

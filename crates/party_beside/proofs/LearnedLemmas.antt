@@ -1,10 +1,11 @@
 -- What a box learns, and what it forgets, takes in no sender more; and a box of a run's parties stays one.
-use Rattle.std.specs.Prelude.{◌≡◌, ◌⊎◌, ℕ, List, All, Option}
-use Rattle.std.proofs.Common.{◌∙◌, ap, inl, inr, subst, sym}
+use Rattle.std.specs.Prelude.{◌≡◌, ◌⊎◌, ℕ, IsTrue, List, All, Option}
+use Rattle.std.proofs.Common.{◌∙◌, ap, inl, inr, refl, subst, sym}
 use Rattle.std.proofs.lemmas.Bool.{cases_Bool, cases_eq}
 use Rattle.mail_contract.specs.Parts.{Parts}
 use Rattle.mail_contract.specs.Standing.{About, AllPart, Apart, IsSettled, Learned, Settled, Shown, Standing, parted}
 use Rattle.mail_contract.specs.Takes.{from_sender}
+use Rattle.party_beside.specs.Beside.{IsApart}
 use Rattle.placement.specs.Config.{IsOneOf}
 use Rattle.drain_ledger.specs.Handed.{IsBoxOf, IsUnused, IsWeakBoxOf}
 use Rattle.party_run.proofs.KeptLemmas.{NoneTakenIn}
@@ -22,6 +23,25 @@ module _ {M : Type 0} where
         ]
     | inr apart ↦ not (subst (λ (its : About M). IsSettled its.standing) (learned.others other apart) settled)
   ]
+
+  -- and whom it had met it has met still
+  pub met_learned : (keeps : Parts) (sender : ℕ) (sent : List M) (before now : ℕ → About M) → Learned keeps sender sent before now → (other : ℕ)
+      → IsTrue (before other).met → IsTrue (now other).met
+  met_learned keeps sender sent before now learned other met = elim (cases_eq other sender) [
+    | inl here ↦ subst (λ n. IsTrue (now n).met) (sym here) learned.met
+    | inr apart ↦ subst (λ (its : About M). IsTrue its.met) (sym (learned.others other apart)) met
+  ]
+
+  -- to part twice is to part once,
+  parted_twice : (standing : Standing M) → parted (parted standing) ≡ parted standing
+  parted_twice Apart = refl
+  parted_twice (Shown sent) = refl
+  parted_twice (Settled sent) = refl
+
+  -- so nobody is beside a box all of whose senders were told apart
+  pub none_beside : (before now : ℕ → About M) → AllPart before now → IsApart now
+  none_beside before now part sender =
+      ap parted (part sender).0 ∙ parted_twice (before sender).standing ∙ sym (part sender).0
 
   -- who was not taken in is not once nobody is beside the box
   parted_is : (standing : Standing M) → (IsSettled standing → ⊥) → IsSettled (parted standing) → ⊥

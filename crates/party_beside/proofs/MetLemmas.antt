@@ -1,21 +1,17 @@
--- A worker and a session of a run are held beside each other: their ends are of one making, no more was taken than was sent, and both keep their ends.
-use Rattle.std.specs.Prelude.{◌≡◌, ℕ, ◌+◌, ◌-◌, ◌<◌, ◌≤◌, false, List, [], ◌∷◌, length, map, slice_get, slice_index_or, Option, Some}
-use Rattle.std.proofs.Common.{◌∙◌, add-one, ap, arith, refl, subst, sym}
-use Rattle.std.proofs.lemmas.List.{length-append, length-map}
+-- A worker and a session of a run can be held beside each other: their ends are of one making, and their numbers are those after their places.
+use Rattle.std.specs.Prelude.{◌≡◌, ℕ, ◌+◌, ◌-◌, ◌<◌, ◌≤◌, false, List, length, map, slice_get, slice_index_or, Option, Some}
+use Rattle.std.proofs.Common.{◌∙◌, ap, arith, refl, subst, sym}
+use Rattle.std.proofs.lemmas.List.{length-map}
 use Rattle.std.proofs.lemmas.List.Elements.{All-map}
 use Rattle.std.proofs.lemmas.Option.{slice_get_within}
 use Rattle.mail_contract.specs.Lanes.{IsLaneOf}
 use Rattle.mail_contract.specs.Standing.{About}
-use Rattle.mail_contract.specs.Takes.{IsFront, from_sender}
-use Rattle.run_measure.specs.Measure.{AreCounted}
-use Rattle.session_proxy.specs.State.{PlainProxy, lists_of as session_lists}
+use Rattle.session_proxy.specs.State.{PlainProxy}
 use Rattle.store_msg.specs.Reply.{PlainReply}
 use Rattle.store_msg.specs.declared.request.Request.{Request}
-use Rattle.worker_core.specs.Share.{held_for}
-use Rattle.worker_core.specs.State.{Entries, PlainWorker, lists_of as worker_lists}
+use Rattle.worker_core.specs.State.{Entries, PlainWorker}
 use Rattle.drain_steps.proofs.ItemsLemmas.{at_its_place, mapped, there_is}
 use Rattle.drain_ledger.specs.Handed.{AreOfOneMaking}
-use Rattle.drain_ledger.proofs.AsksLemmas.{front_few}
 use Rattle.drain_ledger.proofs.ListsLemmas.{mapped_or}
 use Rattle.party_run.specs.Running.{HaveEnds}
 
@@ -23,19 +19,19 @@ module _ {S P M K SK : Type 0} {sender_key : S → SK} {number : S → ℕ} {pai
     {rows : List (List S)} {boxes : List P} (making : AreOfOneMaking sender_key number pairs key about false rows boxes)
     (row place : ℕ) (senders : List S) (box : P) (row_is : slice_get rows row ≡ Some senders) (box_is : slice_get boxes place ≡ Some box) where
   -- a row has a sender for each box
-  pub row_long : length senders ≡ length boxes
+  row_long : length senders ≡ length boxes
   row_long = let long = at_its_place (λ senders. length senders + 0 ≡ length boxes) rows row senders making.many row_is in omega (arith, long)
 
   row_within : place < length senders
   row_within = let within = slice_get_within boxes place box box_is in omega (arith, within, row_long)
 
   -- of the row's number
-  pub number_is : slice_index_or (map number senders) place 0 ≡ row + 1
+  number_is : slice_index_or (map number senders) place 0 ≡ row + 1
   number_is =
       All-map (λ n. n ≡ row + 1) number senders (making.numbers row senders row_is) place 0 (let long = length-map senders number in omega (arith, long, row_within))
 
   -- and it is of one making with the box
-  pub lane_is : (n : ℕ) → n ≡ row + 1 → IsLaneOf (λ lane its. pairs its lane n) (map sender_key senders) (key box) (place + 1)
+  lane_is : (n : ℕ) → n ≡ row + 1 → IsLaneOf (λ lane its. pairs its lane n) (map sender_key senders) (key box) (place + 1)
   lane_is n is =
       let sender = there_is senders place row_within in
       let numbered = at_its_place (λ one. number one ≡ row + 1) senders place sender.0 (making.numbers row senders row_is) sender.1 in
@@ -74,17 +70,26 @@ module _ {S T O Q G R SK TK OK QK GK RK : Type 0} {request_key : S → SK} {requ
   pub has_replies : at + 1 ≤ length worker.ends.replies.items
   has_replies = let within = row_within have.replies place at worker.ends.replies.items proxy.ends.replies replies_there box_there in omega (arith, within)
 
+  -- the worker's place by its number, and the number of the session at its box
   me_less : worker.state.me - 1 ≡ place
   me_less = let me = have.numbered place worker there in omega (arith, me)
 
-  -- the numbers of both at each other's boxes
-  pub session_number : slice_index_or (map request_number proxy.ends.requests.items) (worker.state.me - 1) 0 ≡ at + 1
+  session_number : slice_index_or (map request_number proxy.ends.requests.items) (worker.state.me - 1) 0 ≡ at + 1
   session_number =
       ap (λ n. slice_index_or (map request_number proxy.ends.requests.items) n 0) me_less
       ∙ number_is have.requests at place proxy.ends.requests.items worker asks_there there
 
-  pub worker_number : slice_index_or (map reply_number worker.ends.replies.items) at 0 ≡ place + 1
-  worker_number = number_is have.replies place at worker.ends.replies.items proxy.ends.replies replies_there box_there
+  -- what holds by the numbers of both, and by the places that these give, holds by their places
+  pub by_places : (Holds : ℕ → ℕ → ℕ → ℕ → ℕ → Type 0)
+      → Holds worker.state.me (worker.state.me - 1) (slice_index_or (map reply_number worker.ends.replies.items) (at + 1 - 1) 0) (at + 1 - 1)
+      (slice_index_or (map request_number proxy.ends.requests.items) (worker.state.me - 1) 0)
+      → Holds (place + 1) place (place + 1) at (at + 1)
+  by_places Holds =
+      let at_it : at + 1 - 1 ≡ at = omega arith in
+      let number : slice_index_or (map reply_number worker.ends.replies.items) (at + 1 - 1) 0 ≡ place + 1 =
+      ap (λ n. slice_index_or (map reply_number worker.ends.replies.items) n 0) at_it
+      ∙ number_is have.replies place at worker.ends.replies.items proxy.ends.replies replies_there box_there in
+      subst (λ (n : ℕ × ℕ × ℕ × ℕ × ℕ). Holds n.0 n.1 n.2 n.3 n.4) (λ j. (have.numbered place worker there j, me_less j, number j, at_it j, session_number j))
 
   -- the ends of both are of one making
   pub are_paired : (sender : T) → slice_get worker.ends.replies.items at ≡ Some sender
@@ -100,30 +105,3 @@ module _ {S T O Q G R SK TK OK QK GK RK : Type 0} {request_key : S → SK} {requ
         have.replies.paired place at worker.ends.replies.items sender proxy.ends.replies replies_there box_there refl sender_is,
         at_its_place (λ one. reply_number one ≡ place + 1) worker.ends.replies.items at sender (have.replies.numbers place worker.ends.replies.items replies_there) sender_is ∙ sym me,
       )
-
-  -- where each received a front of what the other sent, no more was taken than was sent
-  pub met_counted : (asked : S → List Request) (replied : T → List PlainReply) (told : O → List Entries) (replies_received : R → List (ℕ × PlainReply))
-      → IsFront (from_sender (slice_index_or (map request_number proxy.ends.requests.items) (worker.state.me - 1) 0) (requests_received worker.ends.requests))
-      (slice_index_or (map asked proxy.ends.requests.items) (worker.state.me - 1) [])
-      → IsFront (from_sender worker.state.me (replies_received proxy.ends.replies)) (slice_index_or (map replied worker.ends.replies.items) at [])
-      → AreCounted (at + 1) (session_lists asked replies_received proxy) (place + 1) (worker_lists requests_received replied told got worker)
-  met_counted asked replied told replies_received requests_front replies_front =
-      let me = have.numbered place worker there in
-      let sent : slice_index_or ([] ∷ map replied worker.ends.replies.items) (at + 1) [] ≡ slice_index_or (map replied worker.ends.replies.items) at [] = rw add-one refl in
-      let none_more = front_few (from_sender worker.state.me (replies_received proxy.ends.replies)) (slice_index_or (map replied worker.ends.replies.items) at []) replies_front in
-      record {
-        requests = subst (λ (both : ℕ × ℕ). length (from_sender both.0 (requests_received worker.ends.requests))
-            ≤ length (slice_index_or (map asked proxy.ends.requests.items) both.1 [])) (λ j. (session_number j, (me_less ∙ next) j))
-            (front_few (from_sender (slice_index_or (map request_number proxy.ends.requests.items) (worker.state.me - 1) 0) (requests_received worker.ends.requests))
-            (slice_index_or (map asked proxy.ends.requests.items) (worker.state.me - 1) []) requests_front);
-        replies = omega (
-          arith,
-          none_more,
-          ap (λ n. length (from_sender n (replies_received proxy.ends.replies))) me,
-          ap length sent,
-          length-append (slice_index_or ([] ∷ map replied worker.ends.replies.items) (at + 1) []) (held_for (at + 1) worker.state.held),
-        );
-      }
-    where
-      next : place ≡ place + 1 - 1
-      next = omega arith

@@ -1,15 +1,13 @@
 -- A step of a run that changes nothing of what is told of its parties, and keeps their ends: the run goes on.
-use Rattle.std.specs.Prelude.{◌≡◌, ℕ, List, length, map, slice_get, Option, Some}
-use Rattle.std.proofs.Common.{◌∙◌, ap, refl, sym}
-use Rattle.std.proofs.lemmas.Option.{same_Some}
+use Rattle.std.specs.Prelude.{◌≡◌, ℕ, List, length, slice_get, Option, Some}
+use Rattle.std.proofs.Common.{◌∙◌, refl, sym}
 use Rattle.mail_contract.specs.Standing.{About}
 use Rattle.session_proxy.specs.State.{PlainProxy, lists_of as session_lists}
 use Rattle.store_msg.specs.Reply.{PlainReply}
 use Rattle.store_msg.specs.declared.request.Request.{Request}
 use Rattle.worker_core.specs.State.{Entries, PlainWorker, lists_of as worker_lists}
-use Rattle.drain_steps.proofs.ItemsLemmas.{mapped}
+use Rattle.party_beside.specs.Staying.{AllStay}
 use Rattle.drain_ledger.proofs.ListsLemmas.{same_made}
-use Rattle.party_run.specs.Running.{GoesOn}
 use Rattle.party_run.proofs.GoesOnLemmas.{goes_on_so, goes_on_through}
 use Rattle.party_run.proofs.KeptLemmas.{KeepsSessionEnds, KeepsWorkerEnds, ends_kept, session_keeps, worker_keeps}
 
@@ -44,27 +42,6 @@ pub session_stays : {S R SK RK : Type 0} {request_key : S → SK} {request_numbe
     {replies_key : R → RK} {replies_received : R → List (ℕ × PlainReply)} {replies_about : R → ℕ → About PlainReply} (proxy : PlainProxy S R)
     → SessionStays request_key request_number asked replies_key replies_received replies_about proxy proxy
 session_stays proxy = record { lists = refl; ends = session_keeps proxy }
-
--- where the same is told of all, what is told of the one at a place is what was
-pub told_there : {X V : Type 0} (f : X → V) (xs xs_now : List X) → map f xs_now ≡ map f xs → (place : ℕ) (x : X) (v : V)
-    → slice_get xs place ≡ Some x → slice_get (map f xs_now) place ≡ Some v → f x ≡ v
-told_there f xs xs_now same place x v there is =
-    same_Some (f x) v (sym (mapped f xs place x there) ∙ ap (λ all. slice_get all place) (sym same) ∙ is)
-
--- Of all workers and of all sessions of a run the same is told, and the run goes on.
-pub record AllStay {S T O Q G R SK TK OK QK GK RK : Type 0}
-    (request_key : S → SK) (request_number : S → ℕ) (asked : S → List Request)
-    (reply_key : T → TK) (reply_number : T → ℕ) (replied : T → List PlainReply)
-    (gossip_key : O → OK) (gossip_number : O → ℕ) (told : O → List Entries)
-    (requests_key : Q → QK) (requests_pairs : QK → SK → ℕ → Type 0) (requests_senders : QK → ℕ) (requests_received : Q → List (ℕ × Request)) (requests_about : Q → ℕ → About Request)
-    (in_key : G → GK) (in_pairs : GK → OK → ℕ → Type 0) (in_senders : GK → ℕ) (got : G → ℕ → ℕ → Option Entries) (in_about : G → ℕ → About Entries)
-    (replies_key : R → RK) (replies_pairs : RK → TK → ℕ → Type 0) (replies_senders : RK → ℕ) (replies_received : R → List (ℕ × PlainReply)) (replies_about : R → ℕ → About PlainReply)
-    (workers workers_now : List (PlainWorker Q T O G)) (sessions sessions_now : List (PlainProxy S R)) : Type 0 where
-  pub workers_told : map (worker_lists requests_received replied told got) workers_now ≡ map (worker_lists requests_received replied told got) workers
-  pub sessions_told : map (session_lists asked replies_received) sessions_now ≡ map (session_lists asked replies_received) sessions
-  pub goes_on : GoesOn request_key request_number asked reply_key reply_number gossip_key gossip_number
-      requests_key requests_pairs requests_senders requests_received requests_about in_key in_pairs in_senders got in_about
-      replies_key replies_pairs replies_senders replies_received replies_about workers workers_now sessions sessions_now
 
 module _ {S T O Q G R SK TK OK QK GK RK : Type 0} {request_key : S → SK} {request_number : S → ℕ} {asked : S → List Request}
     {reply_key : T → TK} {reply_number : T → ℕ} {replied : T → List PlainReply} {gossip_key : O → OK} {gossip_number : O → ℕ} {told : O → List Entries}

@@ -1,9 +1,8 @@
 //! Workers are held beside sessions and beside each other.
-ghost use Rattle.std.specs.Prelude.{◌≡◌, ◌≢◌, ◌+◌, ◌<◌, ◌^◌, IsTrue, length, slice_get, Some};
-ghost use Rattle.party_beside.specs.Told.{AreAllTold, AreToldOf, IsTold};
-ghost use Rattle.session_proxy.specs.State as sessions;
-ghost use Rattle.worker_core.specs.State as workers;
+ghost use Rattle.std.specs.Prelude.{◌≡◌, ◌≢◌, ◌+◌, ◌<◌, ◌^◌, ℕ, IsTrue, length};
+ghost use Rattle.run_waiting.specs.Told.{AreAllTold};
 
+use crate::Besides;
 use drain_turns::show_pair;
 use mail_contract::{GossipRx, Rx, Tx};
 use party_run::{PartiesOver, Runs};
@@ -21,11 +20,9 @@ pub fn show_all<
     requires few { (length parties.old.workers.items + 1 < 2 ^ 16)
         × (length parties.old.sessions.items + 1 < 2 ^ 16) }
     requires ends { ⟦<PartiesOver<Q, T, O, G, S, R> as Runs>⟧.have_ends parties.old }
-    ensures workers { ⟦<PartiesOver<Q, T, O, G, S, R> as Runs>⟧.worker_lists parties.new
-        ≡ ⟦<PartiesOver<Q, T, O, G, S, R> as Runs>⟧.worker_lists parties.old }
-    ensures sessions { ⟦<PartiesOver<Q, T, O, G, S, R> as Runs>⟧.session_lists parties.new
-        ≡ ⟦<PartiesOver<Q, T, O, G, S, R> as Runs>⟧.session_lists parties.old }
-    ensures goes_on { ⟦<PartiesOver<Q, T, O, G, S, R> as Runs>⟧.go_on parties.old parties.new }
+    ensures stay { ⟦<PartiesOver<Q, T, O, G, S, R> as Besides>⟧.stay parties.old parties.new }
+    ensures beside { (place at : ℕ)
+        → ⟦<PartiesOver<Q, T, O, G, S, R> as Besides>⟧.are_beside place at parties.new }
     ensures told { IsTrue Q.keeps.complete → IsTrue R.keeps.complete → AreAllTold
         (⟦<PartiesOver<Q, T, O, G, S, R> as Runs>⟧.worker_lists parties.new)
         (⟦<PartiesOver<Q, T, O, G, S, R> as Runs>⟧.session_lists parties.new) }
@@ -48,14 +45,14 @@ pub fn show_worker<
     requires few { (length parties.old.workers.items + 1 < 2 ^ 16)
         × (length parties.old.sessions.items + 1 < 2 ^ 16) }
     requires ends { ⟦<PartiesOver<Q, T, O, G, S, R> as Runs>⟧.have_ends parties.old }
-    ensures workers { ⟦<PartiesOver<Q, T, O, G, S, R> as Runs>⟧.worker_lists parties.new
-        ≡ ⟦<PartiesOver<Q, T, O, G, S, R> as Runs>⟧.worker_lists parties.old }
-    ensures sessions { ⟦<PartiesOver<Q, T, O, G, S, R> as Runs>⟧.session_lists parties.new
-        ≡ ⟦<PartiesOver<Q, T, O, G, S, R> as Runs>⟧.session_lists parties.old }
-    ensures goes_on { ⟦<PartiesOver<Q, T, O, G, S, R> as Runs>⟧.go_on parties.old parties.new }
-    ensures told { IsTrue Q.keeps.complete → IsTrue R.keeps.complete → AreToldOf place
-        (⟦<PartiesOver<Q, T, O, G, S, R> as Runs>⟧.worker_lists parties.new)
-        (⟦<PartiesOver<Q, T, O, G, S, R> as Runs>⟧.session_lists parties.new) }
+    ensures stay { ⟦<PartiesOver<Q, T, O, G, S, R> as Besides>⟧.stay parties.old parties.new }
+    ensures beside { (at : ℕ)
+        → ⟦<PartiesOver<Q, T, O, G, S, R> as Besides>⟧.are_beside place at parties.new }
+    ensures others { (other at : ℕ) → other ≢ place
+        → ⟦<PartiesOver<Q, T, O, G, S, R> as Besides>⟧.are_beside other at parties.old
+        → ⟦<PartiesOver<Q, T, O, G, S, R> as Besides>⟧.are_beside other at parties.new }
+    ensures met { (other : ℕ) → other ≢ place → other < length parties.old.workers.items
+        → ⟦<PartiesOver<Q, T, O, G, S, R> as Besides>⟧.has_met place other parties.new }
 {
     show_to_sessions(parties, place);
     show_to_mates(parties, place);
@@ -73,14 +70,12 @@ fn show_to_sessions<
     requires within { place < length parties.old.workers.items }
     requires few { length parties.old.sessions.items + 1 < 2 ^ 16 }
     requires ends { ⟦<PartiesOver<Q, T, O, G, S, R> as Runs>⟧.have_ends parties.old }
-    ensures workers { ⟦<PartiesOver<Q, T, O, G, S, R> as Runs>⟧.worker_lists parties.new
-        ≡ ⟦<PartiesOver<Q, T, O, G, S, R> as Runs>⟧.worker_lists parties.old }
-    ensures sessions { ⟦<PartiesOver<Q, T, O, G, S, R> as Runs>⟧.session_lists parties.new
-        ≡ ⟦<PartiesOver<Q, T, O, G, S, R> as Runs>⟧.session_lists parties.old }
-    ensures goes_on { ⟦<PartiesOver<Q, T, O, G, S, R> as Runs>⟧.go_on parties.old parties.new }
-    ensures told { IsTrue Q.keeps.complete → IsTrue R.keeps.complete → AreToldOf place
-        (⟦<PartiesOver<Q, T, O, G, S, R> as Runs>⟧.worker_lists parties.new)
-        (⟦<PartiesOver<Q, T, O, G, S, R> as Runs>⟧.session_lists parties.new) }
+    ensures stay { ⟦<PartiesOver<Q, T, O, G, S, R> as Besides>⟧.stay parties.old parties.new }
+    ensures beside { (at : ℕ)
+        → ⟦<PartiesOver<Q, T, O, G, S, R> as Besides>⟧.are_beside place at parties.new }
+    ensures others { (other at : ℕ) → other ≢ place
+        → ⟦<PartiesOver<Q, T, O, G, S, R> as Besides>⟧.are_beside other at parties.old
+        → ⟦<PartiesOver<Q, T, O, G, S, R> as Besides>⟧.are_beside other at parties.new }
 {
     for at in 0..parties.sessions.len() {
         show_session(parties, place, at);
@@ -100,16 +95,11 @@ fn show_session<
         × (at < length parties.old.sessions.items) }
     requires few { length parties.old.sessions.items + 1 < 2 ^ 16 }
     requires ends { ⟦<PartiesOver<Q, T, O, G, S, R> as Runs>⟧.have_ends parties.old }
-    ensures workers { ⟦<PartiesOver<Q, T, O, G, S, R> as Runs>⟧.worker_lists parties.new
-        ≡ ⟦<PartiesOver<Q, T, O, G, S, R> as Runs>⟧.worker_lists parties.old }
-    ensures sessions { ⟦<PartiesOver<Q, T, O, G, S, R> as Runs>⟧.session_lists parties.new
-        ≡ ⟦<PartiesOver<Q, T, O, G, S, R> as Runs>⟧.session_lists parties.old }
-    ensures goes_on { ⟦<PartiesOver<Q, T, O, G, S, R> as Runs>⟧.go_on parties.old parties.new }
-    ensures told { IsTrue Q.keeps.complete → IsTrue R.keeps.complete
-        → (worker : workers.Lists) (its : sessions.Lists)
-        → slice_get (⟦<PartiesOver<Q, T, O, G, S, R> as Runs>⟧.worker_lists parties.new) place ≡ Some worker
-        → slice_get (⟦<PartiesOver<Q, T, O, G, S, R> as Runs>⟧.session_lists parties.new) at ≡ Some its
-        → IsTold at its place worker }
+    ensures stay { ⟦<PartiesOver<Q, T, O, G, S, R> as Besides>⟧.stay parties.old parties.new }
+    ensures beside { ⟦<PartiesOver<Q, T, O, G, S, R> as Besides>⟧.are_beside place at parties.new }
+    ensures others { (other other_at : ℕ) → (other ≡ place → other_at ≡ at → ⊥)
+        → ⟦<PartiesOver<Q, T, O, G, S, R> as Besides>⟧.are_beside other other_at parties.old
+        → ⟦<PartiesOver<Q, T, O, G, S, R> as Besides>⟧.are_beside other other_at parties.new }
 {
     let worker = &mut parties.workers[place];
     let session = &mut parties.sessions[at];
@@ -128,11 +118,12 @@ fn show_to_mates<
     requires within { place < length parties.old.workers.items }
     requires few { length parties.old.workers.items + 1 < 2 ^ 16 }
     requires ends { ⟦<PartiesOver<Q, T, O, G, S, R> as Runs>⟧.have_ends parties.old }
-    ensures workers { ⟦<PartiesOver<Q, T, O, G, S, R> as Runs>⟧.worker_lists parties.new
-        ≡ ⟦<PartiesOver<Q, T, O, G, S, R> as Runs>⟧.worker_lists parties.old }
-    ensures sessions { ⟦<PartiesOver<Q, T, O, G, S, R> as Runs>⟧.session_lists parties.new
-        ≡ ⟦<PartiesOver<Q, T, O, G, S, R> as Runs>⟧.session_lists parties.old }
-    ensures goes_on { ⟦<PartiesOver<Q, T, O, G, S, R> as Runs>⟧.go_on parties.old parties.new }
+    ensures stay { ⟦<PartiesOver<Q, T, O, G, S, R> as Besides>⟧.stay parties.old parties.new }
+    ensures still_beside { (other at : ℕ)
+        → ⟦<PartiesOver<Q, T, O, G, S, R> as Besides>⟧.are_beside other at parties.old
+        → ⟦<PartiesOver<Q, T, O, G, S, R> as Besides>⟧.are_beside other at parties.new }
+    ensures met { (other : ℕ) → other ≢ place → other < length parties.old.workers.items
+        → ⟦<PartiesOver<Q, T, O, G, S, R> as Besides>⟧.has_met place other parties.new }
 {
     for other in 0..parties.workers.len() {
         if other != place {
@@ -155,11 +146,14 @@ fn show_mate<
     requires differ { other ≢ place }
     requires few { length parties.old.workers.items + 1 < 2 ^ 16 }
     requires ends { ⟦<PartiesOver<Q, T, O, G, S, R> as Runs>⟧.have_ends parties.old }
-    ensures workers { ⟦<PartiesOver<Q, T, O, G, S, R> as Runs>⟧.worker_lists parties.new
-        ≡ ⟦<PartiesOver<Q, T, O, G, S, R> as Runs>⟧.worker_lists parties.old }
-    ensures sessions { ⟦<PartiesOver<Q, T, O, G, S, R> as Runs>⟧.session_lists parties.new
-        ≡ ⟦<PartiesOver<Q, T, O, G, S, R> as Runs>⟧.session_lists parties.old }
-    ensures goes_on { ⟦<PartiesOver<Q, T, O, G, S, R> as Runs>⟧.go_on parties.old parties.new }
+    ensures stay { ⟦<PartiesOver<Q, T, O, G, S, R> as Besides>⟧.stay parties.old parties.new }
+    ensures still_beside { (place_of_it at : ℕ)
+        → ⟦<PartiesOver<Q, T, O, G, S, R> as Besides>⟧.are_beside place_of_it at parties.old
+        → ⟦<PartiesOver<Q, T, O, G, S, R> as Besides>⟧.are_beside place_of_it at parties.new }
+    ensures met { ⟦<PartiesOver<Q, T, O, G, S, R> as Besides>⟧.has_met place other parties.new }
+    ensures still_met { (place_of_it mate : ℕ)
+        → ⟦<PartiesOver<Q, T, O, G, S, R> as Besides>⟧.has_met place_of_it mate parties.old
+        → ⟦<PartiesOver<Q, T, O, G, S, R> as Besides>⟧.has_met place_of_it mate parties.new }
 {
     show_pair(&mut parties.workers, place, other);
 }

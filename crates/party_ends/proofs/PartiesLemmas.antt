@@ -221,3 +221,11 @@ pub none_kept : {Q T O G : Type 0} (script : Script) (table : List (List ℕ)) (
 none_kept script table ends workers made = all_there (λ worker. worker.state.kept ≡ None) workers (λ place worker there.
     let its = there_too ends workers place worker made.long there in
     ap (λ one. one.state.kept) (made.each place its.0 worker its.1 there))
+
+-- new sessions await no reply
+pub none_waits : {S R : Type 0} (asked : S → List Request) (heard : R → List (ℕ × PlainReply)) (script : Script) (table : List (List ℕ)) (ends : List (SessionEndsOver S R))
+    (sessions : List (PlainProxy S R)) → length ends ≡ length script.sessions → AreMadeOf (IsNewSession asked heard script table) ends sessions → All (λ proxy. proxy.course.waits ≡ false) sessions
+none_waits asked heard script table ends sessions as_many made = all_there (λ proxy. proxy.course.waits ≡ false) sessions (λ place proxy there.
+    let its = there_too ends sessions place proxy made.long there in
+    let plan = there_is script.sessions place (let within = slice_get_within ends place its.0 its.1 in omega (arith, within, as_many)) in
+    ap (λ one. one.course.waits) ((made.each place its.0 proxy its.1 there).proxy_is plan.0 plan.1))

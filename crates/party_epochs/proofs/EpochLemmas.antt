@@ -3,7 +3,7 @@ use Rattle.std.specs.Prelude.{◌≡◌, ℕ, zero, suc, List, [], ◌∷◌, �
 use Rattle.std.proofs.Common.{◌∙◌, ap, arith, refl, subst, sym}
 use Rattle.std.proofs.Math.Seq.{take-append_seam}
 use Rattle.std.proofs.lemmas.Option.{none-some, same_Some}
-use Rattle.drain_steps.proofs.ItemsLemmas.{of_mapped}
+use Rattle.drain_steps.proofs.ItemsLemmas.{mapped, of_mapped}
 use Rattle.party_epochs.specs.Pieces.{Pairwise}
 
 -- a slice of all items, put back, is all
@@ -41,3 +41,15 @@ each_kept becomes kept of tells before now are place was is there also =
     let from = of_mapped of before place was there in
     let to = of_mapped of now place is also in
     subst (λ was. kept was is) from.2 (subst (λ is. kept (of from.0) is) to.2 (tells from.0 to.0 (each_became becomes before now are place from.0 to.0 from.1 to.1)))
+
+-- and so of what came of each
+pub each_told : {X Y Z : Type 0} (becomes : X → X → Type 0) (told : Z → Y → Y → Type 0) (of : X → Y) (came : X → Z) → ((x y : X) → becomes x y → told (came y) (of x) (of y))
+    → (before now : List X) → Pairwise becomes before now → (place : ℕ) (its : Z) (was is : Y) → slice_get (map came now) place ≡ Some its
+    → slice_get (map of before) place ≡ Some was → slice_get (map of now) place ≡ Some is → told its was is
+each_told becomes told of came tells before now are place its was is came_so there also =
+    let from = of_mapped of before place was there in
+    let to = of_mapped of now place is also in
+    let same = same_Some (came to.0) its (sym (mapped came now place to.0 to.1) ∙ came_so) in
+    subst (λ its. told its was is) same
+    (subst (λ was. told (came to.0) was is) from.2
+    (subst (told (came to.0) (of from.0)) to.2 (tells from.0 to.0 (each_became becomes before now are place from.0 to.0 from.1 to.1))))

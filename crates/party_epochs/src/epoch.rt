@@ -1,8 +1,10 @@
 //! One epoch of a run.
 ghost use Rattle.std.specs.Prelude.{◌≡◌, ◌+◌, ◌≤◌, ℕ, length, map, slice_get, IfOk, IsTrue, OnOk, Some};
 ghost use Rattle.party_epochs.specs.Pieces.{Pairwise};
+ghost use Rattle.party_steps.specs.Progress.{HasMovedOn};
 ghost use Rattle.party_steps.specs.declared.stepping.Polled.{Polled as Came};
 ghost use Rattle.session_known.specs.declared.script.Script.{Script};
+ghost use Rattle.session_proxy.specs.State as sessions;
 
 use crate::{Gate, Piece, PolledOver, TurnedOver, run_both};
 use lattice_laws::NoMemory;
@@ -146,8 +148,8 @@ fn run_parts<
     run_both(rt, gate, turned, polled)
 }
 
-/// Runs an epoch: every party takes its turns beside the others, at most 128, and what came of those of each
-/// session is told. `turns` counts the turns of each party over the epochs, and is empty before the first.
+/// Runs an epoch: every party takes its turns beside the others, at most 128, and how each session moved on is
+/// told. `turns` counts the turns of each party over the epochs, and is empty before the first.
 ///
 /// After `NoMemory` the parties are of no use.
 pub fn run_epoch<
@@ -169,6 +171,13 @@ pub fn run_epoch<
         parties.old parties.new) }
     ensures each { IfOk result (λ came. length came.items ≡ length parties.old.sessions.items) }
     ensures moved { (script : Script)
+        → ⟦<PartiesOver<Q, T, O, G, S, R> as Runs>⟧.are_running script parties.old
+        → IfOk result (λ came. (at : ℕ) (its : Came) (was is : sessions.Lists)
+        → slice_get came.items at ≡ Some its
+        → slice_get (⟦<PartiesOver<Q, T, O, G, S, R> as Runs>⟧.session_lists parties.old) at ≡ Some was
+        → slice_get (⟦<PartiesOver<Q, T, O, G, S, R> as Runs>⟧.session_lists parties.new) at ≡ Some is
+        → HasMovedOn its was is) }
+    ensures done { (script : Script)
         → ⟦<PartiesOver<Q, T, O, G, S, R> as Runs>⟧.are_running script parties.old
         → IfOk result (λ came. (at : ℕ) (its : Came) → slice_get came.items at ≡ Some its
         → IsTrue its.moved

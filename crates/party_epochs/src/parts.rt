@@ -24,7 +24,7 @@ pub struct TurnedOver<Q: Rx<Request>, T: Tx<Reply>, O: Tx<Batch>, G: GossipRx<Ba
 impl<Q: Rx<Request>, T: Tx<Reply>, O: Tx<Batch>, G: GossipRx<Batch, From = O>> Piece
     for TurnedOver<Q, T, O, G> {
     ghost use Rattle.std.specs.Prelude.{◌≡◌, None};
-    ghost use Rattle.party_steps.specs.Progress.{HasServed};
+    ghost use Rattle.run_measure.specs.Steps.{HasServed};
     ghost use Rattle.party_steps.specs.Turning.{HasTurned};
     ghost use Rattle.worker_core.specs.State as workers;
 

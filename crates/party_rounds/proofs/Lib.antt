@@ -1,3 +1,2 @@
-mod EndedLemmas
-mod MovedLemmas
+mod RoundLemmas
 mod ToldLemmas

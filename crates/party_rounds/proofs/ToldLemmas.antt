@@ -1,20 +1,41 @@
 -- What is told of the parties of a run that were held beside each other.
-use Rattle.std.specs.Prelude.{ℕ, ◌+◌, List, [], map, slice_index_or, Option}
-use Rattle.std.proofs.Common.{subst}
+use Rattle.std.specs.Prelude.{◌≡◌, ℕ, suc, ◌+◌, ◌-◌, List, [], ◌∷◌, length, map, slice_index_or, Option}
+use Rattle.std.proofs.Common.{◌∙◌, ap, arith, length-append, subst}
 use Rattle.mail_contract.specs.Takes.{IsFront, from_sender}
 use Rattle.session_proxy.specs.State as sessions
 use Rattle.store_msg.specs.Reply.{PlainReply}
 use Rattle.store_msg.specs.declared.request.Request.{Request}
+use Rattle.worker_core.specs.Share.{held_for}
 use Rattle.worker_core.specs.State as workers
 use Rattle.drain_ledger.specs.Handed.{AreFrontsOfSent}
 use Rattle.drain_steps.proofs.ItemsLemmas.{mapped, of_mapped}
-use Rattle.party_beside.specs.Told.{AreAllTold}
 use Rattle.party_steps.specs.Polling.{left_by}
-use Rattle.run_measure.specs.Measure.{AreAllCounted}
+use Rattle.run_ledger.proofs.MessagesLemmas.{front_few}
+use Rattle.run_measure.specs.Measure.{AreAllCounted, replied}
+use Rattle.run_waiting.specs.Told.{AreAllTold}
+
+-- the place of a number from 1
+place_of : (at : ℕ) → at + 1 - 1 ≡ at
+place_of at = omega arith
+
+-- what a worker replied to a session is what it sent to it, and the reply that it holds for it
+with_held : (at : ℕ) (worker : workers.Lists) → replied (at + 1) worker ≡ length (slice_index_or worker.replied at []) + length (held_for (at + 1) worker.state.held)
+with_held at worker =
+    let next : at + 1 ≡ suc at = omega arith in
+    length-append (slice_index_or ([] ∷ worker.replied) (at + 1) []) (held_for (at + 1) worker.state.held)
+    ∙ ap (λ place. length (slice_index_or ([] ∷ worker.replied) place []) + length (held_for (at + 1) worker.state.held)) next
 
 -- no more was taken than was sent
 pub all_counted : (all : List workers.Lists) (those : List sessions.Lists) → AreAllTold all those → AreAllCounted all those
-all_counted all those told place at worker its there here = (told place at worker its there here).counted
+all_counted all those told place at worker its there here =
+    let is = told place at worker its there here in
+    record {
+      requests = front_few _ _ is.requests;
+      replies =
+          let few = front_few _ _ is.replies in
+          let sent = ap (λ session. length (slice_index_or worker.replied session [])) (place_of at) in
+          omega (arith, few, sent, with_held at worker);
+    }
 
 -- and of the sessions that left their ends it is told what they received of the workers
 pub all_fronts : {S T O Q G R : Type 0} (asked : S → List Request) (replied : T → List PlainReply) (told : O → List workers.Entries)
@@ -28,4 +49,7 @@ all_fronts asked replied told received got heard those proxies all place session
     all place session (workers.lists_of received replied told got worker) (sessions.lists_of asked heard proxy.0)
     (mapped (workers.lists_of received replied told got) those place worker there) (mapped (sessions.lists_of asked heard) proxies session proxy.0 proxy.1)
     in
-    subst (λ its. IsFront (from_sender (place + 1) (heard its.1.replies)) (slice_index_or (map replied worker.ends.replies.items) session [])) proxy.2 told_of_it.front
+    let front =
+    subst (λ at. IsFront (from_sender (place + 1) (heard proxy.0.ends.replies)) (slice_index_or (map replied worker.ends.replies.items) at [])) (place_of session) told_of_it.replies
+    in
+    subst (λ its. IsFront (from_sender (place + 1) (heard its.1.replies)) (slice_index_or (map replied worker.ends.replies.items) session [])) proxy.2 front

@@ -1,7 +1,6 @@
 //! A session of any level.
-ghost use Rattle.std.specs.Prelude.{◌≡◌, ◌≤◌, ◌<◌, ◌^◌, ◌-◌, All, IfOk, [], false, length};
+ghost use Rattle.std.specs.Prelude.{◌≡◌, ◌≤◌, ◌<◌, ◌^◌, All, IfOk, [], false, length};
 ghost use Rattle.mail_contract.specs.Boxes.{FindsNothing, MayTake, box_of};
-ghost use Rattle.mail_contract.specs.Parcels.{Delivers, GivesUp};
 ghost use Rattle.mail_contract.specs.Standing.{AllPart};
 ghost use Rattle.session_known.specs.Script.{AreEnded};
 ghost use Rattle.session_proxy.specs.Lines.{AreReplicas, MayRun};
@@ -11,7 +10,7 @@ ghost use Rattle.session_proxy.specs.State.{IsFixed, KeysStay, lists_of, opening
 ghost use Rattle.party_run.specs.Session.{proxy_of};
 
 use lattice_laws::{Items, NoMemory};
-use mail_contract::{Parcel, ParcelFault, PlainRx, PlainTx, Rx, Tx};
+use mail_contract::{Rx, Tx};
 use placement::Placement;
 use session_causal::CausalLevel;
 use session_known::{Answer, Level, Line};
@@ -115,6 +114,17 @@ impl<T: Tx<Request>, R: Rx<Reply>> SessionOver<T, R> {
         }
     }
 
+    /// Whether a reply is awaited. Takes no memory.
+    pub fn waits(&self) -> bool
+        ensures { result ≡ (proxy_of self.now).course.waits }
+    {
+        match self {
+            SessionOver::Eventual(proxy) => proxy.waits(),
+            SessionOver::Committed(proxy) => proxy.waits(),
+            SessionOver::Causal(proxy) => proxy.waits(),
+        }
+    }
+
     /// Nobody is beside the box of replies any longer. Takes no memory.
     pub fn apart(&mut self)
         ensures share { Share (lists_of T.sent R.received (proxy_of self.new)) }
@@ -206,47 +216,6 @@ impl<T: Tx<Request>, R: Rx<Reply>, Q: Rx<Request, From = T>> Meets<Q, R::From>
             SessionOver::Eventual(proxy) => proxy.meet(worker, requests, replies),
             SessionOver::Committed(proxy) => proxy.meet(worker, requests, replies),
             SessionOver::Causal(proxy) => proxy.meet(worker, requests, replies),
-        }
-    }
-}
-
-impl SessionOver<PlainTx<Request>, PlainRx<Reply>> {
-    /// Gives up the requests that were sent to a worker since its last parcel. The worker is there. Takes no
-    /// memory.
-    pub fn request_parcel(&mut self, worker: u16) -> Parcel<Request>
-        requires { (1 ≤ worker) × (worker ≤ length (proxy_of self.old).ends.requests.items) }
-        ensures share { Share (lists_of ⟦<PlainTx<Request> as Tx<Request>>⟧.sent
-            ⟦<PlainRx<Reply> as Rx<Reply>>⟧.received (proxy_of self.new)) }
-        ensures parcel { GivesUp ⟦<PlainTx<Request> as Tx<Request>>⟧.number
-            ⟦<PlainTx<Request> as Tx<Request>>⟧.sent ⟦<PlainTx<Request> as Tx<Request>>⟧.key
-            (worker - 1) result
-            (proxy_of self.old).ends.requests.items (proxy_of self.new).ends.requests.items }
-        ensures course { (proxy_of self.new).course ≡ (proxy_of self.old).course }
-        ensures replies { (proxy_of self.new).ends.replies ≡ (proxy_of self.old).ends.replies }
-    {
-        match self {
-            SessionOver::Eventual(proxy) => proxy.request_parcel(worker),
-            SessionOver::Committed(proxy) => proxy.request_parcel(worker),
-            SessionOver::Causal(proxy) => proxy.request_parcel(worker),
-        }
-    }
-
-    /// Takes in a parcel of a worker's replies. A refusal hands it back, and nothing has changed.
-    pub fn deliver(&mut self, parcel: Parcel<Reply>) -> Result<(), ParcelFault<Reply>>
-        ensures share { Share (lists_of ⟦<PlainTx<Request> as Tx<Request>>⟧.sent
-            ⟦<PlainRx<Reply> as Rx<Reply>>⟧.received (proxy_of self.new)) }
-        ensures delivers { Delivers ⟦<PlainRx<Reply> as Rx<Reply>>⟧.key
-            ⟦<PlainRx<Reply> as Rx<Reply>>⟧.received ⟦<PlainRx<Reply> as Rx<Reply>>⟧.answers
-            ⟦<PlainRx<Reply> as Rx<Reply>>⟧.about
-            parcel result (proxy_of self.old).ends.replies (proxy_of self.new).ends.replies }
-        ensures course { (proxy_of self.new).course ≡ (proxy_of self.old).course }
-        ensures requests { (proxy_of self.new).ends.requests
-            ≡ (proxy_of self.old).ends.requests }
-    {
-        match self {
-            SessionOver::Eventual(proxy) => proxy.deliver(parcel),
-            SessionOver::Committed(proxy) => proxy.deliver(parcel),
-            SessionOver::Causal(proxy) => proxy.deliver(parcel),
         }
     }
 }

@@ -34,12 +34,7 @@ module _ {X Y : Type 0} where
   pub now_made : (f : X → Y) (items : List X) (place : ℕ) (there : X) → place < length items → (y : Y) → slice_get (map f (slice_set items place there)) place ≡ Some y → f there ≡ y
   now_made f items place there within y is = same_Some (f there) y (sym (mapped f (slice_set items place there) place there (now_there items place there within)) ∙ is)
 
-  -- what follows of what is told of a call's success follows where it succeeds
-  pub where_ok : {P Tells Then : Type 0} (result : Result X Y) → (P → OnOk result Tells) → ((P → Tells) → Then) → OnOk result Then
-  where_ok (Ok x) told follows = follows told
-  where_ok (Err error) told follows = tt
-
-  -- and so of what is told of the value that it gives
+  -- what follows of what is told of the value that a call gives follows where it succeeds
   pub where_value : {P Q Then : Type 0} {Tells : X → Type 0} (result : Result X Y) → (P → Q → IfOk result Tells) → ((x : X) → (P → Q → Tells x) → Then) → OnOk result Then
   where_value (Ok x) told follows = follows x told
   where_value (Err error) told follows = tt

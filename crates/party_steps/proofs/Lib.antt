@@ -1,10 +1,11 @@
+mod AwaitedLemmas
 mod ChangedLemmas
 mod FinishedLemmas
 mod MovedLemmas
 mod PolledLemmas
-mod ServedLemmas
 mod TurnedLemmas
 mod UnusedLemmas
+mod WaitedLemmas
 mod YieldedLemmas
 pub mod PlacedLemmas
 pub mod PolledRunLemmas

@@ -19,8 +19,8 @@ use Rattle.store_msg.specs.Reply.{PlainReply}
 use Rattle.store_msg.specs.declared.request.Request.{Request}
 use Rattle.worker_core.specs.State.{Entries, PlainWorker}
 use Rattle.run_ledger.proofs.ReplicasLemmas.{table_has_replicas}
-use Rattle.drain_steps.proofs.ItemsLemmas.{at_its_place, there_is}
-use Rattle.run_measure.specs.Laws.{IsPlaced}
+use Rattle.drain_steps.proofs.ItemsLemmas.{at_its_place, of_mapped, there_is}
+use Rattle.run_measure.specs.Laws.{AreOfWorkers, IsOfWorkers, IsPlaced}
 use Rattle.party_run.specs.Running.{AreRunning, IsSessionOf}
 
 module _ (script : Script) (table : List (List ℕ)) (valid : IsValidScript script table) where
@@ -68,3 +68,24 @@ may_be_polled {asked = asked} {replies_received = replies_received} script worke
     let plan = there_is script.sessions place (omega (arith, slice_get_within sessions place proxy there, running.as_many_sessions)) in
     let is = running.sessions_are place plan.0 proxy plan.1 there in
     (is_placed script running.table running.valid asked replies_received place plan.0 proxy plan.1 is, is.share)
+
+-- Each session of a run keeps its share, took replies of workers alone, and has a sender for each.
+pub are_of_workers : {S T O Q G R SK TK OK QK GK RK : Type 0} {request_key : S → SK} {request_number : S → ℕ} {asked : S → List Request}
+    {reply_key : T → TK} {reply_number : T → ℕ} {gossip_key : O → OK} {gossip_number : O → ℕ}
+    {requests_key : Q → QK} {requests_pairs : QK → SK → ℕ → Type 0} {requests_senders : QK → ℕ} {requests_received : Q → List (ℕ × Request)} {requests_about : Q → ℕ → About Request}
+    {in_key : G → GK} {in_pairs : GK → OK → ℕ → Type 0} {in_senders : GK → ℕ} {got : G → ℕ → ℕ → Option Entries} {in_about : G → ℕ → About Entries}
+    {replies_key : R → RK} {replies_pairs : RK → TK → ℕ → Type 0} {replies_senders : RK → ℕ} {replies_received : R → List (ℕ × PlainReply)} {replies_about : R → ℕ → About PlainReply}
+    (script : Script) (workers : List (PlainWorker Q T O G)) (sessions : List (PlainProxy S R))
+    → AreRunning request_key request_number asked reply_key reply_number gossip_key gossip_number
+    requests_key requests_pairs requests_senders requests_received requests_about in_key in_pairs in_senders got in_about
+    replies_key replies_pairs replies_senders replies_received replies_about script workers sessions
+    → AreOfWorkers (length workers) (map (lists_of asked replies_received) sessions)
+are_of_workers {asked = asked} {replies_received = replies_received} script workers sessions running = λ at its there.
+    let proxy = of_mapped (lists_of asked replies_received) sessions at its there in
+    let plan = there_is script.sessions at (omega (arith, slice_get_within sessions at proxy.0 proxy.1, running.as_many_sessions)) in
+    let is = running.sessions_are at plan.0 proxy.0 plan.1 proxy.1 in
+    subst (IsOfWorkers (length workers)) proxy.2 (record {
+      share = is.share;
+      hears = subst (λ many. All (λ message. IsOneOf many message.0) (replies_received proxy.0.ends.replies)) (sym running.as_many) is.of_workers;
+      senders = length-map proxy.0.ends.requests.items asked ∙ is.senders ∙ sym running.as_many;
+    })

@@ -13,7 +13,8 @@ use Rattle.worker_core.specs.State as workers
 use Rattle.drain_steps.proofs.ItemsLemmas.{all_there, also_there, at_its_place, of_mapped, there_is}
 use Rattle.party_run.specs.Running.{AreRunning, GoesOn}
 use Rattle.party_run.proofs.GoesOnLemmas.{goes_on_through}
-use Rattle.run_measure.specs.Laws.{AreOfWorkers, IsOfWorkers}
+use Rattle.run_measure.specs.Laws.{AreOfWorkers}
+use Rattle.party_steps.proofs.PlacedLemmas.{are_of_workers}
 use Rattle.run_measure.specs.Measure.{AreAllCounted, measure_of_all}
 use Rattle.run_measure.specs.Steps.{HaveAllGoneOn, done}
 use Rattle.run_measure.proofs.TogetherLemmas.{together_lower}
@@ -109,25 +110,10 @@ module _ {S T O Q G R SK TK OK QK GK RK : Type 0}
       let of_session = sessions.lists_of asked replies_received in
       let gone_on = (steps.gone_on script run none).1 in
       together_lower (map of_worker those) (map of_worker those_now) (map of_session proxies) (map of_session proxies_now) gone_on
-      (subst (λ many. AreOfWorkers many (map of_session proxies)) (sym (length-map those of_worker)) (are_of_workers those proxies run))
+      (subst (λ many. AreOfWorkers many (map of_session proxies)) (sym (length-map those of_worker)) (are_of_workers script those proxies run))
       (subst (λ many. AreOfWorkers many (map of_session proxies_now)) (steps.goes_on.workers_long ∙ sym (length-map those of_worker))
-      (are_of_workers those_now proxies_now (steps.goes_on.running script run)))
+      (are_of_workers script those_now proxies_now (steps.goes_on.running script run)))
       counted counted_now
-    where
-      -- each session of a run keeps its share, took replies of workers alone, and has a sender for each
-      are_of_workers : (those : List (workers.PlainWorker Q T O G)) (proxies : List (sessions.PlainProxy S R)) → AreRunning request_key request_number asked reply_key reply_number gossip_key gossip_number
-          requests_key requests_pairs requests_senders requests_received requests_about in_key in_pairs in_senders got in_about
-          replies_key replies_pairs replies_senders replies_received replies_about script those proxies
-          → AreOfWorkers (length those) (map (sessions.lists_of asked replies_received) proxies)
-      are_of_workers those proxies run = λ at its there.
-          let proxy = of_mapped (sessions.lists_of asked replies_received) proxies at its there in
-          let plan = there_is script.sessions at (omega (arith, slice_get_within proxies at proxy.0 proxy.1, run.as_many_sessions)) in
-          let is = run.sessions_are at plan.0 proxy.0 plan.1 proxy.1 in
-          subst (IsOfWorkers (length those)) proxy.2 (record {
-            share = is.share;
-            hears = subst (λ workers. All (λ message. IsOneOf workers message.0) (replies_received proxy.0.ends.replies)) (sym run.as_many) is.of_workers;
-            senders = length-map proxy.0.ends.requests.items asked ∙ is.senders ∙ sym run.as_many;
-          })
 
   -- and no less was done
   pub steps_do_no_less : (script : Script) (those those_now : List (workers.PlainWorker Q T O G)) (proxies proxies_now : List (sessions.PlainProxy S R)) → AreRunning request_key request_number asked reply_key reply_number gossip_key gossip_number

@@ -10,9 +10,9 @@ use Rattle.store_msg.specs.declared.request.Request.{Request}
 use Rattle.worker_core.specs.State as workers
 use Rattle.drain_steps.proofs.ItemsLemmas.{all_there, at_its_place, of_mapped, there_too}
 use Rattle.run_measure.proofs.DoneLemmas.{done_rises, goes_still, goes_through}
-use Rattle.run_measure.specs.Steps.{HasDone, HaveAllGoneOn, RepliesAsTaken, done}
-use Rattle.party_steps.specs.Progress.{HasServed, NoneKept}
-use Rattle.party_steps.proofs.ServedLemmas.{takes_still, takes_through}
+use Rattle.run_measure.specs.Steps.{HasDone, HasServed, HaveAllGoneOn, RepliesAsTaken, done}
+use Rattle.party_steps.specs.Progress.{NoneKept}
+use Rattle.run_measure.proofs.ServedLemmas.{takes_still, takes_through}
 
 -- all parties that stay as they are have gone on,
 pub all_still : (all : List workers.Lists) (those : List sessions.Lists) → HaveAllGoneOn all all those those

@@ -56,7 +56,7 @@ turned_keeps {requests_key = requests_key} {requests_senders = requests_senders}
       request_box =
           box_stays complete (IsOneOf many_sessions) (requests_senders (requests_key was.ends.requests)) (requests_senders (requests_key is.ends.requests))
           (requests_received was.ends.requests) (requests_received is.ends.requests) (requests_about was.ends.requests) (requests_about is.ends.requests)
-          (ap requests_senders turned.gone_on.keys.requests_key) turned.gone_on.in_range turned.gone_on.stand turned.fronts;
+          (ap requests_senders turned.gone_on.keys.requests_key) turned.gone_on.in_range turned.gone_on.stand turned.gone_on.fronts;
       gossip_box =
           weak_box_stays all_told (IsMate many (place + 1)) (in_senders (in_key was.ends.gossip_in)) (in_senders (in_key is.ends.gossip_in))
           (got was.ends.gossip_in) (got is.ends.gossip_in) (in_about was.ends.gossip_in) (in_about is.ends.gossip_in)

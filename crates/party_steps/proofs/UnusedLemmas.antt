@@ -10,7 +10,7 @@ use Rattle.placement.specs.Config.{IsOneOf}
 use Rattle.drain_ledger.specs.Handed.{IsBoxOf, IsUnused, IsWeakBoxOf}
 use Rattle.drain_steps.specs.Hearing.{AreGotInRange}
 use Rattle.drain_turns.specs.Turning.{AreInRange}
-use Rattle.party_steps.specs.Fronts.{FrontsStay}
+use Rattle.drain_turns.specs.Turning.{FrontsStay}
 
 module _ {M : Type 0} where
   unused_stays : (about about_now : ℕ → About M) → AllStand about about_now → (sender : ℕ) → IsUnused (about sender) → IsUnused (about_now sender)

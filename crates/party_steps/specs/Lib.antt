@@ -1,4 +1,3 @@
-pub mod Fronts
 pub mod Polling
 pub mod Progress
 pub mod Turning

@@ -1,10 +1,15 @@
 -- What it changes of a session to be polled, once or several times.
-use Rattle.std.specs.Prelude.{◌≡◌, ℕ, List, All, length}
+use Rattle.std.specs.Prelude.{◌≡◌, ℕ, Bool, List, All, length, Ok}
+use Rattle.mail_contract.specs.Boxes.{FindsNothing, box_of}
+use Rattle.mail_contract.specs.Parts.{Parts}
 use Rattle.mail_contract.specs.Standing.{About, AllStand}
+use Rattle.mail_contract.specs.Takes.{Answers}
 use Rattle.placement.specs.Config.{IsOneOf}
 use Rattle.session_known.specs.declared.report.Answer.{Answer}
+use Rattle.session_proxy.specs.Polls.{Counts, Polls, WantsRoom}
 use Rattle.session_proxy.specs.Share.{Share}
 use Rattle.session_proxy.specs.State.{IsFixed, KeysStay, PlainProxy, lists_of}
+use Rattle.session_proxy.specs.declared.progress.Progress.TheVariants as progress
 use Rattle.store_msg.specs.Reply.{PlainReply}
 use Rattle.store_msg.specs.declared.ends.SessionEndsOver.{SessionEndsOver}
 use Rattle.store_msg.specs.declared.request.Request.{Request}
@@ -26,3 +31,13 @@ IsAllAnswered proxy = length proxy.course.answers ≡ length proxy.course.lines
 -- its answers and its ends, as it leaves them
 abbrev pub left_by : {S R : Type 0} → PlainProxy S R → List Answer × SessionEndsOver S R
 left_by proxy = (proxy.course.answers, proxy.ends)
+
+-- A session was polled that waited: it answered NotYet, changed nothing, and this is what its ends told then.
+pub record HasWaited {S R : Type 0} (asked : S → List Request) (clear : S → Type 0) (roomy : Bool) (unseen : S → ℕ)
+    (received : R → List (ℕ × PlainReply)) (answers : R → Answers) (about : R → ℕ → About PlainReply) (keeps : Parts) (before : PlainProxy S R) : Type 0 where
+  pub now : PlainProxy S R
+  pub counts : Counts
+  pub counts_now : Counts
+  pub polls : Polls (Ok progress.NotYet) (lists_of asked received before) (lists_of asked received now) counts counts_now
+      (WantsRoom clear roomy unseen before.ends.requests.items) (FindsNothing keeps (box_of received answers about now.ends.replies))
+  pub stands : AllStand (about before.ends.replies) (about now.ends.replies)

@@ -1,8 +1,9 @@
 //! One party takes several steps.
-ghost use Rattle.std.specs.Prelude.{◌≡◌, IfOk, IsTrue, None, OnOk};
+ghost use Rattle.std.specs.Prelude.{◌≡◌, ◌≤◌, false, IfOk, IsTrue, None, OnOk};
 ghost use Rattle.party_run.specs.Session.{proxy_of};
-ghost use Rattle.party_steps.specs.Polling.{HasPolled, IsAllAnswered};
-ghost use Rattle.party_steps.specs.Progress.{HasMovedOn, HasServed};
+ghost use Rattle.party_steps.specs.Polling.{HasPolled, HasWaited, IsAllAnswered};
+ghost use Rattle.party_steps.specs.Progress.{HasMovedOn};
+ghost use Rattle.run_measure.specs.Steps.{HasServed};
 ghost use Rattle.party_steps.specs.Turning.{HasTurned};
 ghost use Rattle.run_measure.specs.Laws.{IsPlaced};
 ghost use Rattle.session_proxy.specs.Share.{Share};
@@ -55,7 +56,11 @@ pub struct Polled {
 }
 
 /// Polls a session at a pace, at most so many times: until it answers Rest or Ended, or NotYet and is not to try
-/// again.
+/// again, or a reply was dropped.
+///
+/// A reply is dropped that is not the awaited one. None comes so, since each answers an ask that was sent; but as
+/// long as others run no party is told what they have sent. So the session takes no step more then, and what it
+/// waits for is told to be missing once it is held beside the workers.
 pub fn poll_often<S: Tx<Request>, R: Rx<Reply>, P: Pace>(
     pace: &mut P,
     session: &mut SessionOver<S, R>,
@@ -70,12 +75,21 @@ pub fn poll_often<S: Tx<Request>, R: Rx<Reply>, P: Pace>(
         → IfOk result (λ polled. HasMovedOn polled
         (sessions.lists_of S.sent R.received (proxy_of session.old))
         (sessions.lists_of S.sent R.received (proxy_of session.new))) }
+    ensures waited { IfOk result (λ polled. polled.moved ≡ false → polled.ended ≡ false → 1 ≤ most
+        → HasWaited S.sent S.clear S.roomy S.unseen R.received R.answers R.about R.keeps
+        (proxy_of session.old)) }
 {
     let mut moved = false;
     for _ in 0..most {
         pace.before();
+        let waited = session.waits();
         match session.poll()? {
-            Progress::Moved => moved = true,
+            Progress::Moved => {
+                moved = true;
+                if waited && session.waits() {
+                    break;
+                }
+            }
             Progress::NotYet => {
                 if !pace.tries_again() {
                     break;

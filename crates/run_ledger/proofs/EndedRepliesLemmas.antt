@@ -1,10 +1,10 @@
 -- What an ended session heard of each worker are all the replies that the worker sent it, and all of them are replies to its lines.
-use Rattle.std.specs.Prelude.{◌≡◌, ℕ, ◌≤◌, ◌==◌, min, true, false, if◌then◌else◌, List, [], ◌∷◌, All, length, map, take}
+use Rattle.std.specs.Prelude.{◌≡◌, ℕ, ◌≤◌, ◌==◌, true, false, if◌then◌else◌, List, [], ◌∷◌, All, length, map}
 use Rattle.std.proofs.Common.{◌∙◌, refl, sym, ap, subst, arith}
-use Rattle.std.proofs.lemmas.List.{length-take, take_all}
-use Rattle.std.proofs.lemmas.List.Elements.{All-head, All-map, All-tail, All-take}
+use Rattle.std.proofs.lemmas.List.{take_all}
+use Rattle.std.proofs.lemmas.List.Elements.{All-head, All-map, All-tail}
 use Rattle.std.proofs.lemmas.Slice.Zip.{AllZip-long}
-use Rattle.mail_contract.specs.Takes.{from_sender}
+use Rattle.mail_contract.specs.Takes.{IsFront, from_sender}
 use Rattle.mail_contract.proofs.WovenLemmas.{from_sender_here}
 use Rattle.session_known.specs.Requests.{requests_of}
 use Rattle.session_known.specs.Session.{start}
@@ -17,12 +17,13 @@ use Rattle.store_msg.specs.Reply.{PlainReply}
 use Rattle.worker_core.specs.Share.{IsReplyBy, gets_after}
 use Rattle.run_ledger.specs.Parties.{AreDrained, HasEnded, IsSealed, Parties, SealedWorker, sealed_at, session_at}
 use Rattle.run_ledger.proofs.EndedSessionsLemmas.{answered, its_replies, part_taken, sent_to}
-use Rattle.run_ledger.proofs.FrontsLemmas.{each_from}
 use Rattle.run_ledger.proofs.GetsLemmas.{as_many_gets, by_worker, from_worker, gets_in, lines_as_many}
+use Rattle.run_ledger.proofs.HeldLemmas.{own_taken}
+use Rattle.run_ledger.proofs.MessagesLemmas.{each_from, front_few}
 use Rattle.run_ledger.proofs.MomentsLemmas.{in_all}
 use Rattle.run_ledger.proofs.PartiesLemmas.{ended, me_is, of_session, sealed}
-use Rattle.run_ledger.proofs.RepliesLemmas.{all_by_worker, zip_right}
-use Rattle.run_ledger.proofs.SealedLemmas.{replied, replied_to}
+use Rattle.run_ledger.proofs.RepliesLemmas.{all_by_worker}
+use Rattle.run_ledger.proofs.SealedLemmas.{replied, replied_to, replying}
 use Rattle.run_ledger.proofs.SessionsLemmas.{IsSession, client_at, lines_at, plan_at}
 use Rattle.run_ledger.proofs.WorkersLemmas.{IsWorker}
 
@@ -96,24 +97,18 @@ module _ (script : Script) (table : List (List ℕ)) (report : Report) (parties 
         (answered table script.config.workers (client_at script session) (plan_at script session) of_it has_ended)
 
     -- what was heard of it is a front of these
-    front : take (length (from_sender worker of_it.received)) (replied_to of_worker session) ≡ from_sender worker of_it.received
+    front : IsFront (from_sender worker of_it.received) (replied_to of_worker session)
     front = (drained.paired worker session is within).replies
 
     -- so no more was heard of it than the replies to such asks
     few_heard : length (from_sender worker of_it.received) ≤ length (from_worker worker (in_all replies_to))
-    few_heard =
-        let heard : ℕ = length (from_sender worker of_it.received) in
-        let fits : min heard (length (replied_to of_worker session)) ≡ heard = sym (length-take heard (replied_to of_worker session)) ∙ ap length front in
-        omega (arith, fits, as_many_sent)
+    few_heard = omega (arith, front_few (from_sender worker of_it.received) (replied_to of_worker session) front, as_many_sent)
 
     -- and they are of its number
     of_its_worker : All (λ reply. reply.worker ≡ worker) (from_sender worker of_it.received)
     of_its_worker =
-        subst (All (λ (reply : PlainReply). reply.worker ≡ worker)) front
-        (All-take (λ (reply : PlainReply). reply.worker ≡ worker) (length (from_sender worker of_it.received)) (replied_to of_worker session)
-        (zip_right (IsReplyBy of_worker.lists.state.me table script.kinds is_sealed.holds.joined) (λ reply. reply.worker ≡ worker)
-        (λ get reply replies. ap (λ (its : PlainReply). its.worker) replies.is ∙ me_is script table report parties drained worker is)
-        (gets_after session [] of_worker.lists.received) (replied_to of_worker session) (replied script table of_worker is_sealed session within)))
+        own_taken of_worker.lists is_sealed.share session (replying script table of_worker is_sealed session within) worker (me_is script table report parties drained worker is)
+        (from_sender worker of_it.received) front
 
   -- it heard workers alone
   pub of_workers : All (λ message. IsWorker script message.0) of_it.received

@@ -1,5 +1,5 @@
 -- A session that has ended: no line is open, so it sent what its lines send, and of what it took the replies to its lines are a part.
-use Rattle.std.specs.Prelude.{◌≡◌, ℕ, ◌+◌, ◌-◌, Bool, true, false, if◌then◌else◌, List, [], ◌∷◌, ◌++◌, length, map, option_map, slice_get, slice_index_or, take, unwrap_or, Option, Some, None, IfSome}
+use Rattle.std.specs.Prelude.{◌≡◌, ℕ, ◌+◌, ◌-◌, Bool, if◌then◌else◌, List, [], ◌∷◌, ◌++◌, length, map, option_map, slice_get, slice_index_or, take, unwrap_or, Option, Some, None, IfSome}
 use Rattle.std.specs.List.{AllZip}
 use Rattle.std.proofs.Common.{◌∙◌, refl, sym, ap, subst, append-nil, arith}
 use Rattle.std.proofs.lemmas.List.{append_assoc, take_all}
@@ -16,6 +16,7 @@ use Rattle.session_proxy.specs.State.{Lists, state_now}
 use Rattle.store_msg.specs.Reply.{PlainReply}
 use Rattle.run_ledger.specs.Parties.{HasEnded}
 use Rattle.run_ledger.proofs.MomentsLemmas.{in_all}
+use Rattle.run_ledger.proofs.OpenAsksLemmas.{awaited_at}
 
 -- to no items nothing fits
 fits_none : {A B : Type 0} (R : A → B → Type 0) (xs : List A) (ys : List B) → xs ≡ [] → AllZip R xs ys → ys ≡ []
@@ -30,8 +31,8 @@ none_kept IsKept never (Some reply) is = absurd (never reply is)
 
 -- the ask that is awaited is one of those that the open line sends
 none_awaited : (waits : Bool) (asks : List (ℕ × Sent)) (place : ℕ) (ask : ℕ × Sent) → asks ≡ [] → (if waits then slice_get asks place else None) ≡ Some ask → ⊥
-none_awaited true asks place ask none is = none-some ask (sym (slice_get_past [] place (omega arith)) ∙ ap (λ those. slice_get those place) (sym none) ∙ is)
-none_awaited false asks place ask none is = none-some ask is
+none_awaited waits asks place ask none is =
+    none-some ask (sym (slice_get_past [] place (omega arith)) ∙ ap (λ those. slice_get those place) (sym none) ∙ (awaited_at waits (slice_get asks place) ask is).1)
 
 module _ (table : List (List ℕ)) (workers : ℕ) (client : Client) (plan : SessionPlan) (session : Lists) (ended : HasEnded table workers client plan session) where
   -- no line is open, so there are no requests of one
@@ -42,7 +43,7 @@ module _ (table : List (List ℕ)) (workers : ℕ) (client : Client) (plan : Ses
       (slice_get_past session.course.lines (length session.course.answers) (omega (arith, whole)))
 
   -- so none of them was sent
-  none_sent : open_sent session.course ≡ []
+  pub none_sent : open_sent session.course ≡ []
   none_sent = ap (take session.course.out) none_open ∙ take_all session.course.out [] (omega arith)
 
   -- the replies to its lines

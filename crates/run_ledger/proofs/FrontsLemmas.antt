@@ -1,10 +1,10 @@
 -- The puts on a key in any front of what a worker received: of each session the first so many that it made there.
-use Rattle.std.specs.Prelude.{◌≡◌, ◌≢◌, Bool, ℕ, ◌==◌, true, false, cond, if◌then◌else◌, List, [], ◌∷◌, ◌++◌, All, flat_map, length}
+use Rattle.std.specs.Prelude.{◌≡◌, ◌≢◌, Bool, ℕ, ◌==◌, cond, if◌then◌else◌, List, [], ◌∷◌, ◌++◌, All, flat_map, length}
 use Rattle.std.proofs.Common.{◌∙◌, refl, sym, ap, subst, inl, inr, append-nil, arith}
 use Rattle.std.proofs.lemmas.Bool.{cases_lt, eq-eqb, ne_eqb}
 use Rattle.std.proofs.lemmas.Bool.Decides.{eqb_tells}
 use Rattle.std.proofs.lemmas.List.Concat.{flat_map-append}
-use Rattle.std.proofs.lemmas.List.Elements.{All-cons, All-head, All-nil, All-tail}
+use Rattle.std.proofs.lemmas.List.Elements.{All-head, All-tail}
 use Rattle.lattice_laws.proofs.ListLemmas.{All-front}
 use Rattle.mail_contract.specs.Takes.{from_sender}
 use Rattle.mail_contract.proofs.WovenLemmas.{from_sender-append}
@@ -21,28 +21,11 @@ use Rattle.session_proxy.specs.Share.{to_worker}
 use Rattle.store_msg.specs.declared.request.Request.{Request}
 use Rattle.worker_core.specs.Share.{put_in, puts_in}
 use Rattle.run_ledger.proofs.AnsweredLemmas.{lines_have, numbered}
+use Rattle.run_ledger.proofs.MessagesLemmas.{each_from}
 use Rattle.run_ledger.proofs.OwnPutsLemmas.{AreOwnPuts, own_puts}
 use Rattle.run_ledger.proofs.RequestsLemmas.{of_lines}
 use Rattle.run_ledger.proofs.SentPutsLemmas.{requests_own}
 use Rattle.run_ledger.proofs.SessionsLemmas.{AreSessions, IsSession, answers_at, client_at, lines_at, made_by}
-
--- what holds of what came of each sender holds of each message
-pub each_from : {M : Type 0} (Holds : ℕ → M → Type 0) (InRange : ℕ → Type 0) (received : List (ℕ × M))
-    → ((sender : ℕ) → InRange sender → All (Holds sender) (from_sender sender received)) → All (λ message. InRange message.0) received
-    → All (λ message. Holds message.0 message.1) received
-each_from Holds InRange [] of_each range = All-nil (λ message. Holds message.0 message.1)
-each_from Holds InRange (message ∷ received) of_each range =
-    let rest = from_sender message.0 received in
-    let first : All (Holds message.0) (message.1 ∷ rest) =
-    subst (λ t. All (Holds message.0) (if t then message.1 ∷ rest else rest)) (eq-eqb message.0 message.0 refl)
-    (of_each message.0 (All-head (λ m. InRange m.0) message received range))
-    in
-    All-cons (λ m. Holds m.0 m.1) message received (All-head (Holds message.0) message.1 rest first)
-    (each_from Holds InRange received (λ sender within.
-    elim (message.0 == sender) as (λ t. All (Holds sender) (if t then message.1 ∷ from_sender sender received else from_sender sender received) → All (Holds sender) (from_sender sender received)) [
-      | true ↦ λ all. All-tail (Holds sender) message.1 (from_sender sender received) all
-      | false ↦ λ all. all
-    ] (of_each sender within)) (All-tail (λ m. InRange m.0) message received range))
 
 -- nothing came of one who is no sender
 none_of_no_sender : (InRange : ℕ → Type 0) (sender : ℕ) (received : List (ℕ × Request)) → (InRange sender → ⊥) → All (λ message. InRange message.0) received → from_sender sender received ≡ []

@@ -1,15 +1,17 @@
 -- The gets of a session at a worker and the replies to them, one by one: which requests of the session came there before each.
-use Rattle.std.specs.Prelude.{◌≡◌, ℕ, ◌+◌, ◌%◌, ◌==◌, true, false, if◌then◌else◌, List, [], ◌∷◌, ◌++◌, flat_map, length, map, slice_index_or}
+use Rattle.std.specs.Prelude.{◌≡◌, ℕ, ◌+◌, ◌%◌, ◌≤◌, ◌==◌, true, false, cond, if◌then◌else◌, List, [], ◌∷◌, ◌++◌, All, Contains, count_by, drop, flat_map, length, map, slice_index_or}
 use Rattle.std.specs.List.{AllZip}
 use Rattle.std.proofs.Common.{◌∙◌, refl, sym, ap, subst, inl, inr, length-append, arith}
 use Rattle.std.proofs.lemmas.Bool.{eq-eqb}
 use Rattle.std.proofs.lemmas.Bool.Decides.{eqb_tells}
 use Rattle.std.proofs.lemmas.List.{map-append}
 use Rattle.std.proofs.lemmas.List.Concat.{flat_map-append}
-use Rattle.mail_contract.specs.Takes.{from_sender}
+use Rattle.std.proofs.lemmas.List.Elements.{All-append, All-cons, All-nil, All-weaker}
+use Rattle.std.proofs.lemmas.List.Sums.{sum_by-cons, sum_by-le}
+use Rattle.lattice_laws.proofs.MembersLemmas.{contains_first, contains_later}
+use Rattle.mail_contract.specs.Takes.{IsFront, from_sender}
 use Rattle.mail_contract.proofs.WovenLemmas.{from_sender-append, from_sender_here, from_sender_there}
 use Rattle.composed_value.specs.declared.put.Put.{Put}
-use Rattle.placement.specs.Asked.{home_at}
 use Rattle.session_known.specs.Requests.{Sent, SentAsk, SentPut, asks_sent, puts_sent, sent_by, sent_from}
 use Rattle.session_known.specs.Session.{Client, State, after, puts_by}
 use Rattle.session_known.specs.declared.report.Answer.{Answer}
@@ -17,6 +19,7 @@ use Rattle.session_known.specs.declared.script.Line.{Line}
 use Rattle.session_known.specs.declared.script.Line.TheVariants as lines
 use Rattle.session_proxy.specs.Local.{key_asked, order_asked}
 use Rattle.session_known.specs.Lawful.{required}
+use Rattle.session_proxy.specs.Polls.{is_ask}
 use Rattle.session_proxy.specs.Run.{AreAnswered, IsAnswered, IsReplyTo}
 use Rattle.session_proxy.specs.Share.{IsAsked, request_of, to_worker}
 use Rattle.session_proxy.proofs.AskLemmas.{ask_there, asks_front}
@@ -28,7 +31,9 @@ use Rattle.store_msg.specs.declared.request.Request.{Request}
 use Rattle.store_msg.specs.declared.request.Request.TheVariants as requests
 use Rattle.worker_core.specs.Share.{Asked, asked_by, gets_after}
 use Rattle.worker_core.proofs.RepliesLemmas.{gets_after-append}
+use Rattle.run_ledger.proofs.MessagesLemmas.{front_splits}
 use Rattle.run_ledger.proofs.MomentsLemmas.{in_all}
+use Rattle.run_ledger.proofs.OpenAsksLemmas.{ArePuts, puts_are}
 
 -- what holds place by place of two lists, of their fronts and of their backs
 pub zip_parts : {A B : Type 0} (R : A → B → Type 0) (xs more_xs : List A) (ys more_ys : List B) → length xs ≡ length ys → AllZip R (xs ++ more_xs) (ys ++ more_ys)
@@ -96,8 +101,16 @@ module _ {M : Type 0} (sender : ℕ) where
 abbrev pub gets_in : List Request → List Asked
 gets_in those = flat_map (asked_by []) those
 
-gets_in-append : (xs ys : List Request) → gets_in (xs ++ ys) ≡ gets_in xs ++ gets_in ys
-gets_in-append xs ys = flat_map-append (asked_by []) xs ys
+-- two lists of requests have the gets of both
+pub gets_of_both : (xs ys : List Request) → length (gets_in (xs ++ ys)) ≡ length (gets_in xs) + length (gets_in ys)
+gets_of_both xs ys = ap length (flat_map-append (asked_by []) xs ys) ∙ length-append (gets_in xs) (gets_in ys)
+
+-- so a front has no more than the whole
+pub gets_in_front : (front whole : List Request) → IsFront front whole → length (gets_in front) ≤ length (gets_in whole)
+gets_in_front front whole is =
+    let rest : List Request = drop (length front) whole in
+    let both = ap (λ those. length (gets_in those)) (front_splits front whole is) ∙ gets_of_both front rest in
+    omega (arith, both)
 
 -- a request has one get or none, whatever came before
 as_many_asked : (before : List (ℕ × Request)) (request : Request) → length (asked_by before request) ≡ length (asked_by [] request)
@@ -114,6 +127,33 @@ as_many_gets session before (message ∷ received) =
     elim (message.0 == session) as (λ own. length ((if own then asked_by before message.1 else []) ++ later) ≡ length (gets_in (if own then message.1 ∷ rest else rest))) [
       | true ↦ omega (arith, as_many, as_many_asked before message.1, length-append (asked_by before message.1) later, length-append (asked_by [] message.1) (gets_in rest))
       | false ↦ as_many
+    ]
+
+-- the request that a get came by
+abbrev pub get_of : Asked → Request
+get_of get = requests.Get get.ask get.key get.required
+
+-- the get of one request is that request
+get_is : (before : List (ℕ × Request)) (request : Request) (others : List Request) → All (λ get. Contains (request ∷ others) (get_of get)) (asked_by before request)
+get_is before (requests.Put key put) others = All-nil (λ get. Contains (requests.Put key put ∷ others) (get_of get))
+get_is before (requests.Get ask key required) others =
+    let get : Asked = record { ask = ask; key = key; required = required; before = before } in
+    let Has = λ (its : Asked). Contains (get_of get ∷ others) (get_of its) in
+    All-cons Has get [] (contains_first (get_of get) others) (All-nil Has)
+
+-- each of a session's gets among those received came by one of its requests
+pub gets_came : (session : ℕ) (before received : List (ℕ × Request)) → All (λ get. Contains (from_sender session received) (get_of get)) (gets_after session before received)
+gets_came session before [] = All-nil (λ get. Contains [] (get_of get))
+gets_came session before (message ∷ received) =
+    let rest : List Request = from_sender session received in
+    let later : List Asked = gets_after session (before ++ message ∷ []) received in
+    let came = gets_came session (before ++ message ∷ []) received in
+    elim (message.0 == session) as (λ own. All (λ get. Contains (if own then message.1 ∷ rest else rest) (get_of get)) ((if own then asked_by before message.1 else []) ++ later)) [
+      | true ↦
+          let Has = λ (get : Asked). Contains (message.1 ∷ rest) (get_of get) in
+          All-append Has (asked_by before message.1) later (get_is before message.1 rest)
+          (All-weaker (λ get. Contains rest (get_of get)) Has (λ get has. contains_later message.1 (get_of get) rest has) later came)
+      | false ↦ came
     ]
 
 -- A reply of a worker to a get of a session, by what came of the session before.
@@ -167,6 +207,15 @@ asks_more order first key required asks =
     ∙ take_one_more all asks (slice_index_or order (asks % length order) 0, SentAsk (first + asks) key required) (ask_there order first key required asks (asks + 1) (omega arith))
     ∙ ap (λ front. front ++ (slice_index_or order (asks % length order) 0, SentAsk (first + asks) key required) ∷ []) (asks_front order first key required asks (asks + 1) (omega arith))
 
+-- how many asks are among requests
+abbrev pub asks_in : List (ℕ × Sent) → ℕ
+asks_in sent = count_by (λ one. is_ask one.1) sent
+
+-- a request is a get where it is an ask
+one_get : (item : Sent) → length (asked_by [] (request_of item)) ≡ cond (is_ask item) 1 0
+one_get (SentAsk ask key required) = refl
+one_get (SentPut key put) = refl
+
 module _ (worker : ℕ) where
   -- how many gets go to the worker
   abbrev pub gets_to : List (ℕ × Sent) → ℕ
@@ -174,8 +223,7 @@ module _ (worker : ℕ) where
 
   pub gets_to-append : (sent more : List (ℕ × Sent)) → gets_to (sent ++ more) ≡ gets_to sent + gets_to more
   gets_to-append sent more =
-      ap (λ those. length (gets_in those)) (to_worker-append worker sent more) ∙ ap length (gets_in-append (to_worker worker sent) (to_worker worker more))
-      ∙ length-append (gets_in (to_worker worker sent)) (gets_in (to_worker worker more))
+      ap (λ those. length (gets_in those)) (to_worker-append worker sent more) ∙ gets_of_both (to_worker worker sent) (to_worker worker more)
 
   -- as many replies came from it as asks went there
   pub as_many_replied : (asks : List (ℕ × Sent)) (replies : List PlainReply) → AllZip IsReplyTo asks replies → gets_to asks ≡ length (from_worker worker replies)
@@ -193,16 +241,27 @@ module _ (worker : ℕ) where
   as_many_replied [] (reply ∷ replies) all = absurd all
   as_many_replied (ask ∷ asks) [] all = absurd all
 
-  -- puts are no gets
-  no_gets : (table : List (List ℕ)) (client : Client) (made : List (ℕ × Put)) → gets_to (puts_sent table client made) ≡ 0
-  no_gets table client [] = refl
-  no_gets table client (entry ∷ made) =
-      let rest = no_gets table client made in
-      elim (home_at table client.session entry.0 == worker) as
-      (λ here. length (gets_in (map request_of (if here then SentPut entry.0 entry.1 ∷ from_sender worker (puts_sent table client made) else from_sender worker (puts_sent table client made)))) ≡ 0) [
-        | true ↦ rest
-        | false ↦ rest
+  -- no more go there than there are asks
+  pub few_gets : (sent : List (ℕ × Sent)) → gets_to sent ≤ asks_in sent
+  few_gets [] = omega arith
+  few_gets (one ∷ sent) =
+      let rest = few_gets sent in
+      let counted = sum_by-cons (λ (one : ℕ × Sent). cond (is_ask one.1) 1 0) one sent in
+      let both = length-append (asked_by [] (request_of one.1)) (gets_in (to_worker worker sent)) in
+      elim (one.0 == worker) as (λ here. length (gets_in (map request_of (if here then one.1 ∷ from_sender worker sent else from_sender worker sent))) ≤ asks_in (one ∷ sent)) [
+        | true ↦ omega (arith, rest, counted, both, one_get one.1)
+        | false ↦ omega (arith, rest, counted)
       ]
+
+  -- so none of puts
+  pub none_of_puts : (sent : List (ℕ × Sent)) → ArePuts sent → gets_to sent ≡ 0
+  none_of_puts sent puts =
+      let none =
+      sum_by-le (λ (one : ℕ × Sent). cond (is_ask one.1) 1 0) 0 sent
+      (All-weaker (λ (one : ℕ × Sent). is_ask one.1 ≡ false) (λ (one : ℕ × Sent). cond (is_ask one.1) 1 0 ≤ 0)
+      (λ one is. subst (λ ask. cond ask 1 0 ≤ 0) (sym is) (omega arith)) sent puts)
+      in
+      omega (arith, few_gets sent, none)
 
   module _ (table : List (List ℕ)) (client : Client) where
     asked_as_many : (state : State) (first : ℕ) (line : Line) (answer : Answer) (its : List PlainReply) → IsAsked line → IsAnswered table client state first line answer its
@@ -215,7 +274,8 @@ module _ (worker : ℕ) where
     alone_as_many : (state : State) (first : ℕ) (line : Line) (answer : Answer) (its : List PlainReply) → (IsAsked line → ⊥) → its ≡ []
         → gets_to (sent_by table client state first (length its) line answer) ≡ length (from_worker worker its)
     alone_as_many state first line answer its no_ask none =
-        ap gets_to (sent_alone table client state first (length its) line answer no_ask) ∙ no_gets table client (puts_by client state line answer)
+        let made : List (ℕ × Put) = puts_by client state line answer in
+        ap gets_to (sent_alone table client state first (length its) line answer no_ask) ∙ none_of_puts (puts_sent table client made) (puts_are table client made)
         ∙ ap (λ those. length (from_worker worker those)) (sym none)
 
     line_as_many : (state : State) (first : ℕ) (line : Line) (answer : Answer) (its : List PlainReply) → IsAnswered table client state first line answer its

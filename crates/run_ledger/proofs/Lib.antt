@@ -15,16 +15,19 @@ pub mod FormLemmas
 pub mod FrontsLemmas
 pub mod GetsLemmas
 pub mod HeardLemmas
+pub mod HeldLemmas
 pub mod JoinedCountsLemmas
 pub mod JoinedSoundLemmas
 pub mod LawfulLemmas
 pub mod LegalLemmas
 pub mod LinesLemmas
 pub mod MadePutsLemmas
+pub mod MessagesLemmas
 pub mod MomentsLemmas
 pub mod NamedSessionsLemmas
 pub mod NamedValuesLemmas
 pub mod OnKeyLemmas
+pub mod OpenAsksLemmas
 pub mod OwnPutsLemmas
 pub mod OwnSoundLemmas
 pub mod PartiesLemmas
@@ -40,4 +43,5 @@ pub mod SessionsLemmas
 pub mod ShownLemmas
 pub mod SoundLemmas
 pub mod SoundPartLemmas
+pub mod UnheardLemmas
 pub mod WorkersLemmas

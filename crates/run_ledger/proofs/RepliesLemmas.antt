@@ -1,5 +1,5 @@
 -- The replies that a session heard, worker by worker: each answers a get there in its place, and on one key their clocks never go down.
-use Rattle.std.specs.Prelude.{◌≡◌, ℕ, ◌+◌, ◌-◌, List, [], ◌∷◌, ◌++◌, All, AllPairs, Contains, length, map, slice_index_or}
+use Rattle.std.specs.Prelude.{◌≡◌, ℕ, ◌+◌, ◌-◌, List, [], ◌∷◌, ◌++◌, All, AllPairs, Contains, length, map, slice_index_or, ⊤}
 use Rattle.std.specs.List.{AllZip}
 use Rattle.std.proofs.Common.{◌∙◌, refl, sym, ap, subst, length-append, arith}
 use Rattle.std.proofs.lemmas.List.{get_or-append_right, get_or_append_left, get_or_default}
@@ -12,18 +12,24 @@ use Rattle.store_msg.specs.Reply.{PlainReply}
 use Rattle.worker_core.specs.Share.{CoversEarlier, IsReplyBy, gets_after}
 use Rattle.run_ledger.specs.Came.{Came, CameOfSession}
 use Rattle.run_ledger.specs.Ledger.{Ledger, heard_by, worker_at}
-use Rattle.run_ledger.proofs.FrontsLemmas.{each_from}
 use Rattle.run_ledger.proofs.GetsLemmas.{by_worker, from_worker}
+use Rattle.run_ledger.proofs.MessagesLemmas.{each_from}
 use Rattle.run_ledger.proofs.MomentsLemmas.{in_all}
 use Rattle.run_ledger.proofs.SessionsLemmas.{IsSession, answers_at, client_at, lines_at, of_session}
 use Rattle.run_ledger.proofs.WorkersLemmas.{IsWorker, is_worker, me_is, worker_came}
 
--- what holds of each second item of pairs that are related
-pub zip_right : {A B : Type 0} (R : A → B → Type 0) (P : B → Type 0) → ((a : A) (b : B) → R a b → P b) → (xs : List A) (ys : List B) → AllZip R xs ys → All P ys
-zip_right R P each [] [] all = All-nil P
-zip_right R P each (x ∷ xs) (y ∷ ys) all = All-cons P y ys (each x y all.0) (zip_right R P each xs ys all.1)
-zip_right R P each [] (y ∷ ys) all = absurd all
-zip_right R P each (x ∷ xs) [] all = absurd all
+-- what holds of each second item of pairs that are related, where something holds of each first
+pub zip_over : {A B : Type 0} (R : A → B → Type 0) (P : A → Type 0) (Q : B → Type 0) → ((a : A) (b : B) → R a b → P a → Q b)
+    → (xs : List A) (ys : List B) → AllZip R xs ys → All P xs → All Q ys
+zip_over R P Q each [] [] zipped all = All-nil Q
+zip_over R P Q each (x ∷ xs) (y ∷ ys) zipped all =
+    All-cons Q y ys (each x y zipped.0 (All-head P x xs all)) (zip_over R P Q each xs ys zipped.1 (All-tail P x xs all))
+zip_over R P Q each [] (y ∷ ys) zipped all = absurd zipped
+zip_over R P Q each (x ∷ xs) [] zipped all = absurd zipped
+
+-- and whatever the first is
+zip_right : {A B : Type 0} (R : A → B → Type 0) (P : B → Type 0) → ((a : A) (b : B) → R a b → P b) → (xs : List A) (ys : List B) → AllZip R xs ys → All P ys
+zip_right R P each xs ys zipped = zip_over R (λ a. ⊤) P (λ a b related any. each a b related) xs ys zipped (λ k d low. tt)
 
 -- what relates each item to each later one relates those of a front to those of its back
 pub pairs_across : {X : Type 0} (R : X → X → Type 0) (xs ys : List X) (x y : X) → AllPairs R (xs ++ ys) → Contains xs x → Contains ys y → R x y

@@ -1,6 +1,6 @@
 -- A worker that was sealed: it worked on all that it received, its replies answer all gets, and what it told were own cells, the present ones
 -- last.
-use Rattle.std.specs.Prelude.{◌≡◌, ◌⊎◌, ◌==◌, ◌&&◌, Bool, true, false, ℕ, ◌-◌, ◌<◌, ◌≤◌, IsTrue, is_some, List, [], ◌∷◌, ◌++◌, All, AllPairs, Contains, filter, flat_map, length, slice_index_or, Some}
+use Rattle.std.specs.Prelude.{◌≡◌, ◌⊎◌, ◌==◌, ◌&&◌, Bool, true, false, ℕ, ◌-◌, ◌<◌, ◌≤◌, IsTrue, is_some, List, [], ◌∷◌, All, AllPairs, Contains, filter, flat_map, length, slice_index_or, Some}
 use Rattle.std.specs.List.{AllZip}
 use Rattle.std.proofs.Common.{◌∙◌, refl, sym, ap, subst, inl, inr, append-nil, arith}
 use Rattle.std.proofs.lemmas.Bool.{cases_lt, eq-eqb, eqb-true}
@@ -17,11 +17,12 @@ use Rattle.merge_world.specs.declared.private_map.KeyCells.{KeyCells}
 use Rattle.session_known.specs.declared.script.Script.{Script}
 use Rattle.store_msg.specs.Reply.{PlainReply}
 use Rattle.store_msg.specs.declared.request.Request.{Request}
-use Rattle.worker_core.specs.Share.{Asked, CoversEarlier, IsAnswerCell, IsLast, IsReplyBy, WasOwn, cells_on, entries_in, gets_after, held_for, own_cell, replies_to, told_on, told_to}
+use Rattle.worker_core.specs.Share.{Asked, CoversEarlier, IsAnswerCell, IsLast, IsReplyBy, WasOwn, cells_on, entries_in, gets_after, own_cell, told_on, told_to}
 use Rattle.worker_core.specs.State.{Entries, changed_of, kept_batch, lives_at, mate_at}
 use Rattle.run_ledger.specs.Parties.{IsSealed, SealedWorker}
 use Rattle.run_ledger.proofs.FinalsLemmas.{in_piece, is_there}
-use Rattle.run_ledger.proofs.SessionsLemmas.{IsSession, from_first}
+use Rattle.run_ledger.proofs.HeldLemmas.{all_worked, answering, replies_sent}
+use Rattle.run_ledger.proofs.SessionsLemmas.{IsSession}
 
 -- a weaker relation holds place by place too
 zip_weaker : {A B : Type 0} (R S : A → B → Type 0) → ((x : A) (y : B) → R x y → S x y) → (xs : List A) (ys : List B) → AllZip R xs ys → AllZip S xs ys
@@ -89,11 +90,11 @@ told_last worker place key cell last =
 module _ (script : Script) (table : List (List ℕ)) (worker : SealedWorker) (sealed : IsSealed script table worker) where
   -- it worked on all that it received
   worked_is : sealed.share.cells.worked ≡ worker.lists.received
-  worked_is = sym (sealed.share.cells.received_is ∙ ap (λ kept. sealed.share.cells.worked ++ kept) sealed.none_kept ∙ append-nil sealed.share.cells.worked)
+  worked_is = all_worked sealed.share.cells sealed.none_kept
 
   -- and so once it has heard all gossip
   worked_then : sealed.holds.worked ≡ worker.lists.received
-  worked_then = sym (sealed.holds.received_is ∙ append-nil sealed.holds.worked)
+  worked_then = all_worked sealed.holds refl
 
   -- each batch that it had joined it has joined in the end
   joined_then : (sender : ℕ) (batch : Entries) → Contains sealed.share.cells.joined (sender, batch) → Contains sealed.holds.joined (sender, batch)
@@ -101,14 +102,8 @@ module _ (script : Script) (table : List (List ℕ)) (worker : SealedWorker) (se
       let came = sealed.share.cells.got_are.no_others sender batch (Contains-append_left sealed.share.cells.joined (kept_batch worker.lists.state.kept) (sender, batch) has_it) in
       subst (λ batches. Contains batches (sender, batch)) (append-nil sealed.holds.joined) (sealed.holds.got_are.all sender came.0 batch (sealed.grown sender came.0 batch came.1))
 
-  -- no reply to a session is held
-  replies_are : (session : ℕ) → IsSession script session → replies_to worker.lists session ≡ replied_to worker session
-  replies_are session within =
-      ap (λ held. slice_index_or ([] ∷ worker.lists.replied) session [] ++ held_for session held) sealed.none_held ∙ append-nil (slice_index_or ([] ∷ worker.lists.replied) session [])
-      ∙ from_first [] worker.lists.replied session within.0
-
   -- there is a sender of replies to each session
-  replying : (session : ℕ) → IsSession script session → (1 ≤ session) × (session ≤ length worker.lists.replied)
+  pub replying : (session : ℕ) → IsSession script session → (1 ≤ session) × (session ≤ length worker.lists.replied)
   replying session within = (within.0, let many = sealed.sessions in omega (arith, within.1, many))
 
   -- a reply by what it had joined is one by what it has joined in the end
@@ -132,13 +127,12 @@ module _ (script : Script) (table : List (List ℕ)) (worker : SealedWorker) (se
   replied session within =
       zip_weaker (IsReplyBy worker.lists.state.me worker.lists.state.placement worker.lists.state.kinds sealed.share.cells.joined) (IsReplyBy worker.lists.state.me table script.kinds sealed.holds.joined) reply_then
       (gets_after session [] worker.lists.received) (replied_to worker session)
-      (subst (AllZip (IsReplyBy worker.lists.state.me worker.lists.state.placement worker.lists.state.kinds sealed.share.cells.joined) (gets_after session [] worker.lists.received)) (replies_are session within)
-      (subst (λ worked. AllZip (IsReplyBy worker.lists.state.me worker.lists.state.placement worker.lists.state.kinds sealed.share.cells.joined) (gets_after session [] worked) (replies_to worker.lists session)) worked_is
-      (sealed.share.replies.each session (replying session within))))
+      (answering worker.lists sealed.share session (replying session within) sealed.none_kept sealed.none_held)
 
   -- and on one key their clocks never go down
   pub rising : (session : ℕ) → IsSession script session → AllPairs CoversEarlier (replied_to worker session)
-  rising session within = subst (AllPairs CoversEarlier) (replies_are session within) (sealed.share.replies.rising session (replying session within))
+  rising session within =
+      subst (AllPairs CoversEarlier) (replies_sent worker.lists sealed.share session (replying session within) sealed.none_held) (sealed.share.replies.rising session (replying session within))
 
   -- each entry of a batch that it told is an own cell after some front of what it received
   pub were_own : (place : ℕ) → place < length worker.lists.told → (batch : Entries) → Contains (told_to worker.lists place) batch

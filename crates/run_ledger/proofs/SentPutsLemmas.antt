@@ -1,8 +1,7 @@
 -- Each put that a session sends is its own.
-use Rattle.std.specs.Prelude.{◌≡◌, ℕ, ◌+◌, ◌%◌, ◌==◌, true, false, if◌then◌else◌, leb, List, [], ◌∷◌, All, length, map, slice_index_or}
+use Rattle.std.specs.Prelude.{◌≡◌, ℕ, ◌+◌, ◌%◌, true, false, if◌then◌else◌, leb, List, [], ◌∷◌, All, length, slice_index_or}
 use Rattle.std.specs.List.{range_with_len}
-use Rattle.std.proofs.lemmas.List.Elements.{All-append, All-cons, All-head, All-map, All-nil, All-tail}
-use Rattle.mail_contract.specs.Takes.{from_sender}
+use Rattle.std.proofs.lemmas.List.Elements.{All-append, All-cons, All-map, All-nil}
 use Rattle.placement.specs.Asked.{ask_order, home_at}
 use Rattle.composed_value.specs.declared.put.Put.{Put}
 use Rattle.session_known.proofs.NumberedLemmas.{IsOwn, line_own}
@@ -15,6 +14,7 @@ use Rattle.session_known.specs.declared.script.Line.TheVariants as lines
 use Rattle.session_proxy.specs.Share.{request_of, to_worker}
 use Rattle.store_msg.specs.declared.request.Request.{Request}
 use Rattle.worker_core.specs.Share.{put_in}
+use Rattle.run_ledger.proofs.MessagesLemmas.{all_to_worker}
 
 module _ (client : Client) where
   -- a request whose put, if it has one, is
@@ -55,16 +55,8 @@ module _ (client : Client) where
         (sent_by_own state first asks line answer) (sent_own reached next said lines answers)
     sent_own state first said lines answers = All-nil SendsOwn
 
-    to_worker_own : (worker : ℕ) (sent : List (ℕ × Sent)) → All SendsOwn sent → All PutsOwn (to_worker worker sent)
-    to_worker_own worker [] own = All-nil PutsOwn
-    to_worker_own worker (one ∷ sent) own =
-        let rest = to_worker_own worker sent (All-tail SendsOwn one sent own) in
-        elim (one.0 == worker) as (λ there. All PutsOwn (map request_of (if there then one.1 ∷ from_sender worker sent else from_sender worker sent))) [
-          | true ↦ All-cons PutsOwn (request_of one.1) (to_worker worker sent) (All-head SendsOwn one sent own) rest
-          | false ↦ rest
-        ]
-
     -- so are all that go to a worker
     pub requests_own : (worker : ℕ) (state : State) (first : ℕ) (said : List ℕ) (lines : List Line) (answers : List Answer)
         → All PutsOwn (to_worker worker (sent_from table client state first said lines answers))
-    requests_own worker state first said lines answers = to_worker_own worker (sent_from table client state first said lines answers) (sent_own state first said lines answers)
+    requests_own worker state first said lines answers =
+        all_to_worker PutsOwn worker (sent_from table client state first said lines answers) (sent_own state first said lines answers)

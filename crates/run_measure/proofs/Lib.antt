@@ -2,6 +2,6 @@ pub mod DoneLemmas
 pub mod MeasureLemmas
 pub mod PlacedLemmas
 pub mod PollingLemmas
+pub mod ServedLemmas
 pub mod TogetherLemmas
 pub mod TurningLemmas
-pub mod TotalLemmas

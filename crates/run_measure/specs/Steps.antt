@@ -1,5 +1,5 @@
 -- What a step changes of how much a session still has to do.
-use Rattle.std.specs.Prelude.{◌≡◌, ℕ, ◌+◌, ◌≤◌, List, length, slice_get, sum_by, Some}
+use Rattle.std.specs.Prelude.{◌≡◌, ℕ, ◌+◌, ◌≤◌, List, length, slice_get, sum_by, Some, None}
 use Rattle.placement.specs.Config.{IsOneOf}
 use Rattle.session_proxy.specs.State as sessions
 use Rattle.worker_core.specs.State as workers
@@ -10,6 +10,11 @@ pub record RepliesAsTaken (sessions : ℕ) (before now : workers.Lists) : Type 0
   pub taken_more : (session : ℕ) → IsOneOf sessions session → taken session before ≤ taken session now
   pub replied_more : (session : ℕ) → IsOneOf sessions session → replied session before ≤ replied session now
   pub as_taken : (session : ℕ) → IsOneOf sessions session → replied session now + taken session before ≤ replied session before + taken session now
+
+-- A worker has served: it replied to each session no more than it took of it, took nothing back, and keeps no message.
+pub record HasServed (before now : workers.Lists) : Type 0 where
+  pub replies : RepliesAsTaken (length before.replied) before now
+  pub kept : now.state.kept ≡ None
 
 -- how much a session has done: lines answered, requests sent, and replies taken
 abbrev pub done : sessions.Lists → ℕ

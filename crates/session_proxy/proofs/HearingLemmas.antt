@@ -25,7 +25,7 @@ use Rattle.store_msg.specs.declared.request.Request.{Request}
 use Rattle.session_proxy.proofs.AfterLemmas.{counts_shown, ended_shown}
 use Rattle.session_proxy.proofs.AskLemmas.{asks_front, awaited_is, most_is, open_asks}
 use Rattle.session_proxy.proofs.AskingLemmas.{few_most, few_next, few_of_key, key_there, may_ask, out_few}
-use Rattle.session_proxy.proofs.KeepsLemmas.{Parts, closed, closed_keeps, closed_share, keeps_as, keeps_open, parts_are, parts_of}
+use Rattle.session_proxy.proofs.KeepsLemmas.{Parts, closed, closed_keeps, closed_share, closed_unbegun, keeps_as, keeps_open, parts_are, parts_of}
 use Rattle.session_proxy.proofs.RunLemmas.{part-push, part_of-push, sent_by_replies}
 use Rattle.session_proxy.proofs.SentLemmas.{take_one_more}
 use Rattle.session_proxy.specs.Kept.{IsOn, Keeps}
@@ -469,6 +469,7 @@ module _ (local : Local) (answers : Vec Answer) (items : answers.items ≡ local
               of_ask = heard_it.2;
               ends = ends;
               answers = ap (λ course. course.answers) is.course_is;
+              unbegun = closed_unbegun (course_of before) (course_of now) answer_now (before.asks + before.out) is.course_is;
               sent = refl;
             }
             in (

@@ -18,6 +18,7 @@ use Rattle.session_proxy.proofs.SentLemmas.{drop_one_more}
 use Rattle.session_proxy.specs.Kept.{IsOn, Keeps, Stands}
 use Rattle.session_proxy.specs.Lines.{AreReplicas, MayRun, most_sent}
 use Rattle.session_proxy.specs.Local.{KeepsAs, course_of}
+use Rattle.session_proxy.specs.Polls.{IsUnbegun}
 use Rattle.session_proxy.specs.Run.{IsAnswered, IsPartOf, Lacks}
 use Rattle.session_proxy.specs.Share.{AreLacking, Share, lacks, open_most, to_worker}
 use Rattle.session_proxy.specs.State.{Course, Lists, open_line, state_now}
@@ -33,6 +34,10 @@ if_some (Some x) holds = holds x
 -- the course once the open line is answered, and its asks are counted
 abbrev pub closed : Course → Answer → ℕ → Course
 closed course answer asks = record { client = course.client; table = course.table; lines = course.lines; answers = course.answers ++ answer ∷ []; asks = asks; out = 0; waits = false; kept = None }
+
+-- the next line is not begun then
+pub closed_unbegun : (course now : Course) (answer : Answer) (asks : ℕ) → now ≡ closed course answer asks → IsUnbegun now
+closed_unbegun course now answer asks is = record { out = ap (λ (course : Course). course.out) is; waits = ap (λ (course : Course). course.waits) is; kept = ap (λ (course : Course). course.kept) is }
 
 -- a line that is not begun lacks nothing
 pub none_lacking : (course : Course) → course.out ≡ 0 → course.waits ≡ false → AreLacking course []

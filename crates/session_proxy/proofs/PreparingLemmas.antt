@@ -13,11 +13,11 @@ use Rattle.session_known.specs.Requests.{Sent}
 use Rattle.session_known.specs.declared.script.Line.{Line}
 use Rattle.store_msg.specs.Reply.{PlainReply}
 use Rattle.store_msg.specs.declared.request.Request.{Request}
-use Rattle.session_proxy.proofs.KeepsLemmas.{keeps_as, keeps_open}
+use Rattle.session_proxy.proofs.KeepsLemmas.{closed_unbegun, keeps_as, keeps_open}
 use Rattle.session_proxy.proofs.PutsLemmas.{made_there, makes_one, puts_length}
 use Rattle.session_proxy.proofs.SendingLemmas.{IsPosted, sends_last, sends_put}
 use Rattle.session_proxy.specs.Kept.{ArePutting, Keeps}
-use Rattle.session_proxy.specs.Local.{KeepsAs, PreparesOf, SendsOf, course_of, put_at}
+use Rattle.session_proxy.specs.Local.{KeepsAs, PreparesOf, SendsOf, answer_sent, course_of, put_at}
 use Rattle.session_proxy.specs.Polls.{Sends}
 use Rattle.session_proxy.specs.Share.{open_most}
 use Rattle.session_proxy.specs.State.{Course, IsFixed}
@@ -116,7 +116,7 @@ module _ (old now : Local) (puts : Puts) (request : Request) (sent : List (List 
               | inr (last, is) ↦ inr (
                 (_, ap (λ (course : Course). course.answers) is.course_is),
                 last ∙ sym (puts_length course line keeps.stands.2 old.session.state puts keeps.stands.3),
-                ap (λ (course : Course). course.out) is.course_is,
+                closed_unbegun course (course_of now) (answer_sent line old.session puts) course.asks is.course_is,
               )
             ];
       }

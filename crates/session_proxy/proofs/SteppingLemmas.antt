@@ -16,11 +16,12 @@ use Rattle.store_msg.specs.declared.request.Request.{Request}
 use Rattle.session_proxy.proofs.AfterLemmas.{puts_by_due}
 use Rattle.session_proxy.proofs.AskLemmas.{most_is, replicas_there}
 use Rattle.session_proxy.proofs.ClosingLemmas.{closes_alone}
-use Rattle.session_proxy.proofs.KeepsLemmas.{keeps_as, keeps_open, may_run}
+use Rattle.session_proxy.proofs.KeepsLemmas.{closed_unbegun, keeps_as, keeps_open, may_run}
 use Rattle.session_proxy.specs.Beginning.{AnswersAtOnce}
 use Rattle.session_proxy.specs.Kept.{ArePutting, Keeps, Stands}
 use Rattle.session_proxy.specs.Lines.{AreReplicas, MayRun, answer_at, is_worn, most_asks, puts_due}
 use Rattle.session_proxy.specs.Local.{StaysAs, answered_with, course_of, key_asked}
+use Rattle.session_proxy.specs.Polls.{AnswersAlone}
 use Rattle.session_proxy.specs.Share.{IsAsked, open_most, open_sent, to_worker}
 use Rattle.session_proxy.specs.State.{Course, Lists, state_now}
 use Rattle.session_proxy.specs.Steps.{BeginsOpen}
@@ -70,6 +71,31 @@ module _ (before now : Local) (sent : List (List Request)) (received : List (ℕ
   nothing_keeps : before.begun ≡ ways.Nothing → Keeps (record { course = course_of before; sent = sent; received = received }) before.session ways.Nothing before.made
   nothing_keeps nothing = subst (λ begun. Keeps (record { course = course_of before; sent = sent; received = received }) before.session begun before.made) nothing keeps
 
+  -- how far it is once the open line is answered as it is begun
+  answered_course : (opens : BeginsOpen true before now) → course_of now ≡ answered_with (course_of before) (answer_at (state_now (course_of before)) opens.line)
+  answered_course opens =
+      let kept = nothing_keeps opens.nothing in
+      let at_once : AnswersAtOnce opens.line before.session now.session before.answers.items now.answers.items = opens.begins.0 in
+      let course : Course = course_of before in
+      let answer : Answer = answer_at (state_now course) opens.line in
+      opens.course_is ∙ ap (λ client. record course { client = client; answers = now.answers.items }) at_once.client_is
+      ∙ ap (λ answers. record course { answers = answers }) (at_once.answers_are ∙ ap (λ state. before.answers.items ++ answer_at state opens.line ∷ []) kept.stands.0)
+      ∙ ap (λ out. record course { answers = before.answers.items ++ answer ∷ []; out = out }) kept.stands.1
+      ∙ ap (λ waits. record course { answers = before.answers.items ++ answer ∷ []; out = 0; waits = waits }) kept.stands.2.waits
+      ∙ ap (λ kept. record course { answers = before.answers.items ++ answer ∷ []; out = 0; waits = false; kept = kept }) kept.stands.2.kept
+
+  -- and what it did then
+  pub answered_alone : BeginsOpen true before now → AnswersAlone (record { course = course_of before; sent = sent; received = received }) (record { course = course_of now; sent = sent; received = received })
+  answered_alone opens =
+      let is = answered_course opens in
+      record {
+        answers = (answer_at (state_now (course_of before)) opens.line, ap (λ (course : Course). course.answers) is);
+        course = opens.course_is ∙ ap (λ client. record (course_of before) { client = client; answers = now.answers.items }) opens.begins.0.client_is;
+        sent = refl;
+        received = refl;
+        unbegun = closed_unbegun (course_of before) (course_of now) (answer_at (state_now (course_of before)) opens.line) before.asks is;
+      }
+
   -- once the open line is answered as it is begun
   pub answered_keeps : BeginsOpen true before now → Keeps (record { course = course_of now; sent = sent; received = received }) now.session now.begun now.made
   answered_keeps opens =
@@ -85,19 +111,12 @@ module _ (before now : Local) (sent : List (List Request)) (received : List (ℕ
       in
       let none_sent : open_sent course ≡ [] = ap (λ n. take n (open_most course)) kept.stands.1 in
       let so_far : List (ℕ × Sent) = sent_from course.table course.client start 1 (map length kept.share.replies) course.lines course.answers in
-      let course_is : course_of now ≡ answered_with course answer =
-      opens.course_is ∙ ap (λ client. record course { client = client; answers = now.answers.items }) at_once.client_is
-      ∙ ap (λ answers. record course { answers = answers }) (at_once.answers_are ∙ ap (λ state. before.answers.items ++ answer_at state opens.line ∷ []) is)
-      ∙ ap (λ out. record course { answers = before.answers.items ++ answer ∷ []; out = out }) kept.stands.1
-      ∙ ap (λ waits. record course { answers = before.answers.items ++ answer ∷ []; out = 0; waits = waits }) kept.stands.2.waits
-      ∙ ap (λ kept. record course { answers = before.answers.items ++ answer ∷ []; out = 0; waits = false; kept = kept }) kept.stands.2.kept
-      in
       let state_is : now.session.state ≡ after course.client S opens.line answer = at_once.state_is ∙ ap (λ state. after course.client state opens.line (answer_at state opens.line)) is in
       let closed = closes_alone (record { course = course; sent = sent; received = received }) opens.line opens.line_is at_once.no_ask before.session ways.Nothing before.made kept kept.stands.2.kept sent now.session refl
       (λ w of. kept.share.sent w of ∙ ap (λ its. to_worker w (so_far ++ its)) (none_sent ∙ sym none_put)) at_once.client_is state_is
       in
       keeps_as now sent received (answered_with course answer) now.session ways.Nothing None
-      (record { course_is = course_is; session_is = refl; begun_is = opens.begins.1 ∙ opens.nothing; made_is = opens.made_is ∙ kept.stands.3 }) closed
+      (record { course_is = answered_course opens; session_is = refl; begun_is = opens.begins.1 ∙ opens.nothing; made_is = opens.made_is ∙ kept.stands.3 }) closed
 
   -- the puts of the open line are to be made
   opened_puts : (kept : Keeps (record { course = course_of before; sent = sent; received = received }) before.session ways.Nothing before.made) (line : Line) → (IsAsked line → ⊥) → 0 < length (puts_due (state_now (course_of before)) line)

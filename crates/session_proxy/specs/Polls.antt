@@ -30,6 +30,12 @@ IsTaken reply before now =
     ((before.course.kept ≡ Some reply) × (now.received ≡ before.received))
     ⊎ ((before.course.kept ≡ None) × (sender : ℕ) × (now.received ≡ before.received ++ (sender, reply) ∷ []))
 
+-- Of the line that is open nothing was sent, and no reply is awaited or kept.
+pub record IsUnbegun (course : Course) : Type 0 where
+  pub out : course.out ≡ 0
+  pub waits : course.waits ≡ false
+  pub kept : course.kept ≡ None
+
 -- One line is answered.
 abbrev pub AnswersOne : Lists → Lists → Type 0
 AnswersOne before now = (answer : Answer) × (now.course.answers ≡ before.course.answers ++ answer ∷ [])
@@ -48,7 +54,7 @@ pub record Sends (before now : Lists) : Type 0 where
   pub sent : now.sent ≡ slice_set before.sent (worker - 1) (slice_index_or before.sent (worker - 1) [] ++ request_of item ∷ [])
   pub received : now.received ≡ before.received
   pub course : (now.course ≡ record before.course { out = before.course.out + 1; waits = is_ask item })
-      ⊎ (AnswersOne before now × (before.course.out + 1 ≡ length (open_most before.course)) × (now.course.out ≡ 0))
+      ⊎ (AnswersOne before now × (before.course.out + 1 ≡ length (open_most before.course)) × IsUnbegun now.course)
 
 -- A line is answered without mail.
 pub record AnswersAlone (before now : Lists) : Type 0 where
@@ -56,6 +62,7 @@ pub record AnswersAlone (before now : Lists) : Type 0 where
   pub course : now.course ≡ record before.course { answers = now.course.answers }
   pub sent : now.sent ≡ before.sent
   pub received : now.received ≡ before.received
+  pub unbegun : IsUnbegun now.course
 
 -- A line is answered by the reply to its last ask: a cell is found, or as many asks were made as may be.
 pub record AnswersBy (before now : Lists) : Type 0 where
@@ -64,6 +71,7 @@ pub record AnswersBy (before now : Lists) : Type 0 where
   pub of_ask : IsAwaited before.course reply
   pub ends : IsTrue (is_found reply.answered) ⊎ (before.course.out ≡ length (open_most before.course))
   pub answers : now.course.answers ≡ before.course.answers ++ answer_by before.course.client.level before.course.out reply ∷ []
+  pub unbegun : IsUnbegun now.course
   pub sent : now.sent ≡ before.sent
 
 -- A reply that is not the one that is awaited is dropped.

@@ -133,6 +133,13 @@ impl<C: Consistency, T: Tx<Request>, R: Rx<Reply>> ProxyOver<C, T, R> {
         self.local.answers.as_slice()
     }
 
+    /// Whether a reply is awaited. Takes no memory.
+    pub fn waits(&self) -> bool
+        ensures { result ≡ self.now.course.waits }
+    {
+        self.local.waits
+    }
+
     /// Nobody is beside the box of replies any longer. Takes no memory.
     pub fn apart(&mut self)
         ensures share { Share (lists_of T.sent R.received self.new) }

@@ -1,5 +1,5 @@
 //! What a session and a worker learn of each other where their ends are held together.
-ghost use Rattle.std.specs.Prelude.{◌≡◌, ℕ, ◌-◌, [], IsTrue, List, length, map, min, slice_index_or};
+ghost use Rattle.std.specs.Prelude.{◌≡◌, ◌≢◌, ℕ, ◌-◌, ◌≤◌, [], IsTrue, List, length, map, min, slice_index_or};
 ghost use Rattle.mail_contract.specs.Lanes.{IsLaneOf};
 ghost use Rattle.mail_contract.specs.Parts.{Parts};
 ghost use Rattle.mail_contract.specs.Standing.{About, Learned};
@@ -75,6 +75,8 @@ pub trait Meets<Q: Rx<Request>, T: Tx<Reply>> {
             → IsFront (asked self.old worker)
             (from_sender (number self.old worker) (Q.received requests.old))
             → clear self.new worker }
+        ensures others { (other : ℕ) → 1 ≤ other → other ≢ worker
+            → clear self.old other → clear self.new other }
 
         // The session's box.
         ensures learned { Learned keeps (T.number replies.old) (T.sent replies.old)
@@ -135,6 +137,8 @@ pub fn meet_ends<T: Tx<Request>, R: Rx<Reply>, Q: Rx<Request, From = T>>(
         (from_sender (slice_index_or (map T.number ends.old.requests.items) (worker - 1) 0)
         (Q.received requests.old))
         → (tx : T) → slice_index_or ends.new.requests.items (worker - 1) tx ≡ tx → T.clear tx }
+    ensures others { (place : ℕ) (tx : T) → place ≢ worker - 1
+        → slice_index_or ends.new.requests.items place tx ≡ slice_index_or ends.old.requests.items place tx }
 
     // The session's box.
     ensures learned { Learned R.keeps (R.From.number replies.old) (R.From.sent replies.old)

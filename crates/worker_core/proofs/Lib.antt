@@ -7,6 +7,7 @@ pub mod MapLemmas
 pub mod MarkingLemmas
 pub mod OwnLemmas
 pub mod RepliesLemmas
+pub mod RoomLemmas
 pub mod SealedLemmas
 pub mod ServingLemmas
 pub mod TellingLemmas

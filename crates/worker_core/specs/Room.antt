@@ -1,5 +1,5 @@
 -- What room a sender has, and what comes back for want of it.
-use Rattle.std.specs.Prelude.{◌≡◌, ℕ, ◌+◌, ◌-◌, ◌≤◌, Bool, true, false, IsTrue, not, List, [], ◌∷◌, length, min, slice_get, Option, Some}
+use Rattle.std.specs.Prelude.{◌≡◌, ◌⊎◌, ℕ, ◌+◌, ◌-◌, ◌≤◌, Bool, true, false, IsTrue, not, List, [], ◌∷◌, length, min, slice_get, Option, Some, IfSome}
 use Rattle.std.specs.List.{list_any}
 use Rattle.mail_contract.specs.Got.{AreAll, missing}
 use Rattle.mail_contract.specs.Parts.{Parts}
@@ -44,3 +44,15 @@ pub record LearnsRoomInOrder {M : Type 0} (clear : Type 0) (unseen : ℕ) (keeps
 abbrev pub LearnsRoomOf : {T M : Type 0} → (T → Type 0) → (T → ℕ) → List T → ℕ → Parts → List M → List M → Type 0
 LearnsRoomOf {T} {M} clear unseen senders place keeps received sent =
     (sender : T) → slice_get senders place ≡ Some sender → LearnsRoomInOrder (clear sender) (unseen sender) keeps received sent
+
+-- A sender that found a place for the next message still does, or has sent one since.
+abbrev pub StaysClear : {T M : Type 0} → (T → Type 0) → (T → List M) → T → T → Type 0
+StaysClear clear sent before now = clear before → clear now ⊎ (length (sent before) + 1 ≤ length (sent now))
+
+-- and so each of many
+abbrev pub StayClear : {T M : Type 0} → (T → Type 0) → (T → List M) → List T → List T → Type 0
+StayClear {T} clear sent before now = (place : ℕ) (was is : T) → slice_get before place ≡ Some was → slice_get now place ≡ Some is → StaysClear clear sent was is
+
+-- the sender to the session for which a message is held found no place for it
+abbrev pub WantsPlace : {T M : Type 0} → (T → Type 0) → List T → Option (ℕ × M) → Type 0
+WantsPlace {T} clear senders held = IfSome held (λ held. (sender : T) → slice_get senders (held.0 - 1) ≡ Some sender → clear sender → ⊥)

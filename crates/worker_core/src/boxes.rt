@@ -1,5 +1,5 @@
 //! Holding a session beside the boxes.
-ghost use Rattle.std.specs.Prelude.{◌≡◌, ◌≤◌, ◌-◌, [], length, map, min, slice_get, slice_index_or, IsTrue, Some};
+ghost use Rattle.std.specs.Prelude.{◌≡◌, ◌≢◌, ℕ, ◌≤◌, ◌-◌, [], length, map, min, slice_get, slice_index_or, IsTrue, Some};
 ghost use Rattle.mail_contract.specs.Boxes.{Shows, box_of};
 ghost use Rattle.mail_contract.specs.Standing.{Learned};
 ghost use Rattle.mail_contract.specs.Takes.{IsFront, from_sender};
@@ -46,6 +46,10 @@ pub(crate) fn meet<Q: Rx<Request>, T: Tx<Reply>, S: Meets<Q, T>>(
         (slice_index_or (map T.sent replies.old.items) (session - 1) []) }
     ensures room { LearnsRoomOf T.clear T.unseen replies.new.items (session - 1) S.keeps
         (S.heard side.old me) (slice_index_or (map T.sent replies.old.items) (session - 1) []) }
+    ensures other_sessions { (place : ℕ) → place ≢ session - 1
+        → slice_get replies.new.items place ≡ slice_get replies.old.items place }
+    ensures other_workers { (other : ℕ) → 1 ≤ other → other ≢ me
+        → S.clear side.old other → S.clear side.new other }
 {
     let sender = &mut replies[usize::from(session) - 1];
     side.meet(me, requests, sender);

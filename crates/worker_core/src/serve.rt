@@ -7,6 +7,7 @@ ghost use Rattle.store_msg.specs.declared.request.Request.TheVariants as request
 ghost use Rattle.worker_core.specs.Changes.{with_key};
 ghost use Rattle.worker_core.specs.Kept.{AreEntries, IsFree, IsRequest};
 ghost use Rattle.worker_core.specs.Local.{state_of};
+ghost use Rattle.worker_core.specs.Room.{StayClear, WantsPlace};
 ghost use Rattle.worker_core.specs.Serving.{AddsReplies, NoneTakenBack, Resent, Served, Worked, did_of, since_after};
 ghost use Rattle.worker_core.specs.Share.{IsHeldFor};
 ghost use Rattle.worker_core.specs.State.{lives_at, mate_at};
@@ -187,6 +188,7 @@ fn give<T: Tx<Reply>>(
     ensures held { IsHeldFor (length replies.old.items) held.new }
     ensures err { OnErr result ((held.new ≡ held.old)
         × (map T.sent replies.new.items ≡ map T.sent replies.old.items)) }
+    ensures stay_clear { OnOk result (StayClear T.clear T.sent replies.old.items replies.new.items) }
 {
     match post(replies, usize::from(session) - 1, reply) {
         Ok(()) => Ok(()),
@@ -210,6 +212,8 @@ pub(crate) fn resend<T: Tx<Reply>>(
     ensures resent { Resent result held.old held.new
         (map T.sent replies.old.items) (map T.sent replies.new.items)
         (map T.fulls replies.old.items) (map T.fulls replies.new.items) }
+    ensures stay_clear { OnOk result (StayClear T.clear T.sent replies.old.items replies.new.items) }
+    ensures wants_place { OnOk result (WantsPlace T.clear replies.old.items held.new) }
 {
     let Some((session, reply)) = held.take() else {
         return Ok(false);
@@ -249,6 +253,7 @@ fn serve_request<T: Tx<Reply>>(
         (map T.sent replies.old.items) (map T.sent replies.new.items)) }
     ensures err { OnErr result ((state_of local.new ≡ state_of local.old)
         × (map T.sent replies.new.items ≡ map T.sent replies.old.items)) }
+    ensures stay_clear { OnOk result (StayClear T.clear T.sent replies.old.items replies.new.items) }
 {
     match request {
         Request::Put { key, put } => take_put(
@@ -288,6 +293,7 @@ pub(crate) fn serve<T: Tx<Reply>>(local: &mut Local, replies: &mut Vec<T>) -> Re
         (map T.sent replies.old.items) (map T.sent replies.new.items)) }
     ensures err { OnErr result ((state_of local.new ≡ state_of local.old)
         × (map T.sent replies.new.items ≡ map T.sent replies.old.items)) }
+    ensures stay_clear { OnOk result (StayClear T.clear T.sent replies.old.items replies.new.items) }
 {
     match local.kept.take() {
         Some(Popped::Request(session, request)) => {

@@ -1,5 +1,5 @@
 //! A worker.
-ghost use Rattle.std.specs.Prelude.{◌≡◌, ◌⊎◌, ℕ, ◌<◌, ◌≤◌, ◌+◌, ◌-◌, ◌^◌, All, Bool, true, false, List, [], is_some, length, map, option_map, min, replicate, slice_get, slice_index_or, None, Some, Ok, IsTrue, IfOk, OnOk, OnErr, MatchResult};
+ghost use Rattle.std.specs.Prelude.{◌≡◌, ◌≢◌, ◌⊎◌, ℕ, ◌<◌, ◌≤◌, ◌+◌, ◌-◌, ◌^◌, All, Bool, true, false, List, [], is_some, length, map, option_map, min, replicate, slice_get, slice_index_or, None, Some, Ok, IsTrue, IfOk, OnOk, OnErr, MatchResult};
 ghost use Rattle.lattice_laws.specs.Counts.{Rose};
 ghost use Rattle.mail_contract.specs.Boxes.{FindsNothing, FindsNothingWeak, MayHandOut, MayTake, Settles, Shows, box_of, weak_box_of};
 ghost use Rattle.mail_contract.specs.Standing.{AllPart, IsSettled, Learned};
@@ -7,7 +7,7 @@ ghost use Rattle.mail_contract.specs.Takes.{IsFront, from_sender};
 ghost use Rattle.merge_world.specs.Effects.{cells_at};
 ghost use Rattle.worker_core.specs.Kept.{IsRequest};
 ghost use Rattle.worker_core.specs.Lag.{Lags};
-ghost use Rattle.worker_core.specs.Room.{LearnsRoomOf, RoomAt};
+ghost use Rattle.worker_core.specs.Room.{LearnsRoomOf, RoomAt, StayClear, WantsPlace};
 ghost use Rattle.worker_core.specs.Sealed.{HoldsSealed, sealed_of};
 ghost use Rattle.worker_core.specs.Serving.{NoneTakenBack, Resent, RoundsIf, TakesGossip, TakesRequest, WorksOn, rests_as};
 ghost use Rattle.worker_core.specs.Share.{Share};
@@ -122,8 +122,10 @@ impl<Q: Rx<Request>, T: Tx<Reply>, O: Tx<Batch>, G: GossipRx<Batch, From = O>> W
     /// `round` requests were taken since the last one; takes a batch of gossip and joins it; takes a request,
     /// where no reply is held, and works on it; makes a round of gossip where keys are left to tell.
     ///
-    /// A reply that finds no place is held, and none that was sent is taken back. With `NoMemory` the cells are
-    /// as before, and a message that was taken is kept: a later call works on it.
+    /// A reply that finds no place is held, and none that was sent is taken back. A sender of replies that found
+    /// a place for the next one still does, or has sent one since; and where there is nothing to do while a reply
+    /// is held, its sender found no place. With `NoMemory` the cells are as before, and a message that was taken
+    /// is kept: a later call works on it.
     ///
     /// Where its box of gossip is finite and it is known of every sender how many messages are left, each batch
     /// that was joined is one fewer that may still come, and no call makes more. Where a request was worked on,
@@ -165,6 +167,10 @@ impl<Q: Rx<Request>, T: Tx<Reply>, O: Tx<Batch>, G: GossipRx<Batch, From = O>> W
             self.old.ends.gossip_out self.new.ends.gossip_out
             (lists_of Q.received T.sent O.sent G.got self.old)
             (RoomAt O.clear O.roomy O.unseen self.old.ends.gossip_out.items)) }
+        ensures stay_clear { OnOk result (StayClear T.clear T.sent
+            self.old.ends.replies.items self.new.ends.replies.items) }
+        ensures wants_place { OnNothing result (WantsPlace T.clear
+            self.old.ends.replies.items self.new.state.held) }
     {
         let did = self.step();
         self.attest();
@@ -218,6 +224,10 @@ impl<Q: Rx<Request>, T: Tx<Reply>, O: Tx<Batch>, G: GossipRx<Batch, From = O>> W
             self.old.ends.gossip_out self.new.ends.gossip_out
             (lists_of Q.received T.sent O.sent G.got self.old)
             (RoomAt O.clear O.roomy O.unseen self.old.ends.gossip_out.items)) }
+        ensures stay_clear { OnOk result (StayClear T.clear T.sent
+            self.old.ends.replies.items self.new.ends.replies.items) }
+        ensures wants_place { OnNothing result (WantsPlace T.clear
+            self.old.ends.replies.items self.new.state.held) }
     {
         if self.has_kept() {
             return self.work();
@@ -291,6 +301,8 @@ impl<Q: Rx<Request>, T: Tx<Reply>, O: Tx<Batch>, G: GossipRx<Batch, From = O>> W
             (lists_of Q.received T.sent O.sent G.got self.old)
             (lists_of Q.received T.sent O.sent G.got self.new) }
         ensures turned { self.new.state.turned ≡ self.old.state.turned }
+        ensures stay_clear { OnOk result (StayClear T.clear T.sent
+            self.old.ends.replies.items self.new.ends.replies.items) }
     {
         serve(&mut self.local, &mut self.ends.replies)
     }
@@ -307,6 +319,10 @@ impl<Q: Rx<Request>, T: Tx<Reply>, O: Tx<Batch>, G: GossipRx<Batch, From = O>> W
         ensures resent { Resent result self.old.state.held self.new.state.held
             (map T.sent self.old.ends.replies.items) (map T.sent self.new.ends.replies.items)
             (map T.fulls self.old.ends.replies.items) (map T.fulls self.new.ends.replies.items) }
+        ensures stay_clear { OnOk result (StayClear T.clear T.sent
+            self.old.ends.replies.items self.new.ends.replies.items) }
+        ensures wants_place { OnOk result (WantsPlace T.clear
+            self.old.ends.replies.items self.new.state.held) }
     {
         resend(&mut self.local.held, &mut self.ends.replies)
     }
@@ -532,6 +548,11 @@ impl<Q: Rx<Request>, T: Tx<Reply>, O: Tx<Batch>, G: GossipRx<Batch, From = O>> W
         ensures room { LearnsRoomOf T.clear T.unseen self.new.ends.replies.items (session - 1) S.keeps
             (S.heard side.old self.old.state.me)
             (slice_index_or (map T.sent self.old.ends.replies.items) (session - 1) []) }
+        ensures other_sessions { (place : ℕ) → place ≢ session - 1
+            → slice_get self.new.ends.replies.items place
+            ≡ slice_get self.old.ends.replies.items place }
+        ensures other_workers { (other : ℕ) → 1 ≤ other → other ≢ self.old.state.me
+            → S.clear side.old other → S.clear side.new other }
     {
         let me = self.local.me;
         meet(

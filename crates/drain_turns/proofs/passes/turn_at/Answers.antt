@@ -112,7 +112,7 @@ module _ (g : Over) where
         let finds_now = places_stay c.args.workers.now now gone_on finds in
         let many = length-map is.ends.replies.items g.T.Tx.sent in
         no_reply_held (lists_of g.Q.Rx.received g.T.Tx.sent g.O.Tx.sent g.G.GossipRx.got is) (g.Q.Rx.about is.ends.requests) g.Q.Rx.keeps.complete (g.Q.Rx.senders (g.Q.Rx.key is.ends.requests)) share
-        (ready.settled c.args.place is is_there)
+        (ready.known c.args.place is is_there)
         (λ session one_of. finds_now.replied c.args.place is is_there session (subst (λ n. IsOneOf n session) many one_of))
         (λ session one_of. finds_now.senders_are c.args.place is is_there session (subst (λ n. IsOneOf n session) many one_of))
 
@@ -121,7 +121,8 @@ module _ (g : Over) where
         → left_to (λ its. g.Q.Rx.senders (g.Q.Rx.key its)) g.Q.Rx.received g.Q.Rx.about (steady is) ≡ 0
     none_left not_held not_kept nothing =
         let found = finds_nothing is.state.held (FindsNothing g.Q.Rx.keeps (box_of g.Q.Rx.received g.Q.Rx.answers g.Q.Rx.about is.ends.requests)) not_held nothing in
-        let not_taken = none_to_take g.Q.Rx.keeps.complete (g.Q.Rx.senders (g.Q.Rx.key is.ends.requests)) (g.Q.Rx.received is.ends.requests) (g.Q.Rx.about is.ends.requests) found.none in
+        let not_taken = none_to_take g.Q.Rx.keeps.complete (g.Q.Rx.senders (g.Q.Rx.key is.ends.requests)) (g.Q.Rx.received is.ends.requests) (g.Q.Rx.about is.ends.requests)
+        ((ready_stays c.args.workers.now now gone_on c.requires.ready).known c.args.place is is_there) found.none in
         let none_kept = ap (λ kept. length (kept_request kept)) not_kept in
         omega (arith, not_taken, none_kept)
 
@@ -144,10 +145,10 @@ module _ (g : Over) where
               ]
         ]
 
-pub turn_out-requires-clause-settled : goal.turn_out-requires-clause-settled
-turn_out-requires-clause-settled g c =
-    let here = (goal.at.turn_out-requires-clause-settled g c).After-index-workers-place in
-    (ready_now g here).settled c.args.place (shown g here) (shown_there g here)
+pub turn_out-requires-clause-known : goal.turn_out-requires-clause-known
+turn_out-requires-clause-known g c =
+    let here = (goal.at.turn_out-requires-clause-known g c).After-index-workers-place in
+    (ready_now g here).known c.args.place (shown g here) (shown_there g here)
 
 pub turn_out-requires-clause-met : goal.turn_out-requires-clause-met
 turn_out-requires-clause-met g c =

@@ -1,56 +1,48 @@
-use Rattle.std.proofs.Common.{◌∙◌, ◌++◌, ℕ, List, ap, arith, drop, length, map, refl, slice_index_or, subst, sym, take}
+use Rattle.std.proofs.Common.{◌≡◌, ◌∙◌, ◌++◌, ℕ, All, List, Some, ap, arith, drop, length, map, refl, slice_get, slice_index_or, subst, sym, take}
 use Rattle.std.proofs.lemmas.List.{length-map}
+use Rattle.party_beside.specs.Beside.{IsApart}
 use Rattle.worker_core.specs.State.{PlainWorker}
+use Rattle.drain_steps.proofs.ItemsLemmas.{all_there, there_too}
 use Rattle.drain_steps.proofs.PlacesLemmas.{all_done, one_done}
 use Rattle.drain_turns.proofs.PairListsLemmas.{whole}
 use Rattle.party_run.specs.Session.{proxy_of}
 use Rattle.party_run.proofs.ChangedLemmas.{done_to_made, done_to_none}
+use Rattle.party_beside.proofs.LearnedLemmas.{none_beside}
 use Rattle.party_beside.proofs.PartLemmas.{session_parted}
-use Rattle.party_beside.proofs.StayLemmas.{AllStay, WorkerStays, all_stay, worker_stays}
+use Rattle.party_beside.proofs.StayLemmas.{all_stay, worker_stays}
+use Rattle.party_beside.proofs.Words.{Stay, StaysOfWorker}
 use Rattle.party_beside.proofs.parting.part_sessions.Given.{Over}
 use Rattle.party_beside.proofs.parting.part_sessions.Goals as goal
 use Rattle.party_beside.proofs.parting.part_sessions.Goals.{After-loop-session}
-use Rattle.party_beside.proofs.parting.part_sessions.Invariants.{Proxy as ItsProxy, Stays}
+use Rattle.party_beside.proofs.parting.part_sessions.Invariants.{IsParted, Proxy}
 
-module _ (g : Over) where
-  abbrev Worker : Type 0
-  Worker = PlainWorker g.row.Q.Denot g.row.T.Denot g.row.O.Denot g.row.G.Denot
+module _ (g : Over) (c : After-loop-session g) where
+  abbrev workers : List (PlainWorker g.row.Q.Denot g.row.T.Denot g.row.O.Denot g.row.G.Denot)
+  workers = c.args.parties.now.workers.items
 
-  abbrev Proxy : Type 0
-  Proxy = ItsProxy g
+  -- all sessions before, each of them parted, and all again
+  abbrev were : List (Proxy g)
+  were = map proxy_of c.args.parties.now.sessions.items
 
-  -- what stays of all
-  abbrev Stay : List Worker → List Worker → List Proxy → List Proxy → Type 0
-  Stay = AllStay g.S.Tx.key g.S.Tx.number g.S.Tx.sent g.T.Tx.key g.T.Tx.number g.T.Tx.sent g.O.Tx.key g.O.Tx.number g.O.Tx.sent
-      g.Q.Rx.key g.Q.Rx.pairs g.Q.Rx.senders g.Q.Rx.received g.Q.Rx.about g.G.GossipRx.key g.G.GossipRx.pairs g.G.GossipRx.senders g.G.GossipRx.got g.G.GossipRx.about
-      g.R.Rx.key g.R.Rx.pairs g.R.Rx.senders g.R.Rx.received g.R.Rx.about
+  abbrev parted : List (Proxy g)
+  parted = map proxy_of c.loop-session.session-items
 
-  -- what stays of a worker
-  abbrev StaysOfWorker : ℕ → ℕ → ℕ → Worker → Worker → Type 0
-  StaysOfWorker = WorkerStays g.T.Tx.key g.T.Tx.number g.T.Tx.sent g.O.Tx.key g.O.Tx.number g.O.Tx.sent g.Q.Rx.key g.Q.Rx.senders g.Q.Rx.received g.Q.Rx.about
-      g.G.GossipRx.key g.G.GossipRx.senders g.G.GossipRx.got g.G.GossipRx.about
+  abbrev are : List (Proxy g)
+  are = map proxy_of (take c.args.parties.now.sessions.len (c.loop-session.session-items ++ drop (length c.loop-session.session-items) c.args.parties.now.sessions.items))
 
-  module _ (c : After-loop-session g) where
-    abbrev workers : List Worker
-    workers = c.args.parties.now.workers.items
+  all_parted : parted ≡ are
+  all_parted =
+      ap (map proxy_of) (sym (whole c.args.parties.now.sessions.items c.loop-session.session-items c.args.parties.now.sessions.len c.args.parties.now.sessions.ok.0
+      c.loop-session.invariant.long))
 
-    -- all sessions before, and again, of which each is parted
-    abbrev were : List Proxy
-    were = map proxy_of c.args.parties.now.sessions.items
+  as_many : length parted ≡ length were
+  as_many = length-map c.loop-session.session-items proxy_of ∙ c.loop-session.invariant.long ∙ sym (length-map c.args.parties.now.sessions.items proxy_of)
 
-    abbrev are : List Proxy
-    are = map proxy_of (take c.args.parties.now.sessions.len (c.loop-session.session-items ++ drop (length c.loop-session.session-items) c.args.parties.now.sessions.items))
-
-    stay : Stay workers workers were are
-    stay =
-        let sessions = c.args.parties.now.sessions.items in
-        let parted = c.loop-session.session-items in
-        let long = c.loop-session.invariant.long in
-        subst (λ those. Stay workers workers were (map proxy_of those)) (sym (whole sessions parted c.args.parties.now.sessions.len c.args.parties.now.sessions.ok.0 long))
-        (all_stay workers workers were (map proxy_of parted) refl (length-map parted proxy_of ∙ long ∙ sym (length-map sessions proxy_of))
-        (done_to_none (StaysOfWorker (length workers) (length were)) (worker_stays (length workers) (length were)) workers)
-        (done_to_made (Stays g) proxy_of sessions parted
-        (all_done (λ was is. Stays g (proxy_of was) (proxy_of is)) sessions c.loop-session.session-index parted (omega arith) c.loop-session.invariant)))
+  each_parted : (place : ℕ) (was is : Proxy g) → slice_get were place ≡ Some was → slice_get parted place ≡ Some is → IsParted g was is
+  each_parted =
+      done_to_made (IsParted g) proxy_of c.args.parties.now.sessions.items c.loop-session.session-items
+      (all_done (λ was is. IsParted g (proxy_of was) (proxy_of is)) c.args.parties.now.sessions.items c.loop-session.session-index c.loop-session.session-items
+      (omega arith) c.loop-session.invariant)
 
 pub loop-session-preserved : goal.loop-session-preserved
 loop-session-preserved g c =
@@ -58,12 +50,25 @@ loop-session-preserved g c =
     let index = c.loop-session.session-index in
     let was = slice_index_or items index c.session-item.result in
     let part = c.apart.ensures in
-    one_done (λ was is. Stays g (proxy_of was) (proxy_of is)) c.args.parties.now.sessions.items index items was c.apart.new.self
-    (omega arith) (ap (slice_index_or items index) c.session-item.is)
-    (session_parted (proxy_of was) (proxy_of c.apart.new.self) part.course part.requests part.key part.received part.about) c.loop-session.invariant
+    one_done (λ was is. IsParted g (proxy_of was) (proxy_of is)) c.args.parties.now.sessions.items index items was c.apart.new.self
+    (omega arith) (ap (slice_index_or items index) c.session-item.is) (record {
+      stays = session_parted (proxy_of was) (proxy_of c.apart.new.self) part.course part.requests part.key part.received part.about;
+      alone = none_beside (g.R.Rx.about (proxy_of was).ends.replies) (g.R.Rx.about (proxy_of c.apart.new.self).ends.replies) part.about;
+    }) c.loop-session.invariant
 
-pub returns-clause-sessions : goal.returns-clause-sessions
-returns-clause-sessions g c = (stay g (goal.at.returns-clause-sessions g c).After-loop-session).sessions_told
+pub returns-clause-stay : goal.returns-clause-stay
+returns-clause-stay g c =
+    let after = (goal.at.returns-clause-stay g c).After-loop-session in
+    let all = workers g after in
+    subst (Stay g.S.Tx g.T.Tx g.O.Tx g.Q.Rx g.G.GossipRx g.R.Rx all all (were g after)) (all_parted g after)
+    (all_stay all all (were g after) (parted g after) refl (as_many g after)
+    (done_to_none (StaysOfWorker g.T.Tx g.O.Tx g.Q.Rx g.G.GossipRx (length all) (length (were g after))) (worker_stays (length all) (length (were g after))) all)
+    (λ place was is there also. (each_parted g after place was is there also).stays))
 
-pub returns-clause-goes_on : goal.returns-clause-goes_on
-returns-clause-goes_on g c = (stay g (goal.at.returns-clause-goes_on g c).After-loop-session).goes_on
+pub returns-clause-apart : goal.returns-clause-apart
+returns-clause-apart g c =
+    let after = (goal.at.returns-clause-apart g c).After-loop-session in
+    let alone = λ (proxy : Proxy g). IsApart (g.R.Rx.about proxy.ends.replies) in
+    subst (All alone) (all_parted g after) (all_there alone (parted g after) (λ place is there.
+    let was = there_too (were g after) (parted g after) place is (as_many g after) there in
+    (each_parted g after place was.0 is was.1 there).alone))

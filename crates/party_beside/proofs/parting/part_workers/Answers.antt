@@ -1,51 +1,38 @@
-use Rattle.std.proofs.Common.{◌++◌, List, ap, arith, drop, length, map, refl, slice_index_or, subst, sym, take}
+use Rattle.std.proofs.Common.{◌≡◌, ◌++◌, ℕ, All, List, Some, ap, arith, drop, length, map, refl, slice_get, slice_index_or, subst, sym, take}
 use Rattle.session_proxy.specs.State.{PlainProxy}
+use Rattle.drain_steps.proofs.ItemsLemmas.{all_there, there_too}
 use Rattle.drain_steps.proofs.PlacesLemmas.{all_done, one_done}
 use Rattle.drain_turns.proofs.PairListsLemmas.{whole}
 use Rattle.party_run.specs.Session.{proxy_of}
 use Rattle.party_run.proofs.ChangedLemmas.{done_to_none}
+use Rattle.party_beside.proofs.LearnedLemmas.{none_beside}
 use Rattle.party_beside.proofs.PartLemmas.{worker_parted}
-use Rattle.party_beside.proofs.StayLemmas.{AllStay, SessionStays, all_stay, session_stays}
+use Rattle.party_beside.proofs.StayLemmas.{all_stay, session_stays}
+use Rattle.party_beside.proofs.Words.{Stay, StaysOfSession}
 use Rattle.party_beside.proofs.parting.part_workers.Given.{Over}
 use Rattle.party_beside.proofs.parting.part_workers.Goals as goal
 use Rattle.party_beside.proofs.parting.part_workers.Goals.{After-loop-worker}
-use Rattle.party_beside.proofs.parting.part_workers.Invariants.{Stays, Worker as ItsWorker}
+use Rattle.party_beside.proofs.parting.part_workers.Invariants.{IsAlone, IsParted, Worker}
 
-module _ (g : Over) where
-  abbrev Worker : Type 0
-  Worker = ItsWorker g
+module _ (g : Over) (c : After-loop-worker g) where
+  abbrev were : List (Worker g)
+  were = c.args.parties.now.workers.items
 
-  abbrev Proxy : Type 0
-  Proxy = PlainProxy g.row.S.Denot g.row.R.Denot
+  -- the workers, each parted, and all workers again
+  abbrev parted : List (Worker g)
+  parted = c.loop-worker.worker-items
 
-  -- what stays of all
-  abbrev Stay : List Worker → List Worker → List Proxy → List Proxy → Type 0
-  Stay = AllStay g.S.Tx.key g.S.Tx.number g.S.Tx.sent g.T.Tx.key g.T.Tx.number g.T.Tx.sent g.O.Tx.key g.O.Tx.number g.O.Tx.sent
-      g.Q.Rx.key g.Q.Rx.pairs g.Q.Rx.senders g.Q.Rx.received g.Q.Rx.about g.G.GossipRx.key g.G.GossipRx.pairs g.G.GossipRx.senders g.G.GossipRx.got g.G.GossipRx.about
-      g.R.Rx.key g.R.Rx.pairs g.R.Rx.senders g.R.Rx.received g.R.Rx.about
+  abbrev are : List (Worker g)
+  are = take c.args.parties.now.workers.len (parted ++ drop (length parted) were)
 
-  module _ (c : After-loop-worker g) where
-    abbrev were : List Worker
-    were = c.args.parties.now.workers.items
+  abbrev proxies : List (PlainProxy g.row.S.Denot g.row.R.Denot)
+  proxies = map proxy_of c.args.parties.now.sessions.items
 
-    abbrev parted : List Worker
-    parted = c.loop-worker.worker-items
+  all_parted : parted ≡ are
+  all_parted = sym (whole were parted c.args.parties.now.workers.len c.args.parties.now.workers.ok.0 c.loop-worker.invariant.long)
 
-    abbrev proxies : List Proxy
-    proxies = map proxy_of c.args.parties.now.sessions.items
-
-    -- all workers again, of which each is parted
-    abbrev are : List Worker
-    are = take c.args.parties.now.workers.len (parted ++ drop (length parted) were)
-
-    stay : Stay were are proxies proxies
-    stay =
-        let long = c.loop-worker.invariant.long in
-        subst (λ those. Stay were those proxies proxies) (sym (whole were parted c.args.parties.now.workers.len c.args.parties.now.workers.ok.0 long))
-        (all_stay were parted proxies proxies long refl
-        (λ place was is there also. all_done (Stays g (length were) (length proxies)) were c.loop-worker.worker-index parted (omega arith) c.loop-worker.invariant
-        place was is there also place)
-        (done_to_none (λ at. SessionStays g.S.Tx.key g.S.Tx.number g.S.Tx.sent g.R.Rx.key g.R.Rx.received g.R.Rx.about) (λ at. session_stays) proxies))
+  each_parted : (place : ℕ) (was is : Worker g) → slice_get were place ≡ Some was → slice_get parted place ≡ Some is → IsParted g (length were) (length proxies) was is
+  each_parted = all_done (IsParted g (length were) (length proxies)) were c.loop-worker.worker-index parted (omega arith) c.loop-worker.invariant
 
 pub loop-worker-preserved : goal.loop-worker-preserved
 loop-worker-preserved g c =
@@ -54,13 +41,28 @@ loop-worker-preserved g c =
     let items = c.loop-worker.worker-items in
     let index = c.loop-worker.worker-index in
     let was = slice_index_or items index c.worker-item.result in
+    let is = c.apart.new.self in
     let part = c.apart.ensures in
-    one_done (Stays g (length workers) (length proxies)) workers index items was c.apart.new.self (omega arith) (ap (slice_index_or items index) c.worker-item.is)
-    (worker_parted (length workers) (length proxies) was c.apart.new.self part.state part.replies part.gossip_out part.requests_key
-    part.requests_received part.requests_about part.gossip_key part.gossip_got part.gossip_about) c.loop-worker.invariant
+    one_done (IsParted g (length workers) (length proxies)) workers index items was is (omega arith) (ap (slice_index_or items index) c.worker-item.is) (record {
+      stays = worker_parted (length workers) (length proxies) was is part.state part.replies part.gossip_out part.requests_key
+          part.requests_received part.requests_about part.gossip_key part.gossip_got part.gossip_about;
+      alone = (
+        none_beside (g.Q.Rx.about was.ends.requests) (g.Q.Rx.about is.ends.requests) part.requests_about,
+        none_beside (g.G.GossipRx.about was.ends.gossip_in) (g.G.GossipRx.about is.ends.gossip_in) part.gossip_about,
+      );
+    }) c.loop-worker.invariant
 
-pub returns-clause-workers : goal.returns-clause-workers
-returns-clause-workers g c = (stay g (goal.at.returns-clause-workers g c).After-loop-worker).workers_told
+pub returns-clause-stay : goal.returns-clause-stay
+returns-clause-stay g c =
+    let after = (goal.at.returns-clause-stay g c).After-loop-worker in
+    subst (λ those. Stay g.S.Tx g.T.Tx g.O.Tx g.Q.Rx g.G.GossipRx g.R.Rx (were g after) those (proxies g after) (proxies g after)) (all_parted g after)
+    (all_stay (were g after) (parted g after) (proxies g after) (proxies g after) c.loop-worker.invariant.long refl
+    (λ place was is there also. (each_parted g after place was is there also).stays place)
+    (done_to_none (λ at. StaysOfSession g.S.Tx g.R.Rx) (λ at. session_stays) (proxies g after)))
 
-pub returns-clause-goes_on : goal.returns-clause-goes_on
-returns-clause-goes_on g c = (stay g (goal.at.returns-clause-goes_on g c).After-loop-worker).goes_on
+pub returns-clause-apart : goal.returns-clause-apart
+returns-clause-apart g c =
+    let after = (goal.at.returns-clause-apart g c).After-loop-worker in
+    subst (All (IsAlone g)) (all_parted g after) (all_there (IsAlone g) (parted g after) (λ place is there.
+    let was = there_too (were g after) (parted g after) place is c.loop-worker.invariant.long there in
+    (each_parted g after place was.0 is was.1 there).alone))

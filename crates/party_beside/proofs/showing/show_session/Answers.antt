@@ -1,42 +1,29 @@
-use Rattle.std.proofs.Common.{◌≡◌, ◌∙◌, ◌+◌, ◌-◌, ℕ, List, [], arith, length, map, slice_get, slice_index_or, slice_set, subst, sym, Some}
-use Rattle.std.proofs.lemmas.List.{length-map, length-set}
-use Rattle.std.proofs.lemmas.Option.{slice_get_within}
-use Rattle.mail_contract.specs.Takes.{IsFront, from_sender}
+use Rattle.std.proofs.Common.{◌≡◌, ◌∙◌, ◌+◌, ◌<◌, ℕ, List, ap, arith, length, map, slice_get, slice_index_or, slice_set, subst, sym, Some}
+use Rattle.std.proofs.lemmas.List.{length-set, map-set}
+use Rattle.std.proofs.lemmas.Option.{get_or_from_slice_get, same_Some, slice_get_within}
 use Rattle.placement.specs.Config.{IsOneOf}
-use Rattle.party_beside.specs.Told.{IsTold}
-use Rattle.session_proxy.specs.State as sessions
-use Rattle.store_msg.specs.Reply.{PlainReply}
-use Rattle.store_msg.specs.declared.request.Request.{Request}
-use Rattle.worker_core.specs.State as workers
-use Rattle.drain_steps.proofs.ItemsLemmas.{mapped}
+use Rattle.session_proxy.specs.State.{PlainProxy}
+use Rattle.worker_core.specs.State.{PlainWorker}
+use Rattle.drain_steps.proofs.ItemsLemmas.{long_alike, mapped}
+use Rattle.drain_steps.proofs.PlacesLemmas.{now_there}
 use Rattle.party_run.specs.Session.{proxy_of}
-use Rattle.party_run.proofs.ChangedLemmas.{done_to_made, done_to_one, read_there}
+use Rattle.party_run.proofs.ChangedLemmas.{done_to_one, read_there}
+use Rattle.party_beside.proofs.BesideLemmas.{KnowStill, stay_beside, done_to_pairs, know_still}
+use Rattle.party_beside.proofs.HeldLemmas.{AreHeld, held_beside, session_knows, worker_knows}
 use Rattle.party_beside.proofs.MeetLemmas.{session_met, worker_met}
-use Rattle.party_beside.proofs.MetLemmas.{are_paired, has_replies, met_counted, session_number}
-use Rattle.party_beside.proofs.StayLemmas.{AllStay, SessionStays, WorkerStays, all_stay, session_stays, told_there, worker_stays}
+use Rattle.party_beside.proofs.MetLemmas.{are_paired, by_places, has_replies}
+use Rattle.party_beside.proofs.StayLemmas.{all_stay, session_stays, worker_stays}
+use Rattle.party_beside.proofs.Words.{AreBeside, Beside, Stay, StaysOfSession, StaysOfWorker}
 use Rattle.party_beside.proofs.showing.show_session.Given.{Over}
 use Rattle.party_beside.proofs.showing.show_session.Goals as goal
 use Rattle.party_beside.proofs.showing.show_session.Goals.{After-beside_session, After-index_mut-session}
 
 module _ (g : Over) where
   abbrev Worker : Type 0
-  Worker = workers.PlainWorker g.row.Q.Denot g.row.T.Denot g.row.O.Denot g.row.G.Denot
+  Worker = PlainWorker g.row.Q.Denot g.row.T.Denot g.row.O.Denot g.row.G.Denot
 
   abbrev Proxy : Type 0
-  Proxy = sessions.PlainProxy g.row.S.Denot g.row.R.Denot
-
-  -- what stays of a worker, of a session, and of all
-  abbrev Stays : ℕ → ℕ → ℕ → Worker → Worker → Type 0
-  Stays = WorkerStays g.T.Tx.key g.T.Tx.number g.T.Tx.sent g.O.Tx.key g.O.Tx.number g.O.Tx.sent g.Q.Rx.key g.Q.Rx.senders g.Q.Rx.received g.Q.Rx.about
-      g.G.GossipRx.key g.G.GossipRx.senders g.G.GossipRx.got g.G.GossipRx.about
-
-  abbrev StaysOfSession : Proxy → Proxy → Type 0
-  StaysOfSession = SessionStays g.S.Tx.key g.S.Tx.number g.S.Tx.sent g.R.Rx.key g.R.Rx.received g.R.Rx.about
-
-  abbrev Stay : List Worker → List Worker → List Proxy → List Proxy → Type 0
-  Stay = AllStay g.S.Tx.key g.S.Tx.number g.S.Tx.sent g.T.Tx.key g.T.Tx.number g.T.Tx.sent g.O.Tx.key g.O.Tx.number g.O.Tx.sent
-      g.Q.Rx.key g.Q.Rx.pairs g.Q.Rx.senders g.Q.Rx.received g.Q.Rx.about g.G.GossipRx.key g.G.GossipRx.pairs g.G.GossipRx.senders g.G.GossipRx.got g.G.GossipRx.about
-      g.R.Rx.key g.R.Rx.pairs g.R.Rx.senders g.R.Rx.received g.R.Rx.about
+  Proxy = PlainProxy g.row.S.Denot g.row.R.Denot
 
   module _ (c : After-index_mut-session g) where
     -- the worker and the session before they are held beside each other
@@ -55,24 +42,31 @@ module _ (g : Over) where
         (read_there c.args.parties.now.sessions.items c.args.at c.index_mut-session.result.now c.requires.within.1 c.index_mut-session.ensures.value)
 
   module _ (c : After-beside_session g) where
+    -- both, before and after
     abbrev was : Worker
     was = c.index_mut-worker.result.now
+
+    abbrev is : Worker
+    is = c.beside_session.new.self
 
     abbrev proxy_was : Proxy
     proxy_was = proxy_of c.index_mut-session.result.now
 
-    -- all workers and all sessions, before and after
+    abbrev proxy_is : Proxy
+    proxy_is = proxy_of c.beside_session.new.side
+
+    -- and all workers and all sessions
     abbrev workers_were : List Worker
     workers_were = c.args.parties.now.workers.items
+
+    abbrev workers_are : List Worker
+    workers_are = slice_set workers_were c.args.place is
 
     abbrev proxies_were : List Proxy
     proxies_were = map proxy_of c.args.parties.now.sessions.items
 
-    abbrev workers_are : List Worker
-    workers_are = slice_set workers_were c.args.place c.beside_session.new.self
-
     abbrev proxies_are : List Proxy
-    proxies_are = map proxy_of (slice_set c.args.parties.now.sessions.items c.args.at c.beside_session.new.side)
+    proxies_are = slice_set proxies_were c.args.at proxy_is
 
     there : slice_get workers_were c.args.place ≡ Some was
     there = read_there workers_were c.args.place was c.requires.within.0 c.index_mut-worker.ensures.value
@@ -82,51 +76,72 @@ module _ (g : Over) where
         mapped proxy_of c.args.parties.now.sessions.items c.args.at c.index_mut-session.result.now
         (read_there c.args.parties.now.sessions.items c.args.at c.index_mut-session.result.now c.requires.within.1 c.index_mut-session.ensures.value)
 
-    -- the session's number at the worker's box, and what it sent to the worker
-    abbrev number : ℕ
-    number = slice_index_or (map g.S.Tx.number proxy_was.ends.requests.items) (was.state.me - 1) 0
+    -- what they were told
+    abbrev Held : ℕ → ℕ → ℕ → ℕ → ℕ → Type 0
+    Held me place number at session = AreHeld g.S.Tx g.T.Tx g.Q.Rx g.R.Rx me place number at session was is proxy_was proxy_is
 
-    abbrev sent : List Request
-    sent = slice_index_or (map g.S.Tx.sent proxy_was.ends.requests.items) (was.state.me - 1) []
-
-    -- the worker's number at the session's box, and what it replied to the session
-    abbrev worker_number : ℕ
-    worker_number = slice_index_or (map g.T.Tx.number was.ends.replies.items) (c.args.at + 1 - 1) 0
-
-    abbrev replied : List PlainReply
-    replied = slice_index_or (map g.T.Tx.sent was.ends.replies.items) (c.args.at + 1 - 1) []
-
-    -- the session goes by the number after its place
-    one_of : IsOneOf (length proxies_were) number
-    one_of =
-        let is = session_number c.requires.ends c.args.place c.args.at was proxy_was there here in
-        subst (IsOneOf (length proxies_were)) (sym is) (omega arith, let within = slice_get_within proxies_were c.args.at proxy_was here in omega (arith, within))
+    held : Held (c.args.place + 1) c.args.place (c.args.place + 1) c.args.at (c.args.at + 1)
+    held =
+        let met = c.beside_session.ensures in
+        by_places c.requires.ends c.args.place c.args.at was proxy_was there here Held (record {
+          shows = met.requests;
+          freed = met.freed;
+          other_workers = met.other_workers;
+          learned = met.learned;
+          told = met.told;
+          room = met.room;
+          other_sessions = met.other_sessions;
+        })
 
     -- the worker stays, and so does the session
-    worker_is : Stays (length workers_were) (length proxies_were) c.args.place was c.beside_session.new.self
+    worker_is : StaysOfWorker g.T.Tx g.O.Tx g.Q.Rx g.G.GossipRx (length workers_were) (length proxies_were) c.args.place was is
     worker_is =
         let met = c.beside_session.ensures in
-        worker_met (length workers_were) (length proxies_were) c.args.place number was c.beside_session.new.self g.Q.Rx.keeps g.Q.Rx.answers sent one_of
-        met.state met.gossip_in met.gossip_out met.requests_key met.requests met.replies_keys met.replies_numbers met.replies_sent
+        let one_of : IsOneOf (length proxies_were) (c.args.at + 1) = (omega arith, let within = slice_get_within proxies_were c.args.at proxy_was here in omega (arith, within)) in
+        worker_met (length workers_were) (length proxies_were) c.args.place (c.args.at + 1) was is g.Q.Rx.keeps g.Q.Rx.answers _ one_of
+        met.state met.gossip_in met.gossip_out met.requests_key held.shows met.replies_keys met.replies_numbers met.replies_sent
 
-    session_is : StaysOfSession proxy_was (proxy_of c.beside_session.new.side)
+    session_is : StaysOfSession g.S.Tx g.R.Rx proxy_was proxy_is
     session_is =
         let met = c.beside_session.ensures in
-        session_met proxy_was (proxy_of c.beside_session.new.side) g.R.Rx.keeps worker_number replied
-        (λ j. (met.key j).0) (λ j. (met.key j).1) (λ j. (met.rest j).0) (λ j. (met.rest j).1) (λ j. (met.rest j).2) (λ j. (met.rest j).3) met.learned
+        session_met proxy_was proxy_is g.R.Rx.keeps (c.args.place + 1) _
+        (λ j. (met.key j).0) (λ j. (met.key j).1) (λ j. (met.rest j).0) (λ j. (met.rest j).1) (λ j. (met.rest j).2) (λ j. (met.rest j).3) held.learned
 
-    -- so all stay
-    stay : Stay workers_were workers_are proxies_were proxies_are
+    session_within : c.args.at < length proxies_were
+    session_within = slice_get_within proxies_were c.args.at proxy_was here
+
+    session_read : proxy_was ≡ slice_index_or proxies_were c.args.at proxy_was
+    session_read = sym (get_or_from_slice_get proxies_were c.args.at proxy_was proxy_was here)
+
+    -- so all stay,
+    stay : Stay g.S.Tx g.T.Tx g.O.Tx g.Q.Rx g.G.GossipRx g.R.Rx workers_were workers_are proxies_were proxies_are
     stay =
-        let sessions = c.args.parties.now.sessions.items in
-        let side = c.beside_session.new.side in
-        all_stay workers_were workers_are proxies_were proxies_are (length-set workers_were c.args.place c.beside_session.new.self)
-        (length-map (slice_set sessions c.args.at side) proxy_of ∙ length-set sessions c.args.at side ∙ sym (length-map sessions proxy_of))
-        (done_to_one (Stays (length workers_were) (length proxies_were)) (worker_stays (length workers_were) (length proxies_were)) workers_were
-        c.args.place was c.beside_session.new.self c.requires.within.0 c.index_mut-worker.ensures.value worker_is)
-        (done_to_made StaysOfSession proxy_of sessions (slice_set sessions c.args.at side)
-        (done_to_one (λ at before now. StaysOfSession (proxy_of before) (proxy_of now)) (λ at session. session_stays (proxy_of session))
-        sessions c.args.at c.index_mut-session.result.now side c.requires.within.1 c.index_mut-session.ensures.value session_is))
+        all_stay workers_were workers_are proxies_were proxies_are (length-set workers_were c.args.place is) (length-set proxies_were c.args.at proxy_is)
+        (done_to_one (StaysOfWorker g.T.Tx g.O.Tx g.Q.Rx g.G.GossipRx (length workers_were) (length proxies_were)) (worker_stays (length workers_were) (length proxies_were))
+        workers_were c.args.place was is c.requires.within.0 c.index_mut-worker.ensures.value worker_is)
+        (done_to_one (λ at. StaysOfSession g.S.Tx g.R.Rx) (λ at. session_stays) proxies_were c.args.at proxy_was proxy_is session_within session_read session_is)
+
+    -- the two are beside each other,
+    beside : AreBeside g.S.Tx g.T.Tx g.O.Tx g.Q.Rx g.G.GossipRx g.R.Rx c.args.place c.args.at workers_are proxies_are
+    beside worker proxy worker_there proxy_there =
+        let it : is ≡ worker = same_Some is worker (sym (now_there workers_were c.args.place is c.requires.within.0) ∙ worker_there) in
+        let its : proxy_is ≡ proxy = same_Some proxy_is proxy (sym (now_there proxies_were c.args.at proxy_is session_within) ∙ proxy_there) in
+        subst (λ (both : Worker × Proxy). Beside g.S.Tx g.T.Tx g.O.Tx g.Q.Rx g.G.GossipRx g.R.Rx c.args.place c.args.at both.0 both.1) (λ j. (it j, its j))
+        (held_beside held (sym worker_is.lists) (sym session_is.lists) c.beside_session.ensures.share)
+
+    -- and others that were beside each other still are
+    others : (other other_at : ℕ) → (other ≡ c.args.place → other_at ≡ c.args.at → ⊥)
+        → AreBeside g.S.Tx g.T.Tx g.O.Tx g.Q.Rx g.G.GossipRx g.R.Rx other other_at workers_were proxies_were
+        → AreBeside g.S.Tx g.T.Tx g.O.Tx g.Q.Rx g.G.GossipRx g.R.Rx other other_at workers_are proxies_are
+    others other other_at apart =
+        let long = long_alike g.S.Tx.sent proxy_was.ends.requests.items proxy_is.ends.requests.items (ap (λ lists. lists.sent) session_is.lists) in
+        stay_beside g.S.Tx g.T.Tx g.O.Tx g.Q.Rx g.G.GossipRx g.R.Rx workers_were workers_are proxies_were proxies_are stay other other_at
+        (done_to_pairs (KnowStill g.S.Tx.clear g.T.Tx.clear g.Q.Rx.about g.R.Rx.about) workers_were proxies_were c.args.place c.args.at was is proxy_was proxy_is
+        c.requires.within.0 c.index_mut-worker.ensures.value session_within session_read know_still (worker_knows held) (session_knows held long) other other_at apart)
+
+    -- all sessions again
+    proxies_set : proxies_are ≡ map proxy_of (slice_set c.args.parties.now.sessions.items c.args.at c.beside_session.new.side)
+    proxies_set = sym (map-set proxy_of c.args.parties.now.sessions.items c.args.at c.beside_session.new.side)
 
 pub beside_session-requires-clause-session : goal.beside_session-requires-clause-session
 beside_session-requires-clause-session g c = (omega arith, has_replies c.requires.ends c.args.place c.args.at (worker g c) (proxy g c) (worker_there g c) (proxy_there g c))
@@ -136,35 +151,17 @@ beside_session-requires-clause-pairs g c sender sender_is =
     are_paired c.requires.ends c.args.place c.args.at (worker g c) (proxy g c) (worker_there g c) (proxy_there g c) sender
     (subst (λ n. slice_get (worker g c).ends.replies.items n ≡ Some sender) (omega arith) sender_is)
 
-pub returns-clause-workers : goal.returns-clause-workers
-returns-clause-workers g c = (stay g (goal.at.returns-clause-workers g c).After-beside_session).workers_told
+pub returns-clause-stay : goal.returns-clause-stay
+returns-clause-stay g c =
+    let after = (goal.at.returns-clause-stay g c).After-beside_session in
+    subst (Stay g.S.Tx g.T.Tx g.O.Tx g.Q.Rx g.G.GossipRx g.R.Rx (workers_were g after) (workers_are g after) (proxies_were g after)) (proxies_set g after) (stay g after)
 
-pub returns-clause-sessions : goal.returns-clause-sessions
-returns-clause-sessions g c = (stay g (goal.at.returns-clause-sessions g c).After-beside_session).sessions_told
+pub returns-clause-beside : goal.returns-clause-beside
+returns-clause-beside g c =
+    let after = (goal.at.returns-clause-beside g c).After-beside_session in
+    subst (AreBeside g.S.Tx g.T.Tx g.O.Tx g.Q.Rx g.G.GossipRx g.R.Rx c.args.place c.args.at (workers_are g after)) (proxies_set g after) (beside g after)
 
-pub returns-clause-goes_on : goal.returns-clause-goes_on
-returns-clause-goes_on g c = (stay g (goal.at.returns-clause-goes_on g c).After-beside_session).goes_on
-
-pub returns-clause-told : goal.returns-clause-told
-returns-clause-told g c complete replies_complete worker its worker_is its_is =
-    let after = (goal.at.returns-clause-told g c).After-beside_session in
-    let all = stay g after in
-    let worker_same =
-    told_there (workers.lists_of g.Q.Rx.received g.T.Tx.sent g.O.Tx.sent g.G.GossipRx.got) (workers_were g after) (workers_are g after) all.workers_told
-    c.args.place (was g after) worker (there g after) worker_is
-    in
-    let its_same =
-    told_there (sessions.lists_of g.S.Tx.sent g.R.Rx.received) (proxies_were g after) (proxies_are g after) all.sessions_told c.args.at (proxy_was g after) its (here g after) its_is
-    in
-    let replies_front =
-    subst (λ n. IsFront (from_sender (was g after).state.me (g.R.Rx.received (proxy_was g after).ends.replies))
-    (slice_index_or (map g.T.Tx.sent (was g after).ends.replies.items) n [])) (omega arith) (c.beside_session.ensures.told replies_complete)
-    in
-    subst (λ (both : workers.Lists × sessions.Lists). IsTold c.args.at both.1 c.args.place both.0) (λ j. (worker_same j, its_same j)) (record {
-      counted =
-          met_counted c.requires.ends c.args.place c.args.at (was g after) (proxy_was g after) (there g after) (here g after) g.S.Tx.sent g.T.Tx.sent g.O.Tx.sent g.R.Rx.received
-          (c.beside_session.ensures.requests.told complete) replies_front;
-      front =
-          subst (λ n. IsFront (from_sender n (g.R.Rx.received (proxy_was g after).ends.replies)) (slice_index_or (map g.T.Tx.sent (was g after).ends.replies.items) c.args.at []))
-          (c.requires.ends.numbered c.args.place (was g after) (there g after)) replies_front;
-    })
+pub returns-clause-others : goal.returns-clause-others
+returns-clause-others g c other other_at apart were_beside =
+    let after = (goal.at.returns-clause-others g c).After-beside_session in
+    subst (AreBeside g.S.Tx g.T.Tx g.O.Tx g.Q.Rx g.G.GossipRx g.R.Rx other other_at (workers_are g after)) (proxies_set g after) (others g after other other_at apart were_beside)

@@ -1,17 +1,17 @@
-use Rattle.std.proofs.Common.{◌∙◌, ap, arith, inl, inr, map, slice_get, subst, sym}
+use Rattle.std.proofs.Common.{arith, inl, inr, map, subst, sym}
 use Rattle.std.proofs.lemmas.Bool.{cases_eq}
 use Rattle.std.proofs.lemmas.List.{length-map}
 use Rattle.std.proofs.lemmas.Option.{slice_get_within}
-use Rattle.session_proxy.specs.State.{lists_of}
-use Rattle.party_beside.specs.Told.{IsTold}
 use Rattle.party_run.specs.Session.{proxy_of}
 use Rattle.party_beside.proofs.StayLemmas.{stay_still, stay_through}
+use Rattle.party_beside.proofs.Words.{AreBeside}
 use Rattle.party_beside.proofs.showing.show_to_sessions.Goals as goal
 
 pub loop-at-init : goal.loop-at-init
 loop-at-init g c = record {
   stay = stay_still c.args.parties.now.workers.items (map proxy_of c.args.parties.now.sessions.items);
-  told = λ complete replies_complete at worker its below. absurd (omega (arith, below));
+  beside = λ at below. absurd (omega (arith, below));
+  others = λ other at apart beside. beside;
 }
 
 pub show_session-requires-clause-within : goal.show_session-requires-clause-within
@@ -34,26 +34,23 @@ show_session-requires-clause-ends g c = c.loop-at.invariant.stay.goes_on.ends c.
 
 pub loop-at-preserved : goal.loop-at-preserved
 loop-at-preserved g c =
-    let met = c.show_session.ensures in
+    let so_far = c.loop-at.invariant in
+    let shown = c.show_session.ensures in
+    let workers = c.show_session.new.parties.workers.items in
+    let proxies = map proxy_of c.show_session.new.parties.sessions.items in
     record {
-      stay = stay_through c.args.parties.now.workers.items c.loop-at.parties.workers.items c.show_session.new.parties.workers.items
-          (map proxy_of c.args.parties.now.sessions.items) (map proxy_of c.loop-at.parties.sessions.items) (map proxy_of c.show_session.new.parties.sessions.items)
-          c.loop-at.invariant.stay (record { workers_told = met.workers; sessions_told = met.sessions; goes_on = met.goes_on });
-      told = λ complete replies_complete at worker its below worker_is its_is. elim (cases_eq at c.loop-at.at) [
-        | inl here ↦
-            subst (λ n. IsTold n its c.args.place worker) (sym here)
-            (met.told complete replies_complete worker its worker_is (ap (slice_get _) (sym here) ∙ its_is))
-        | inr apart ↦
-            c.loop-at.invariant.told complete replies_complete at worker its (omega (arith, below, apart))
-            (ap (λ all. slice_get all c.args.place) (sym met.workers) ∙ worker_is) (ap (λ all. slice_get all at) (sym met.sessions) ∙ its_is)
+      stay = stay_through c.args.parties.now.workers.items c.loop-at.parties.workers.items workers
+          (map proxy_of c.args.parties.now.sessions.items) (map proxy_of c.loop-at.parties.sessions.items) proxies so_far.stay shown.stay;
+      beside = λ at below. elim (cases_eq at c.loop-at.at) [
+        | inl here ↦ subst (λ n. AreBeside g.S.Tx g.T.Tx g.O.Tx g.Q.Rx g.G.GossipRx g.R.Rx c.args.place n workers proxies) (sym here) shown.beside
+        | inr passed ↦ shown.others c.args.place at (λ same. passed) (so_far.beside at (omega (arith, below, passed)))
       ];
+      others = λ other at apart beside. shown.others other at (λ same other_at. apart same) (so_far.others other at apart beside);
     }
 
-pub returns-clause-told : goal.returns-clause-told
-returns-clause-told g c complete replies_complete at worker its worker_is its_is =
-    let proxies = map proxy_of c.loop-at.parties.sessions.items in
-    let within = slice_get_within (map (lists_of g.S.Tx.sent g.R.Rx.received) proxies) at its its_is in
-    let made = length-map proxies (lists_of g.S.Tx.sent g.R.Rx.received) in
+pub returns-clause-beside : goal.returns-clause-beside
+returns-clause-beside g c at worker proxy there here =
+    let within = slice_get_within (map proxy_of c.loop-at.parties.sessions.items) at proxy here in
     let long_sessions = c.loop-at.invariant.stay.goes_on.sessions_long in
     let many = length-map c.args.parties.now.sessions.items proxy_of in
-    c.loop-at.invariant.told complete replies_complete at worker its (omega (arith, within, made, long_sessions, many)) worker_is its_is
+    c.loop-at.invariant.beside at (omega (arith, within, long_sessions, many)) worker proxy there here

@@ -1,40 +1,18 @@
-use Rattle.std.proofs.Common.{◌≡◌, ◌<◌, ℕ, IsTrue, List, map, slice_get, Some}
-use Rattle.session_proxy.specs.State as sessions
-use Rattle.worker_core.specs.State as workers
-use Rattle.party_beside.specs.Told.{IsTold}
+use Rattle.std.proofs.Common.{◌<◌, ◌≢◌, ℕ, map}
 use Rattle.party_run.specs.Session.{proxy_of}
-use Rattle.party_beside.proofs.StayLemmas.{AllStay}
-use Rattle.party_beside.proofs.showing.show_to_sessions.Given.{Over}
+use Rattle.party_beside.proofs.Words.{AreBeside, Stay}
 use Rattle.party_beside.proofs.showing.show_to_sessions.Given as goal
 
-module _ (g : Over) where
-  abbrev pub Worker : Type 0
-  Worker = workers.PlainWorker g.row.Q.Denot g.row.T.Denot g.row.O.Denot g.row.G.Denot
-
-  abbrev pub Proxy : Type 0
-  Proxy = sessions.PlainProxy g.row.S.Denot g.row.R.Denot
-
-  -- what stays of all
-  abbrev pub Stay : List Worker → List Worker → List Proxy → List Proxy → Type 0
-  Stay = AllStay g.S.Tx.key g.S.Tx.number g.S.Tx.sent g.T.Tx.key g.T.Tx.number g.T.Tx.sent g.O.Tx.key g.O.Tx.number g.O.Tx.sent
-      g.Q.Rx.key g.Q.Rx.pairs g.Q.Rx.senders g.Q.Rx.received g.Q.Rx.about g.G.GossipRx.key g.G.GossipRx.pairs g.G.GossipRx.senders g.G.GossipRx.got g.G.GossipRx.about
-      g.R.Rx.key g.R.Rx.pairs g.R.Rx.senders g.R.Rx.received g.R.Rx.about
-
-  -- what is told of all workers and of all sessions
-  abbrev pub told_of_workers : List Worker → List workers.Lists
-  told_of_workers = map (workers.lists_of g.Q.Rx.received g.T.Tx.sent g.O.Tx.sent g.G.GossipRx.got)
-
-  abbrev pub told_of_sessions : List Proxy → List sessions.Lists
-  told_of_sessions = map (sessions.lists_of g.S.Tx.sent g.R.Rx.received)
-
-  -- all stay, and no more was taken than was sent between the worker at a place and so many sessions
-  abbrev pub IsShownTo : ℕ → ℕ → List Worker → List Worker → List Proxy → List Proxy → Type 0
-  IsShownTo place many workers_were workers_are proxies_were proxies_are = record {
-    stay : Stay workers_were workers_are proxies_were proxies_are;
-    told : IsTrue g.Q.Rx.keeps.complete → IsTrue g.R.Rx.keeps.complete → (at : ℕ) (worker : workers.Lists) (its : sessions.Lists) → at < many
-        → slice_get (told_of_workers workers_are) place ≡ Some worker → slice_get (told_of_sessions proxies_are) at ≡ Some its → IsTold at its place worker;
-  }
-
+-- all stay, the worker at a place is beside so many sessions, and other workers are beside those that they were beside
 abbrev pub invariant-loop-at : goal.invariant-loop-at
 invariant-loop-at g l =
-    IsShownTo g l.place l.at l.fn.parties.workers.items l.parties.workers.items (map proxy_of l.fn.parties.sessions.items) (map proxy_of l.parties.sessions.items)
+    let workers_were = l.fn.parties.workers.items in
+    let workers_are = l.parties.workers.items in
+    let proxies_were = map proxy_of l.fn.parties.sessions.items in
+    let proxies_are = map proxy_of l.parties.sessions.items in
+    record {
+      stay : Stay g.S.Tx g.T.Tx g.O.Tx g.Q.Rx g.G.GossipRx g.R.Rx workers_were workers_are proxies_were proxies_are;
+      beside : (at : ℕ) → at < l.at → AreBeside g.S.Tx g.T.Tx g.O.Tx g.Q.Rx g.G.GossipRx g.R.Rx l.place at workers_are proxies_are;
+      others : (other at : ℕ) → other ≢ l.place → AreBeside g.S.Tx g.T.Tx g.O.Tx g.Q.Rx g.G.GossipRx g.R.Rx other at workers_were proxies_were
+          → AreBeside g.S.Tx g.T.Tx g.O.Tx g.Q.Rx g.G.GossipRx g.R.Rx other at workers_are proxies_are;
+    }

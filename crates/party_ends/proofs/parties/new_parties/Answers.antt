@@ -1,10 +1,10 @@
-use Rattle.std.proofs.Common.{ℕ, List, ap, length, map, subst, sym}
+use Rattle.std.proofs.Common.{◌∙◌, ℕ, List, ap, length, map, subst, sym}
 use Rattle.placement.specs.Config.{IsPlacement, placed}
 use Rattle.placement.proofs.ConfigLemmas.{placement_is}
 use Rattle.session_known.specs.Script.{IsValidScript}
 use Rattle.session_known.specs.declared.script.Script.{Script}
 use Rattle.party_run.specs.Session.{proxy_of}
-use Rattle.party_ends.proofs.PartiesLemmas.{are_running, none_kept, of_sessions, of_workers}
+use Rattle.party_ends.proofs.PartiesLemmas.{are_running, none_kept, none_waits, of_sessions, of_workers}
 use Rattle.party_ends.proofs.parties.new_parties.Goals as goal
 
 -- the script is valid where its keys live as the placement says
@@ -32,3 +32,8 @@ returns-clause-running g c =
 pub returns-clause-none_kept : goal.returns-clause-none_kept
 returns-clause-none_kept g c =
     none_kept c.args.script.now c.in_ok-placement.placement c.in_ok-workers.workers.items c.in_ok-workers-2.workers.items c.in_ok-workers-2.ensures
+
+pub returns-clause-none_waits : goal.returns-clause-none_waits
+returns-clause-none_waits g c =
+    none_waits g.S.Tx.sent g.R.Rx.received c.args.script.now c.in_ok-placement.placement c.in_ok-workers.sessions.items (map proxy_of c.in_ok-sessions.sessions.items)
+    (c.in_ok-workers.ensures.sessions_are ∙ ap length c.as_slice.ensures) c.in_ok-sessions.ensures

@@ -1,22 +1,23 @@
-use Rattle.std.proofs.Common.{◌≡◌, ◌∙◌, ℕ, ap, IsTrue, length, List, map, None, slice_get, Some, subst, sym}
+use Rattle.std.proofs.Common.{◌≡◌, ◌∙◌, ℕ, ap, length, List, map, None, slice_get, Some, subst, sym}
 use Rattle.std.proofs.lemmas.List.{length-map}
 use Rattle.std.proofs.lemmas.Simd.{map-map}
 use Rattle.session_proxy.specs.State as sessions
 use Rattle.worker_core.specs.State as workers
 use Rattle.run_measure.specs.Laws.{IsPlaced}
-use Rattle.run_measure.specs.Steps.{HasDone}
+use Rattle.run_measure.specs.Steps.{HasDone, HasServed}
 use Rattle.session_proxy.specs.Share.{Share}
 use Rattle.drain_steps.proofs.ItemsLemmas.{mapped, of_mapped, there_too}
 use Rattle.party_run.proofs.GoesOnLemmas.{goes_on_through}
 use Rattle.party_run.specs.Session.{proxy_of}
 use Rattle.party_steps.specs.Polling.{HasPolled}
-use Rattle.party_steps.specs.Progress.{HasServed}
+use Rattle.party_steps.specs.Progress.{HasMovedOn}
 use Rattle.party_steps.specs.Turning.{HasTurned}
+use Rattle.party_steps.specs.declared.stepping.Polled.{Polled as Came}
 use Rattle.party_steps.proofs.PlacedLemmas.{may_be_polled}
 use Rattle.party_steps.proofs.PolledRunLemmas.{polled_goes_on}
 use Rattle.party_steps.proofs.TogetherLemmas.{all_stepped, done_more, each_goes}
 use Rattle.party_steps.proofs.TurnedRunLemmas.{turned_goes_on}
-use Rattle.party_epochs.proofs.EpochLemmas.{as_many_pieces, each_became, each_kept}
+use Rattle.party_epochs.proofs.EpochLemmas.{as_many_pieces, each_kept, each_told}
 use Rattle.party_epochs.proofs.epoch.run_epoch.Given.{Over}
 use Rattle.party_epochs.proofs.epoch.run_epoch.Goals as goal
 use Rattle.party_epochs.proofs.epoch.run_epoch.Goals.{After-drop-parties-2}
@@ -105,6 +106,16 @@ module _ (g : Over) where
         c.in_ok-run_parts.ensures.polled place was is
         (ap (λ all. slice_get all place) sessions_begun ∙ there) (ap (λ all. slice_get all place) (sym sessions_ended) ∙ also) (may place was there).0 (may place was there).1
 
+    -- and has moved on, as what came of it tells
+    moved_on : ((at : ℕ) (proxy : Proxy) → slice_get proxies at ≡ Some proxy → IsPlaced (of_session proxy) × Share (of_session proxy))
+        → (at : ℕ) (its : Came) (was is : Proxy) → slice_get c.in_ok-came.came.items at ≡ Some its → slice_get proxies at ≡ Some was → slice_get proxies_now at ≡ Some is
+        → HasMovedOn its (of_session was) (of_session is)
+    moved_on may at its was is told there also =
+        each_told _ (λ its was is. IsPlaced (of_session was) → Share (of_session was) → HasMovedOn its (of_session was) (of_session is))
+        (λ part. proxy_of part.session) (λ part. part.polled) (λ before now became. became.2) c.in_ok-polled.polled.items c.run_parts.new.polled.items
+        c.in_ok-run_parts.ensures.polled at its was is (ap (λ all. slice_get all at) (sym came) ∙ told)
+        (ap (λ all. slice_get all at) sessions_begun ∙ there) (ap (λ all. slice_get all at) (sym sessions_ended) ∙ also) (may at was there).0 (may at was there).1
+
 pub returns-clause-steps : goal.returns-clause-steps
 returns-clause-steps g c = record {
   goes_on =
@@ -125,18 +136,22 @@ returns-clause-each g c =
     ∙ sym (length-map c.in_ok-polled.polled.items (λ part. part.session)) ∙ ap length (c.in_ok-polled.ensures ∙ ap (λ vec. vec.items) c.replace-sessions.ensures.value)
 
 pub returns-clause-moved : goal.returns-clause-moved
-returns-clause-moved g c script running at its told moved =
+returns-clause-moved g c script running at its was is told there also =
+    let from = of_mapped (of_session g) (proxies g c) at was there in
+    let to = of_mapped (of_session g) (proxies_now g c) at is also in
+    subst (λ was. HasMovedOn its was is) from.2
+    (subst (HasMovedOn its (of_session g from.0)) to.2
+    (moved_on g c (may_be_polled script (those g c) (proxies g c) running) at its from.0 to.0 told from.1 to.1))
+
+pub returns-clause-done : goal.returns-clause-done
+returns-clause-done g c script running at its told moved =
     let may = may_be_polled script (those g c) (proxies g c) running in
-    let all = c.in_ok-run_parts.ensures.polled in
-    let now = of_mapped (λ part. part.polled) c.run_parts.new.polled.items at its (ap (λ all. slice_get all at) (sym (came g c)) ∙ told) in
-    let was = there_too c.in_ok-polled.polled.items c.run_parts.new.polled.items at now.0 (as_many_pieces _ c.in_ok-polled.polled.items c.run_parts.new.polled.items all) now.1 in
-    let became = each_became _ c.in_ok-polled.polled.items c.run_parts.new.polled.items all at was.0 now.0 was.1 now.1 in
-    let before = ap (λ all. slice_get all at) (sym (sessions_begun g c)) ∙ mapped (λ part. proxy_of part.session) c.in_ok-polled.polled.items at was.0 was.1 in
-    let after = ap (λ all. slice_get all at) (sessions_ended g c) ∙ mapped (λ part. proxy_of part.session) c.run_parts.new.polled.items at now.0 now.1 in
-    let on = became.2 (may at (proxy_of was.0.session) before).0 (may at (proxy_of was.0.session) before).1 in
+    let part = of_mapped (λ part. part.polled) c.run_parts.new.polled.items at its (ap (λ all. slice_get all at) (sym (came g c)) ∙ told) in
+    let is = proxy_of part.0.session in
+    let after = ap (λ all. slice_get all at) (sessions_ended g c) ∙ mapped (λ part. proxy_of part.session) c.run_parts.new.polled.items at part.0 part.1 in
+    let was = there_too (proxies g c) (proxies_now g c) at is (so_many g c) after in
     done_more (map (of_session g) (proxies g c)) (map (of_session g) (proxies_now g c))
     (length-map (proxies_now g c) (of_session g) ∙ so_many g c ∙ sym (length-map (proxies g c) (of_session g)))
     (each_goes g.S.Tx.sent g.T.Tx.sent g.O.Tx.sent g.Q.Rx.received g.G.GossipRx.got g.R.Rx.received (proxies g c) (proxies_now g c) (done_each g c may))
-    at (of_session g (proxy_of was.0.session)) (of_session g (proxy_of now.0.session))
-    (mapped (of_session g) (proxies g c) at (proxy_of was.0.session) before) (mapped (of_session g) (proxies_now g c) at (proxy_of now.0.session) after)
-    (on.moved (subst (λ polled. IsTrue polled.moved) (sym now.2) moved))
+    at (of_session g was.0) (of_session g is) (mapped (of_session g) (proxies g c) at was.0 was.1) (mapped (of_session g) (proxies_now g c) at is after)
+    ((moved_on g c may at its was.0 is told was.1 after).moved moved)

@@ -1,9 +1,10 @@
--- The parties took steps, and since they were held beside each other it is told what was taken.
+-- The parties took steps, and since they were held beside each other it is told what was taken; what each session waits for it did not take.
 use Rattle.std.proofs.Common.{map}
-use Rattle.party_beside.specs.Told.{AreAllTold}
 use Rattle.party_run.specs.Session.{proxy_of}
 use Rattle.party_steps.specs.Progress.{StepsOn}
+use Rattle.party_sweep.specs.Sweeping.{AllAwait, AllToAsks}
 use Rattle.run_measure.specs.Measure.{measure_of_all}
+use Rattle.run_waiting.specs.Told.{AreAllTold}
 use Rattle.session_proxy.specs.State as sessions
 use Rattle.worker_core.specs.State as workers
 use Rattle.party_rounds.proofs.driver.run_rounds.Given as goal
@@ -17,6 +18,8 @@ invariant-loop-turns g l = record {
       l.fn.parties.workers.items l.parties.workers.items (map proxy_of l.fn.parties.sessions.items) (map proxy_of l.parties.sessions.items);
   told : AreAllTold (map (workers.lists_of g.Q.Rx.received g.T.Tx.sent g.O.Tx.sent g.G.GossipRx.got) l.parties.workers.items)
       (map (sessions.lists_of g.S.Tx.sent g.R.Rx.received) (map proxy_of l.parties.sessions.items));
+  await_theirs : AllAwait (map (sessions.lists_of g.S.Tx.sent g.R.Rx.received) (map proxy_of l.parties.sessions.items));
+  to_asks : AllToAsks (map (sessions.lists_of g.S.Tx.sent g.R.Rx.received) (map proxy_of l.parties.sessions.items));
 }
 
 -- each round leaves less to do than the one before

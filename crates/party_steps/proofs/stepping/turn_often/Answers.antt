@@ -1,9 +1,9 @@
 use Rattle.std.proofs.Common.{◌≡◌, None, Ok}
 use Rattle.worker_core.specs.State.{lists_of}
 use Rattle.worker_core.specs.declared.did.Did.{Did}
-use Rattle.party_steps.specs.Progress.{HasServed}
+use Rattle.run_measure.specs.Steps.{HasServed}
 use Rattle.party_steps.proofs.ChangedLemmas.{as_many_made}
-use Rattle.party_steps.proofs.ServedLemmas.{served_once, served_still, served_through}
+use Rattle.run_measure.proofs.ServedLemmas.{served_once, served_still, served_through}
 use Rattle.party_steps.specs.Turning.{HasTurned}
 use Rattle.party_steps.proofs.TurnedLemmas.{turned_once, turned_still, turned_through}
 use Rattle.party_steps.proofs.stepping.turn_often.Given.{Over}

@@ -1,7 +1,7 @@
 use Rattle.std.proofs.Common.{◌≡◌, None}
 use Rattle.worker_core.specs.Share.{Share}
 use Rattle.worker_core.specs.State.{lists_of}
-use Rattle.party_steps.specs.Progress.{HasServed}
+use Rattle.run_measure.specs.Steps.{HasServed}
 use Rattle.party_steps.specs.Turning.{HasTurned}
 use Rattle.party_steps.proofs.stepping.turn_often.Given as goal
 

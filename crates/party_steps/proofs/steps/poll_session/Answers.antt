@@ -1,10 +1,10 @@
-use Rattle.std.proofs.Common.{◌≡◌, ◌∙◌, ℕ, ap, IfOk, List, map, refl, slice_get, slice_set, Some, subst, sym}
+use Rattle.std.proofs.Common.{◌≡◌, ◌∙◌, ◌≤◌, ℕ, ap, false, IfOk, List, map, refl, slice_get, slice_set, Some, subst, sym}
 use Rattle.std.proofs.lemmas.List.{length-map, length-set, map-set}
 use Rattle.std.proofs.lemmas.Option.{same_Some, slice_get-get_or}
 use Rattle.mail_contract.proofs.PostsLemmas.{stays_elsewhere}
 use Rattle.run_measure.proofs.DoneLemmas.{goes_still}
 use Rattle.run_measure.specs.Laws.{IsPlaced}
-use Rattle.run_measure.specs.Steps.{HasDone}
+use Rattle.run_measure.specs.Steps.{HasDone, HasServed}
 use Rattle.session_proxy.specs.Share.{Share}
 use Rattle.session_proxy.specs.State.{Lists, PlainProxy, lists_of}
 use Rattle.worker_core.specs.State as workers
@@ -12,13 +12,13 @@ use Rattle.drain_steps.proofs.ItemsLemmas.{mapped}
 use Rattle.drain_steps.proofs.PlacesLemmas.{now_there}
 use Rattle.party_run.specs.Running.{GoesOn}
 use Rattle.party_run.specs.Session.{proxy_of}
-use Rattle.party_steps.specs.Polling.{HasPolled, IsAllAnswered}
-use Rattle.party_steps.specs.Progress.{HasMovedOn, HasServed}
+use Rattle.party_steps.specs.Polling.{HasPolled, HasWaited, IsAllAnswered}
+use Rattle.party_steps.specs.Progress.{HasMovedOn}
 use Rattle.party_steps.proofs.ChangedLemmas.{made_at_place, made_goes_on, now_made, on_ok, where_value}
 use Rattle.party_steps.proofs.PlacedLemmas.{may_be_polled}
 use Rattle.party_steps.proofs.PolledLemmas.{polled_still}
 use Rattle.party_steps.proofs.PolledRunLemmas.{polled_goes_on}
-use Rattle.party_steps.proofs.ServedLemmas.{served_still}
+use Rattle.run_measure.proofs.ServedLemmas.{served_still}
 use Rattle.party_steps.proofs.TogetherLemmas.{all_stepped, done_more, each_goes}
 use Rattle.party_steps.proofs.steps.poll_session.Given.{Over}
 use Rattle.party_steps.proofs.steps.poll_session.Goals as goal
@@ -80,6 +80,14 @@ module _ (g : Over) (c : After-poll_often g) where
 
 pub returns-clause-goes_on : goal.returns-clause-goes_on
 returns-clause-goes_on g c = goes_on g (goal.at.returns-clause-goes_on g c).After-poll_often
+
+pub returns-clause-waited : goal.returns-clause-waited
+returns-clause-waited g c was before =
+    let polled = there g (goal.at.returns-clause-waited g c).After-poll_often in
+    subst (λ was. IfOk c.poll_often.result (λ polled. polled.moved ≡ false → polled.ended ≡ false → 1 ≤ c.args.most
+    → HasWaited g.S.Tx.sent g.S.Tx.clear g.S.Tx.roomy g.S.Tx.unseen g.R.Rx.received g.R.Rx.answers g.R.Rx.about g.R.Rx.keeps was))
+    (same_Some (proxy_of c.index_mut.result.now) was (sym (mapped proxy_of c.args.parties.now.sessions.items c.args.place c.index_mut.result.now polled) ∙ before))
+    c.poll_often.ensures.waited
 
 -- the session that was polled may be
 its_may : (g : Over) (c : After-poll_often g) → ((at : ℕ) (proxy : PlainProxy g.row.S.Denot g.row.R.Denot) → slice_get (proxies g c) at ≡ Some proxy → IsPlaced (its g c proxy) × Share (its g c proxy))

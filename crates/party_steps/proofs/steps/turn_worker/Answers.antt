@@ -1,44 +1,50 @@
 use Rattle.std.proofs.Common.{◌≡◌, ◌∙◌, map, None, refl, slice_set, subst, sym}
 use Rattle.std.proofs.lemmas.List.{length-set}
 use Rattle.std.proofs.lemmas.Option.{same_Some}
+use Rattle.mail_contract.proofs.PostsLemmas.{stays_elsewhere}
 use Rattle.session_proxy.specs.State.{lists_of as session_lists}
 use Rattle.worker_core.specs.State.{lists_of}
+use Rattle.drain_steps.proofs.PlacesLemmas.{at_place}
 use Rattle.party_run.specs.Running.{GoesOn}
 use Rattle.party_run.specs.Session.{proxy_of}
 use Rattle.run_measure.proofs.DoneLemmas.{goes_still}
-use Rattle.run_measure.specs.Steps.{HasDone}
-use Rattle.party_steps.specs.Progress.{HasServed}
+use Rattle.run_measure.proofs.ServedLemmas.{served_still}
+use Rattle.run_measure.specs.Steps.{HasDone, HasServed}
 use Rattle.party_run.proofs.ChangedLemmas.{done_to_one}
-use Rattle.party_steps.proofs.ChangedLemmas.{where_ok}
-use Rattle.party_steps.proofs.ServedLemmas.{served_still}
 use Rattle.party_steps.proofs.TogetherLemmas.{all_stepped}
-use Rattle.party_steps.specs.Turning.{HasTurned}
+use Rattle.party_steps.specs.Turning.{HasRested, HasTurned}
 use Rattle.party_steps.proofs.TurnedLemmas.{turned_still}
 use Rattle.party_steps.proofs.TurnedRunLemmas.{turned_goes_on}
 use Rattle.party_steps.proofs.steps.turn_worker.Given.{Over}
 use Rattle.party_steps.proofs.steps.turn_worker.Goals as goal
-use Rattle.party_steps.proofs.steps.turn_worker.Goals.{After-turn_often}
+use Rattle.party_steps.proofs.steps.turn_worker.Goals.{After-turn_out}
 
 -- the run goes on
-module _ (g : Over) (c : After-turn_often g) where
+module _ (g : Over) (c : After-turn_out g) where
   goes_on : GoesOn g.S.Tx.key g.S.Tx.number g.S.Tx.sent g.T.Tx.key g.T.Tx.number g.O.Tx.key g.O.Tx.number
       g.Q.Rx.key g.Q.Rx.pairs g.Q.Rx.senders g.Q.Rx.received g.Q.Rx.about
       g.G.GossipRx.key g.G.GossipRx.pairs g.G.GossipRx.senders g.G.GossipRx.got g.G.GossipRx.about
       g.R.Rx.key g.R.Rx.pairs g.R.Rx.senders g.R.Rx.received g.R.Rx.about
-      c.args.parties.now.workers.items (slice_set c.args.parties.now.workers.items c.args.place c.turn_often.new.worker)
+      c.args.parties.now.workers.items (slice_set c.args.parties.now.workers.items c.args.place c.turn_out.new.worker)
       (map proxy_of c.args.parties.now.sessions.items) (map proxy_of c.args.parties.now.sessions.items)
   goes_on =
       let workers = c.args.parties.now.workers.items in
-      turned_goes_on workers (slice_set workers c.args.place c.turn_often.new.worker) (map proxy_of c.args.parties.now.sessions.items)
-      (length-set workers c.args.place c.turn_often.new.worker)
+      turned_goes_on workers (slice_set workers c.args.place c.turn_out.new.worker) (map proxy_of c.args.parties.now.sessions.items)
+      (length-set workers c.args.place c.turn_out.new.worker)
       (done_to_one
       (λ at. HasTurned g.Q.Rx.key g.T.Tx.key g.T.Tx.number g.O.Tx.key g.O.Tx.number g.G.GossipRx.key g.Q.Rx.keeps.complete g.Q.Rx.senders g.Q.Rx.received g.Q.Rx.about g.T.Tx.sent
-      g.G.GossipRx.keeps.complete g.G.GossipRx.senders g.G.GossipRx.got g.G.GossipRx.about) (λ at. turned_still) workers c.args.place c.index_mut.result.now c.turn_often.new.worker
-      c.requires c.index_mut.ensures.value
-      c.turn_often.ensures.turned)
+      g.G.GossipRx.keeps.complete g.G.GossipRx.senders g.G.GossipRx.got g.G.GossipRx.about) (λ at. turned_still) workers c.args.place c.index_mut.result.now c.turn_out.new.worker
+      c.requires.within c.index_mut.ensures.value
+      (record { gone_on = c.turn_out.ensures.gone_on; gossip_stands = c.turn_out.ensures.gossip_stand }))
+
+pub returns-in_err-turn_out-clause-goes_on : goal.returns-in_err-turn_out-clause-goes_on
+returns-in_err-turn_out-clause-goes_on g c = goes_on g (goal.at.returns-in_err-turn_out-clause-goes_on g c).After-turn_out
+
+pub returns-clause-others : goal.returns-clause-others
+returns-clause-others g c other apart = stays_elsewhere c.args.parties.now.workers.items c.args.place other c.turn_out.new.worker apart
 
 pub returns-clause-goes_on : goal.returns-clause-goes_on
-returns-clause-goes_on g c = goes_on g (goal.at.returns-clause-goes_on g c).After-turn_often
+returns-clause-goes_on g c = goes_on g (goal.at.returns-clause-goes_on g c).After-turn_out
 
 pub returns-clause-steps : goal.returns-clause-steps
 returns-clause-steps g c =
@@ -46,13 +52,25 @@ returns-clause-steps g c =
     let proxies = map proxy_of c.args.parties.now.sessions.items in
     let lists = lists_of g.Q.Rx.received g.T.Tx.sent g.O.Tx.sent g.G.GossipRx.got in
     let its = session_lists g.S.Tx.sent g.R.Rx.received in
-    where_ok c.turn_often.result c.turn_often.ensures.served (λ served. record {
-      goes_on = goes_on g (goal.at.returns-clause-steps g c).After-turn_often;
+    record {
+      goes_on = goes_on g (goal.at.returns-clause-steps g c).After-turn_out;
       gone_on = λ script running.
           all_stepped g.S.Tx.sent g.T.Tx.sent g.O.Tx.sent g.Q.Rx.received g.G.GossipRx.got g.R.Rx.received
-          workers (slice_set workers c.args.place c.turn_often.new.worker) proxies proxies (length-set workers c.args.place c.turn_often.new.worker) refl
+          workers (slice_set workers c.args.place c.turn_out.new.worker) proxies proxies (length-set workers c.args.place c.turn_out.new.worker) refl
           (λ place was there. (running.workers_are place was there).sessions ∙ sym running.as_many_sessions)
           (done_to_one (λ at was is. was.state.kept ≡ None → HasServed (lists was) (lists is)) (λ at worker. served_still (lists worker))
-          workers c.args.place c.index_mut.result.now c.turn_often.new.worker c.requires c.index_mut.ensures.value served)
+          workers c.args.place c.index_mut.result.now c.turn_out.new.worker c.requires.within c.index_mut.ensures.value c.in_ok-turn_out.ensures.served)
           (λ at was is there also. subst (λ is. HasDone (its was) (its is)) (same_Some was is (sym there ∙ also)) (goes_still (its was)));
+    }
+
+pub returns-clause-rested : goal.returns-clause-rested
+returns-clause-rested g c =
+    at_place (HasRested g.Q.Rx.keeps g.Q.Rx.received g.Q.Rx.answers g.Q.Rx.about g.T.Tx.clear g.T.Tx.sent) c.args.parties.now.workers.items c.args.place
+    c.index_mut.result.now c.turn_out.new.worker c.requires.within c.index_mut.ensures.value (record {
+      none_kept = c.in_ok-turn_out.ensures.none_kept;
+      replied_more = c.turn_out.ensures.gone_on.replied_more;
+      stands = c.turn_out.ensures.gone_on.stand;
+      fronts = c.turn_out.ensures.gone_on.fronts;
+      no_request = c.in_ok-turn_out.ensures.no_request;
+      wants_place = c.in_ok-turn_out.ensures.wants_place;
     })

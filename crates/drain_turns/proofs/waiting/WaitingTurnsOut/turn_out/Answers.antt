@@ -1,10 +1,30 @@
+use Rattle.std.proofs.Common.{◌≡◌, Ok, OnOk, subst}
+use Rattle.worker_core.specs.declared.did.Did.{Did}
+use Rattle.drain_steps.proofs.ItemsLemmas.{long_alike}
+use Rattle.drain_turns.proofs.ServesLemmas.{ServesOn, at_blocked, sent_since, serves_still, serves_through, wants_sent}
 use Rattle.drain_turns.proofs.StretchLemmas.{keeps_still, keeps_through, room_at_last}
 use Rattle.drain_turns.proofs.TurningLemmas.{gone_on_through}
 use Rattle.drain_turns.proofs.TurningRoomLemmas.{room_of_doing}
+use Rattle.drain_turns.proofs.waiting.WaitingTurnsOut.turn_out.Given.{Over}
 use Rattle.drain_turns.proofs.waiting.WaitingTurnsOut.turn_out.Goals as goal
+use Rattle.drain_turns.proofs.waiting.WaitingTurnsOut.turn_out.Goals.{After-turn_once}
+
+module _ (g : Over) where
+  -- what it has served after one more turn
+  served_on : (c : After-turn_once g) (its : Did) → c.turn_once.result ≡ Ok its
+      → ServesOn g.Q.Rx.received g.T.Tx.sent g.O.Tx.sent g.G.GossipRx.got g.T.Tx.clear c.args.worker.now c.turn_once.new.worker
+  served_on c its is =
+      let ok = λ (holds : Type 0) (told : OnOk c.turn_once.result holds). subst (λ result. OnOk result holds) is told in
+      serves_through g.Q.Rx.received g.T.Tx.sent g.O.Tx.sent g.G.GossipRx.got g.T.Tx.clear c.args.worker.now c.loop.worker c.turn_once.new.worker c.loop.invariant.serves
+      (long_alike g.T.Tx.number c.loop.worker.ends.replies.items c.turn_once.new.worker.ends.replies.items c.turn_once.ensures.goes_on.gone_on.keys.replies_numbers)
+      c.turn_once.ensures.goes_on.gone_on.replied_more (λ none_kept. ok _ (c.turn_once.ensures.served none_kept)) (ok _ c.turn_once.ensures.stay_clear)
 
 pub loop-init : goal.loop-init
-loop-init g c = record { keeps = keeps_still c.args.worker.now; rounds = (tt, tt) }
+loop-init g c = record {
+  keeps = keeps_still c.args.worker.now;
+  serves = serves_still g.Q.Rx.received g.T.Tx.sent g.O.Tx.sent g.G.GossipRx.got g.T.Tx.clear c.args.worker.now;
+  rounds = (tt, tt);
+}
 
 pub returns-in_err-turn_once-clause-gone_on : goal.returns-in_err-turn_once-clause-gone_on
 returns-in_err-turn_once-clause-gone_on g c = gone_on_through c.loop.invariant.keeps.on.gone_on c.in_err-turn_once.ensures.goes_on.gone_on
@@ -24,5 +44,14 @@ loop-preserved g c = record {
       keeps_through c.loop.invariant.keeps c.in_ok-turn_once.ensures.goes_on
       (λ none. room_of_doing g.O.Tx.clear g.O.Tx.roomy g.O.Tx.unseen c.loop.worker c.turn_once.new.worker c.in_ok-turn_once.field-0 c.in_default.not-Blocked c.in_default.not-Idle
       (c.in_ok-turn_once.ensures.room none));
+  serves = served_on g (goal.at.loop-preserved g c).After-turn_once c.in_ok-turn_once.field-0 c.in_ok-turn_once.was;
   rounds = (tt, tt);
 }
+
+pub returns-in-Blocked-clause-wants_place : goal.returns-in-Blocked-clause-wants_place
+returns-in-Blocked-clause-wants_place g c =
+    let before = c.loop.worker.ends.replies.items in
+    let now = c.turn_once.new.worker in
+    sent_since g.Q.Rx.received g.T.Tx.sent g.O.Tx.sent g.G.GossipRx.got g.T.Tx.clear c.args.worker.now c.loop.worker now c.loop.invariant.serves
+    (long_alike g.T.Tx.number before now.ends.replies.items c.in_ok-turn_once.ensures.goes_on.gone_on.keys.replies_numbers) c.in_ok-turn_once.ensures.goes_on.gone_on.replied_more now.state.held
+    (wants_sent g.T.Tx.clear g.T.Tx.sent before now.ends.replies.items now.state.held (at_blocked c.in-Blocked.is c.in_ok-turn_once.ensures.wants_place))

@@ -1,15 +1,17 @@
-use Rattle.std.proofs.Common.{◌≡◌, ◌∙◌, ℕ, ◌≤◌, ◌⊎◌, Bool, false, List, Result, IsTrue, Vec, is_some, ap, arith, length, map, sym, subst, refl, Ok}
+use Rattle.std.proofs.Common.{◌≡◌, ◌∙◌, ℕ, ◌≤◌, ◌⊎◌, Bool, false, List, Result, IsTrue, Vec, is_some, ap, arith, length, map, sym, subst, refl, Ok, OnOk}
 use Rattle.std.specs.Global.{Global}
 use Rattle.std.proofs.lemmas.List.{length-map}
-use Rattle.std.proofs.lemmas.Result.{err_from_is_err_and}
+use Rattle.std.proofs.lemmas.Result.{err_from_is_err_and, on_ok_weaker}
 use Rattle.lattice_laws.specs.Counts.{Rose}
 use Rattle.lattice_laws.specs.declared.lattice.NoMemory.{NoMemory}
 use Rattle.mail_contract.specs.Standing.{AreMet}
-use Rattle.worker_core.specs.Room.{RoomAt}
+use Rattle.worker_core.specs.Room.{RoomAt, StayClear}
 use Rattle.worker_core.specs.Serving.{RoundsIf}
 use Rattle.worker_core.specs.State.{Lists, PlainWorker, dirty, kept_batch, lists_of}
 use Rattle.worker_core.specs.Turns.{Counts, Gossips, HaveRoom, KeepsRequest, SomeRose, StayOrCameBack, batches, counts_of, joined_in}
+use Rattle.worker_core.specs.declared.did.Did.{Did}
 use Rattle.worker_core.proofs.LawfulLemmas.{as_long, none_held}
+use Rattle.worker_core.proofs.RoomLemmas.{clear_through}
 use Rattle.worker_core.proofs.ToldLemmas.{gossips_nothing}
 use Rattle.worker_core.proofs.TurnLemmas.{CameBack, Started, batch_taken, either, heard_turns, held_full, items_of, kept_turns, lacks, left_back, no_batch, no_ok, no_request, not_counted, not_started, on_none_sent, request_taken, rests_joined, rests_turns, resent_lacks, resent_still, rose_between, round_lacks, round_turns, rounds_at_first, rounds_back, served_turns, some_sent, starts, unmoved_through, was_made}
 use Rattle.worker_core.proofs.worker.WorkerOver.step.Given.{Over}
@@ -66,6 +68,18 @@ module _ (g : Over) where
   still c =
       resent_still g.Q.Rx.received g.T.Tx.sent g.O.Tx.sent g.G.GossipRx.got g.T.Tx.fulls c.args.self.now c.resend.new.self c.in_ok-resend.field-0 c.if-branch.false
       c.resend.ensures.state c.in_ok-resend.ensures.resent c.resend.ensures.requests c.resend.ensures.gossip_out c.resend.ensures.gossip_in
+
+  -- a sender of replies that found a place for the next one still does, or has sent one since
+  abbrev Clear : Worker → Worker → Type 0
+  Clear before now = StayClear g.T.Tx.clear g.T.Tx.sent before.ends.replies.items now.ends.replies.items
+
+  -- and so once a message is worked on, where no reply went out again before
+  works_clear : (c : After-tell_if g) (result : Result Did NoMemory) (kept now : Worker) → kept.ends.replies ≡ c.resend.new.self.ends.replies
+      → OnOk result (Clear kept now) → OnOk result (Clear c.args.self.now now)
+  works_clear c result kept now same =
+      on_ok_weaker result (λ clear. clear_through g.T.Tx.clear g.T.Tx.sent c.args.self.now.ends.replies.items c.resend.new.self.ends.replies.items now.ends.replies.items
+      (ap (λ (lists : Lists). lists.replied) (still c)) c.in_ok-resend.ensures.stay_clear
+      (subst (λ replies. StayClear g.T.Tx.clear g.T.Tx.sent (items_of replies) now.ends.replies.items) same clear))
 
   -- the round that was due
   round_due : (c : After-tell_if g) → Round c.is_due-due.result c.tell_if.result c.args.self.now c.resend.new.self c.tell_if.new.self
@@ -269,6 +283,16 @@ returns-clause-did g c =
     (ap (λ replies. map g.T.Tx.fulls (items_of replies)) (sym (c.tell_if-2.ensures.replies ∙ c.take_request.ensures.replies ∙ c.take_gossip.ensures.replies ∙ c.tell_if.ensures.replies)))
     (held_full worker.state.held resent.state.held _ _ _ _ c.in_ok-resend.field-0 c.if-branch.false c.in_ok-resend.ensures.resent (ap is_some (sym held_resent) ∙ held)) in
     rw c.rests.ensures (rests_turns (lists g worker) (lists g now) (counts g worker) (counts g now) first unmoved none_kept found_none found_no_request back held_back)
+
+pub returns-then-branch-2-clause-stay_clear : goal.returns-then-branch-2-clause-stay_clear
+returns-then-branch-2-clause-stay_clear g c =
+    works_clear g (goal.at.returns-then-branch-2-clause-stay_clear g c).After-tell_if c.work-then-branch-2.result c.take_gossip.new.self c.work-then-branch-2.new.self
+    (c.take_gossip.ensures.replies ∙ c.tell_if.ensures.replies) c.work-then-branch-2.ensures.stay_clear
+
+pub returns-then-branch-3-clause-stay_clear : goal.returns-then-branch-3-clause-stay_clear
+returns-then-branch-3-clause-stay_clear g c =
+    works_clear g (goal.at.returns-then-branch-3-clause-stay_clear g c).After-tell_if c.work-then-branch-3.result c.take_request.new.self c.work-then-branch-3.new.self
+    (c.take_request.ensures.replies ∙ c.take_gossip.ensures.replies ∙ c.tell_if.ensures.replies) c.work-then-branch-3.ensures.stay_clear
 
 pub returns-then-branch-2-clause-senders : goal.returns-then-branch-2-clause-senders
 returns-then-branch-2-clause-senders g c =

@@ -1,0 +1,4 @@
+pub mod EndedLemmas
+pub mod ItemsLemmas
+pub mod ServedLemmas
+pub mod WaitedLemmas

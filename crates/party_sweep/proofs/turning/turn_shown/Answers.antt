@@ -1,0 +1,82 @@
+use Rattle.std.proofs.Common.{◌≡◌, ◌∙◌, ◌+◌, All, List, ap, arith, map, slice_get, subst, sym}
+use Rattle.std.proofs.lemmas.Option.{get_or_from_slice_get, slice_get_within}
+use Rattle.session_proxy.specs.State as sessions
+use Rattle.worker_core.specs.Share.{Share}
+use Rattle.worker_core.specs.State as workers
+use Rattle.run_waiting.specs.Waiting.{AreSigned}
+use Rattle.drain_steps.proofs.ItemsLemmas.{at_its_place, mapped, of_mapped, there_too}
+use Rattle.party_run.specs.Session.{proxy_of}
+use Rattle.party_steps.proofs.PlacedLemmas.{are_of_workers, may_be_polled}
+use Rattle.party_steps.proofs.StepsLemmas.{steps_through, steps_untold}
+use Rattle.party_sweep.proofs.ItemsLemmas.{same_told}
+use Rattle.party_sweep.proofs.ServedLemmas.{known_beside, met_beside, served_all}
+use Rattle.party_sweep.specs.Sweeping.{HasServedAll}
+use Rattle.party_sweep.proofs.turning.turn_shown.Given.{Over}
+use Rattle.party_sweep.proofs.turning.turn_shown.Goals as goal
+
+module _ (g : Over) where
+  abbrev Worker : Type 0
+  Worker = workers.PlainWorker g.row.Q.Denot g.row.T.Denot g.row.O.Denot g.row.G.Denot
+
+  abbrev Proxy : Type 0
+  Proxy = sessions.PlainProxy g.row.S.Denot g.row.R.Denot
+
+  abbrev worker_lists : Worker → workers.Lists
+  worker_lists = workers.lists_of g.Q.Rx.received g.T.Tx.sent g.O.Tx.sent g.G.GossipRx.got
+
+  abbrev session_lists : Proxy → sessions.Lists
+  session_lists = sessions.lists_of g.S.Tx.sent g.R.Rx.received
+
+pub turn_worker-requires-clause-known : goal.turn_worker-requires-clause-known
+turn_worker-requires-clause-known g c worker there =
+    let ends = c.show_worker.ensures.stay.goes_on.ends c.requires.running.ends in
+    known_beside c.requires.free c.args.place (map proxy_of c.show_worker.new.parties.sessions.items) worker
+    (λ at proxy here. c.show_worker.ensures.beside at worker proxy there here) (g.Q.Rx.senders (g.Q.Rx.key worker.ends.requests)) (ends.request_boxes c.args.place worker there)
+
+pub turn_worker-requires-clause-met : goal.turn_worker-requires-clause-met
+turn_worker-requires-clause-met g c worker there =
+    let ends = c.show_worker.ensures.stay.goes_on.ends c.requires.running.ends in
+    let long = c.show_worker.ensures.stay.goes_on.workers_long in
+    met_beside c.args.place _ _ _ (g.G.GossipRx.about worker.ends.gossip_in) (ends.gossip_boxes c.args.place worker there)
+    (λ other differs low. c.show_worker.ensures.met other differs (omega (arith, low, long)) worker there)
+
+pub returns-in_err-turn_worker-clause-others : goal.returns-in_err-turn_worker-clause-others
+returns-in_err-turn_worker-clause-others g c other differs =
+    same_told (worker_lists g) c.show_worker.new.parties.workers.items c.turn_worker.new.parties.workers.items other (c.turn_worker.ensures.others other differs)
+    ∙ ap (λ all. slice_get all other) c.show_worker.ensures.stay.workers_told
+
+pub returns-clause-others : goal.returns-clause-others
+returns-clause-others g c other differs =
+    same_told (worker_lists g) c.show_worker.new.parties.workers.items c.turn_worker.new.parties.workers.items other (c.turn_worker.ensures.others other differs)
+    ∙ ap (λ all. slice_get all other) c.show_worker.ensures.stay.workers_told
+
+pub returns-clause-steps : goal.returns-clause-steps
+returns-clause-steps g c =
+    let stay = c.show_worker.ensures.stay in
+    steps_through _ _ _ _ _ _ (steps_untold _ _ _ _ stay.workers_told stay.sessions_told stay.goes_on) c.in_ok-turn_worker.ensures.steps
+
+pub returns-clause-served : goal.returns-clause-served
+returns-clause-served g c at worker its worker_is its_is =
+    let script = c.args.script.now in
+    let shown = c.show_worker.new.parties.workers.items in
+    let turned = c.turn_worker.new.parties.workers.items in
+    let those : List (Proxy g) = map proxy_of c.show_worker.new.parties.sessions.items in
+    let running = c.show_worker.ensures.stay.goes_on.running script c.requires.running in
+    let running_now = c.turn_worker.ensures.goes_on.running script running in
+    let is = of_mapped (worker_lists g) turned c.args.place worker worker_is in
+    let was = there_too shown turned c.args.place is.0 c.turn_worker.ensures.goes_on.workers_long is.1 in
+    let long = (running.workers_are c.args.place was.0 was.1).sessions ∙ sym running.as_many_sessions in
+    let same_sessions : map proxy_of c.turn_worker.new.parties.sessions.items ≡ those = ap (λ all. map proxy_of all.items) c.turn_worker.ensures.sessions in
+    let long_now = (running_now.workers_are c.args.place is.0 is.1).sessions ∙ sym running.as_many_sessions in
+    let proxy = of_mapped (session_lists g) those at its (ap (λ all. slice_get (map (session_lists g) all) at) (sym same_sessions) ∙ its_is) in
+    let share = subst (λ worker. Share (worker_lists g worker)) (c.index.ensures ∙ get_or_from_slice_get turned c.args.place is.0 c.index.result.now is.1) c.attest.ensures.share in
+    let low = slice_get_within shown c.args.place was.0 was.1 in
+    let signed = subst (All AreSigned) (sym c.show_worker.ensures.stay.sessions_told) c.requires.signed in
+    subst (λ (both : workers.Lists × sessions.Lists). HasServedAll (at + 1) both.1 (c.args.place + 1) both.0) (λ j. (is.2 j, proxy.2 j))
+    (served_all c.requires.free c.args.place those was.0 (λ at proxy here. c.show_worker.ensures.beside at was.0 proxy was.1 here) g.Q.Rx.answers is.0
+    (c.in_ok-turn_worker.ensures.rested was.0 is.0 was.1 is.1) share long long_now
+    (λ at proxy here. (
+      (may_be_polled script shown those running at proxy here).1,
+      at_its_place AreSigned (map (session_lists g) those) at (session_lists g proxy) signed (mapped (session_lists g) those at proxy here),
+      (let senders = (are_of_workers script shown those running at (session_lists g proxy) (mapped (session_lists g) those at proxy here)).senders in (omega arith, omega (arith, senders, low))),
+    )) at proxy.0 proxy.1)
