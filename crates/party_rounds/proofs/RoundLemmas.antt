@@ -1,5 +1,5 @@
 -- What a round tells of the sessions, by what its epoch and its sweep tell.
-use Rattle.std.specs.Prelude.{◌≡◌, ◌⊎◌, ℕ, zero, suc, ◌+◌, false, IsTrue, List, [], ◌∷◌, All, length, map, slice_get, Some, ⊤, Result, Ok, Err, IfOk, OnOk}
+use Rattle.std.specs.Prelude.{◌≡◌, ◌⊎◌, ℕ, zero, suc, false, IsTrue, List, [], ◌∷◌, All, length, map, slice_get, Some, ⊤, Result, Ok, Err, IfOk, OnOk}
 use Rattle.std.proofs.Common.{◌∙◌, ap, arith, inl, inr, refl, sym}
 use Rattle.std.proofs.lemmas.Bool.{both_ways, cases_Bool}
 use Rattle.session_proxy.specs.State.{Lists, PlainProxy, lists_of}

@@ -3,7 +3,8 @@
 //!
 //! In each [`round`] every session moves that has a line not answered, so that [`run_rounds`] comes to an end, over
 //! ends that find places. [`serve_with`] makes the parties of a script over some kind of mail, runs their rounds, and
-//! drains the run.
+//! drains the run. [`serve_waiting`] serves a script over ends that keep no more than the contract of mail: it makes
+//! epochs without a sweep for as long as it takes, and what it promises holds if it returns.
 //!
 //! The crate has no definitions of its own: what a run is while it goes on is `party_run`'s, how far it is
 //! `party_steps`', what is known of it between rounds `party_sweep`'s, and what it is once it is drained
@@ -11,5 +12,7 @@
 #![tactic(auto)]
 
 mod driver;
+mod waiting;
 
 pub use driver::{round, run_rounds, serve_with};
+pub use waiting::serve_waiting;

@@ -1,10 +1,17 @@
 //! Runs in threads, each judged; and that parties run beside each other.
+ghost use Rattle.std.specs.Prelude.{IfOk};
+ghost use Rattle.placement.specs.Config.{placed};
+ghost use Rattle.session_known.specs.Script.{IsValidScript};
+
 use super::*;
 use anna_check::{Verdict, check};
+use drain_steps::Waiting;
 use lattice_laws::NoMemory;
+use party_ends::QueueMaker;
 use party_epochs::{FreeGate, Gate};
+use party_rounds::serve_waiting;
 use script_reader::read_script;
-use session_known::{Answer, Report};
+use session_known::{Answer, Report, Script};
 use std::alloc::Global;
 use std::sync::atomic::{AtomicBool, AtomicU64, Ordering};
 use std::test::Fail;
@@ -90,6 +97,16 @@ impl Gate for Meetings {
     }
 }
 
+/// The script that a text says.
+fn script_of(alloc: Global, text: &str) -> Result<Script, NoMemory>
+    ensures { IfOk result (λ script. IsValidScript script (placed script.config)) }
+{
+    match read_script(alloc, text.as_bytes()) {
+        Ok(script) => Ok(script),
+        Err(_) => Err(NoMemory),
+    }
+}
+
 /// The report of a run of the script that a text says, and what it is judged.
 fn served<E: Gate + Sync, H: Threads + Sync>(
     rt: &H,
@@ -97,9 +114,7 @@ fn served<E: Gate + Sync, H: Threads + Sync>(
     alloc: Global,
     text: &str,
 ) -> Result<(Report, Verdict), NoMemory> {
-    let Ok(script) = read_script(alloc, text.as_bytes()) else {
-        return Err(NoMemory);
-    };
+    let script = script_of(alloc, text)?;
     let drained = serve(rt, gate, alloc, &script)?;
     let verdict = check(alloc, &script, &drained.report)?;
     Ok((drained.report, verdict))
@@ -109,6 +124,24 @@ fn served<E: Gate + Sync, H: Threads + Sync>(
 fn two_workers_and_two_sessions_of_each_level(rt: HostRuntime) -> Result<(), Fail> {
     for text in LEVELS {
         let (_, verdict) = served(&rt, &FreeGate, rt.alloc(), text)?;
+        assert_eq!(rt; verdict, Verdict::Legal);
+    }
+    Ok(())
+}
+
+#[test]
+fn two_workers_and_two_sessions_of_each_level_over_queues(rt: HostRuntime) -> Result<(), Fail> {
+    for text in LEVELS {
+        let script = script_of(rt.alloc(), text)?;
+        let drained = serve_waiting(
+            &rt,
+            &Waiting(&rt),
+            &FreeGate,
+            &QueueMaker { rt },
+            rt.alloc(),
+            &script,
+        )?;
+        let verdict = check(rt.alloc(), &script, &drained.report)?;
         assert_eq!(rt; verdict, Verdict::Legal);
     }
     Ok(())

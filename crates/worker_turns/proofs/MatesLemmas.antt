@@ -6,6 +6,7 @@ use Rattle.std.proofs.lemmas.Option.{get_or_from_slice_get, slice_get_within}
 use Rattle.mail_contract.proofs.MapsLemmas.{at_map}
 use Rattle.mail_contract.specs.Lanes.{IsLaneOf}
 use Rattle.worker_core.specs.State.{IsFixed, KeysStay, PlainWorker, State}
+use Rattle.worker_turns.specs.Desks.{Stays}
 
 -- what no call changes stays through two calls
 pub fixed_through : {before between now : State} → IsFixed before between → IsFixed between now → IsFixed before now
@@ -29,6 +30,18 @@ keys_through first then' = record {
   gossip_out_keys = then'.gossip_out_keys ∙ first.gossip_out_keys;
   gossip_out_numbers = then'.gossip_out_numbers ∙ first.gossip_out_numbers;
   gossip_in_key = then'.gossip_in_key ∙ first.gossip_in_key;
+}
+
+-- so a worker at its desk stays there
+pub stays_from : {Q T O G QK TK OK GK : Type 0} {requests : Q → QK} {replies : T → TK} {reply_numbers : T → ℕ}
+    {gossip_out : O → OK} {gossip_numbers : O → ℕ} {gossip_in : G → GK} {before now : PlainWorker Q T O G}
+    → IsFixed before.state now.state
+    → KeysStay requests replies reply_numbers gossip_out gossip_numbers gossip_in before now
+    → Stays before now
+stays_from {replies = replies} {gossip_out = gossip_out} {before = before} {now = now} fixed keys = record {
+  me = fixed.me;
+  sessions = sym (length-map now.ends.replies.items replies) ∙ ap length keys.replies_keys ∙ length-map before.ends.replies.items replies;
+  mates = sym (length-map now.ends.gossip_out.items gossip_out) ∙ ap length keys.gossip_out_keys ∙ length-map before.ends.gossip_out.items gossip_out;
 }
 
 -- an only sender, numbered 1, is of one making with the only lane of a box

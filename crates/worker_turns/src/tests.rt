@@ -1,11 +1,12 @@
 //! What a worker does, turn by turn.
 ghost use Rattle.std.specs.Prelude.{◌≡◌, ◌≤◌, length, IfOk, OnOk};
 ghost use Rattle.worker_turns.specs.Desks.{IsAtRest, Stays};
+ghost use Rattle.worker_core.specs.State.{IsFixed, KeysStay};
 
 use clock_lattice::{Clock, Needs};
 use composed_value::{Kind, Payload, Put, Value};
 use lattice_laws::{Items, Maybe};
-use mail_contract::{Parcel, PlainRx, PlainTx, Rx, Tx, plain};
+use mail_contract::{GossipRx, Parcel, PlainRx, PlainTx, Rx, Tx, plain};
 use placement::{Config, KeyPlace, Name, Placement};
 use std::alloc::Global;
 use std::test::Fail;
@@ -134,15 +135,21 @@ fn ask(desk: &mut Desk, session: usize, request: Request) -> Result<(), Fail>
     Ok(())
 }
 
-/// What a worker does in each turn until it is idle, and how much is left to tell after each.
-fn turns(alloc: Global, worker: &mut Worker<PlainPost>) -> Result<Vec<(Did, usize)>, Fail>
-    ensures { Stays worker.old worker.new }
+/// What a worker does in each turn until it finds nothing more to do, and how much is left to tell after
+/// each.
+pub(crate) fn turns<Q: Rx<Request>, T: Tx<Reply>, O: Tx<Batch>, G: GossipRx<Batch, From = O>>(
+    alloc: Global,
+    worker: &mut WorkerOver<Q, T, O, G>,
+) -> Result<Vec<(Did, usize)>, Fail>
+    ensures stays { Stays worker.old worker.new }
+    ensures fixed { IsFixed worker.old.state worker.new.state }
+    ensures keys { KeysStay Q.key T.key T.number O.key O.number G.key worker.old worker.new }
 {
     let mut all = Vec::new(alloc);
-    for _ in 0..16 {
+    for _ in 0..128 {
         let did = worker.turn()?;
         all.push((did, worker.dirty()))?;
-        if did == Did::Idle {
+        if matches!(did, Did::Idle | Did::Blocked) {
             break;
         }
     }

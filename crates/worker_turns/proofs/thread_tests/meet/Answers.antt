@@ -1,6 +1,6 @@
 use Rattle.mail_rings.specs.Rings.{tx_ring}
 use Rattle.worker_turns.proofs.MatesLemmas.{only_lane}
-use Rattle.worker_turns.proofs.thread_tests.beside.Goals as goal
+use Rattle.worker_turns.proofs.thread_tests.meet.Goals as goal
 
 pub beside_mate-requires-clause-pair : goal.beside_mate-requires-clause-pair
 beside_mate-requires-clause-pair c = λ sender at.
