@@ -64,40 +64,44 @@ fn no_session(rt: HostRuntime) -> Result<(), Fail> {
     Ok(())
 }
 
-/// The first of two senders sends a message, and then the second: whose messages the box hands out, one
-/// after another.
+/// The first of two senders sends a message, and then the second. Whether both were taken in.
+fn both_send<M: Drop, S: Tx<M>>(senders: Vec<S>, first: M, second: M) -> bool {
+    let mut senders = senders;
+    match (senders.pop(), senders.pop()) {
+        (Some(mut two), Some(mut one)) => one.send(first).is_ok() && two.send(second).is_ok(),
+        _ => false,
+    }
+}
+
+/// Whose messages a box with two senders hands out, one after another, once both have sent.
 fn taken_from<M: Drop, P: MakesMail<M>>(
     maker: &P,
     alloc: Global,
     first: M,
     second: M,
 ) -> Result<[Option<u16>; 3], NoMemory> {
-    let (mut senders, mut mailbox) = maker.make(alloc, 2)?;
+    let (senders, mut mailbox) = maker.make(alloc, 2)?;
     let mut taken = [None; 3];
-    if let (Some(mut two), Some(mut one)) = (senders.pop(), senders.pop()) {
-        if one.send(first).is_ok() && two.send(second).is_ok() {
-            for place in 0..3 {
-                taken[place] = mailbox.take()?.map(|(sender, _)| sender);
-            }
+    if both_send(senders, first, second) {
+        for place in 0..3 {
+            taken[place] = mailbox.take()?.map(|(sender, _)| sender);
         }
     }
     Ok(taken)
 }
 
-/// And so for a weak box.
+/// And whose a weak box does.
 fn taken_from_weak<M: Drop, P: MakesGossip<M>>(
     maker: &P,
     alloc: Global,
     first: M,
     second: M,
 ) -> Result<[Option<u16>; 3], NoMemory> {
-    let (mut senders, mut mailbox) = maker.make_weak(alloc, 2)?;
+    let (senders, mut mailbox) = maker.make_weak(alloc, 2)?;
     let mut taken = [None; 3];
-    if let (Some(mut two), Some(mut one)) = (senders.pop(), senders.pop()) {
-        if one.send(first).is_ok() && two.send(second).is_ok() {
-            for place in 0..3 {
-                taken[place] = mailbox.take()?.map(|(sender, _)| sender);
-            }
+    if both_send(senders, first, second) {
+        for place in 0..3 {
+            taken[place] = mailbox.take()?.map(|(sender, _)| sender);
         }
     }
     Ok(taken)

@@ -11,15 +11,12 @@ use mail_contract::{GossipRx, Rx, Tx};
 use party_ends::{MakesGossip, MakesMail, new_parties};
 use party_epochs::{Gate, run_epoch};
 use party_run::PartiesOver;
-use party_steps::{Progresses, finish_run, poll_session};
+use party_steps::{MOST_POLLS, Progresses, finish_run, poll_session};
 use session_known::Script;
 use std::alloc::Global;
 use std::sync::Wait;
 use std::thread::Threads;
 use store_msg::{Batch, Reply, Request};
-
-/// How often a session is polled between two epochs, at most.
-const MOST_POLLS: u32 = 16_384;
 
 /// Serves a script over any kind of mail, and drains the run. It may wait, and what it promises holds if it returns.
 /// After `NoMemory` all is dropped.

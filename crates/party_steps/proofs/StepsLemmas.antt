@@ -1,22 +1,19 @@
 -- The parties of a run take steps, one after another or all at once.
-use Rattle.std.specs.Prelude.{◌≡◌, ℕ, ◌+◌, ◌≤◌, List, All, length, map, sum_by, Option, None}
-use Rattle.std.proofs.Common.{◌∙◌, ap, arith, refl, subst, sym}
+use Rattle.std.specs.Prelude.{ℕ, ◌+◌, ◌≤◌, List, map, sum_by, Option}
+use Rattle.std.proofs.Common.{◌∙◌, refl, subst, sym}
 use Rattle.std.proofs.lemmas.List.{length-map}
-use Rattle.std.proofs.lemmas.Option.{slice_get_within}
 use Rattle.mail_contract.specs.Standing.{About}
-use Rattle.placement.specs.Config.{IsOneOf}
 use Rattle.session_known.specs.declared.script.Script.{Script}
 use Rattle.session_proxy.specs.State as sessions
 use Rattle.store_msg.specs.Reply.{PlainReply}
 use Rattle.store_msg.specs.declared.request.Request.{Request}
 use Rattle.worker_core.specs.State as workers
-use Rattle.drain_steps.proofs.ItemsLemmas.{all_there, also_there, at_its_place, of_mapped, there_is}
-use Rattle.party_run.specs.Running.{AreRunning, GoesOn}
+use Rattle.party_run.specs.Running.{AreRunning}
 use Rattle.party_run.proofs.GoesOnLemmas.{goes_on_through}
 use Rattle.run_measure.specs.Laws.{AreOfWorkers}
 use Rattle.party_steps.proofs.PlacedLemmas.{are_of_workers}
 use Rattle.run_measure.specs.Measure.{AreAllCounted, measure_of_all}
-use Rattle.run_measure.specs.Steps.{HaveAllGoneOn, done}
+use Rattle.run_measure.specs.Steps.{done}
 use Rattle.run_measure.proofs.TogetherLemmas.{together_lower}
 use Rattle.party_steps.specs.Progress.{NoneKept, StepsOn}
 use Rattle.party_steps.proofs.TogetherLemmas.{all_still, all_through, done_no_less}
@@ -37,7 +34,7 @@ module _ {S T O Q G R SK TK OK QK GK RK : Type 0}
     gone_on = λ script run none. (none, all_still (map (workers.lists_of requests_received replied told got) those) (map (sessions.lists_of asked replies_received) proxies));
   }
 
-  -- some and then others,
+  -- or some and then others;
   pub steps_through : (those those_then those_now : List (workers.PlainWorker Q T O G)) (proxies proxies_then proxies_now : List (sessions.PlainProxy S R))
       → StepsOn request_key request_number asked reply_key reply_number replied gossip_key gossip_number told
       requests_key requests_pairs requests_senders requests_received requests_about in_key in_pairs in_senders got in_about
@@ -56,29 +53,6 @@ module _ {S T O Q G R SK TK OK QK GK RK : Type 0}
               earlier.1 later.1,
         );
   }
-
-  -- or none of which anything is told of the parties
-  pub steps_untold : (those those_now : List (workers.PlainWorker Q T O G)) (proxies proxies_now : List (sessions.PlainProxy S R))
-      → map (workers.lists_of requests_received replied told got) those_now ≡ map (workers.lists_of requests_received replied told got) those → map (sessions.lists_of asked replies_received) proxies_now ≡ map (sessions.lists_of asked replies_received) proxies → GoesOn request_key request_number asked reply_key reply_number gossip_key gossip_number
-      requests_key requests_pairs requests_senders requests_received requests_about in_key in_pairs in_senders got in_about
-      replies_key replies_pairs replies_senders replies_received replies_about those those_now proxies proxies_now
-      → StepsOn request_key request_number asked reply_key reply_number replied gossip_key gossip_number told
-      requests_key requests_pairs requests_senders requests_received requests_about in_key in_pairs in_senders got in_about
-      replies_key replies_pairs replies_senders replies_received replies_about those those_now proxies proxies_now
-  steps_untold those those_now proxies proxies_now same alike on = record {
-    goes_on = on;
-    gone_on = λ script run none. (
-      all_there (λ worker. worker.state.kept ≡ None) those_now (λ place worker there.
-          let was = also_there (workers.lists_of requests_received replied told got) those those_now same place worker there in
-          kept_still was.0 worker was.2 (at_its_place (λ (worker : workers.PlainWorker Q T O G). worker.state.kept ≡ None) those place was.0 none was.1)),
-      subst (λ all. HaveAllGoneOn (map (workers.lists_of requests_received replied told got) those) all (map (sessions.lists_of asked replies_received) proxies) (map (sessions.lists_of asked replies_received) proxies_now)) (sym same)
-          (subst (λ all. HaveAllGoneOn (map (workers.lists_of requests_received replied told got) those) (map (workers.lists_of requests_received replied told got) those) (map (sessions.lists_of asked replies_received) proxies) all) (sym alike)
-          (all_still (map (workers.lists_of requests_received replied told got) those) (map (sessions.lists_of asked replies_received) proxies))),
-    );
-  }
-    where
-      kept_still : (was is : workers.PlainWorker Q T O G) → (workers.lists_of requests_received replied told got) was ≡ (workers.lists_of requests_received replied told got) is → was.state.kept ≡ None → is.state.kept ≡ None
-      kept_still was is told_same kept = ap (λ lists. lists.state.kept) (sym told_same) ∙ kept
 
   -- a run of which no worker keeps a message is one after steps, too
   pub steps_ready : (script : Script) (those those_now : List (workers.PlainWorker Q T O G)) (proxies proxies_now : List (sessions.PlainProxy S R))

@@ -21,4 +21,4 @@ pub use finishing::finish_run;
 pub use pace::{Pace, UntilNothing};
 pub use progress::Progresses;
 pub use stepping::{Polled, poll_often, turn_often};
-pub use steps::{poll_session, turn_worker};
+pub use steps::{MOST_POLLS, poll_session, turn_worker};

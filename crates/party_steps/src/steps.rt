@@ -55,6 +55,10 @@ pub fn turn_worker<
     Ok(())
 }
 
+/// How often a session is polled in one step of a run, at most, where it is to be polled until it waits: more often
+/// than there is a line to answer or a request to send.
+pub const MOST_POLLS: u32 = 16_384;
+
 /// Polls the session at a place until it answers NotYet, Rest or Ended, or drops a reply, at most so many times.
 /// Tells whether it has ended, whether it did anything, and where not, what its ends told.
 pub fn poll_session<

@@ -1,4 +1,5 @@
 pub mod EndedLemmas
 pub mod ItemsLemmas
 pub mod ServedLemmas
+pub mod StayLemmas
 pub mod WaitedLemmas

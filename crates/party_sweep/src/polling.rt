@@ -11,13 +11,9 @@ use lattice_laws::NoMemory;
 use mail_contract::{GossipRx, Rx, Tx};
 use party_beside::Besides;
 use party_run::{PartiesOver, Runs};
-use party_steps::{Polled, Progresses, poll_session};
+use party_steps::{MOST_POLLS, Polled, Progresses, poll_session};
 use session_known::Script;
 use store_msg::{Batch, Reply, Request};
-
-/// How often a session is polled in one step of a sweep, at most: more often than there is a line to answer
-/// or a request to send.
-const MOST_POLLS: u32 = 16_384;
 
 /// Whether an ask of the session at a place came to nothing in the epoch.
 fn rested_at(came: &[Polled], place: usize) -> bool

@@ -1,5 +1,6 @@
 use Rattle.std.proofs.Common.{arith, subst, sym}
-use Rattle.party_steps.proofs.StepsLemmas.{steps_lower, steps_ready, steps_through, steps_untold}
+use Rattle.party_steps.proofs.StepsLemmas.{steps_lower, steps_ready, steps_through}
+use Rattle.party_sweep.proofs.StayLemmas.{stay_steps}
 use Rattle.party_sweep.specs.Sweeping.{AllAwait}
 use Rattle.party_rounds.proofs.ToldLemmas.{all_counted}
 use Rattle.party_rounds.proofs.driver.run_rounds.Goals as goal
@@ -8,7 +9,7 @@ pub loop-turns-init : goal.loop-turns-init
 loop-turns-init g c =
     let stay = c.show_told.ensures.stay in
     record {
-      steps = steps_untold _ _ _ _ stay.workers_told stay.sessions_told stay.goes_on;
+      steps = stay_steps _ _ _ _ stay;
       told = c.show_told.ensures.told;
       await_theirs = subst AllAwait (sym stay.sessions_told) c.requires.await_theirs;
       to_asks = c.show_told.ensures.to_asks;

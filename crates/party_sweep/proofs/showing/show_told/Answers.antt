@@ -10,7 +10,8 @@ use Rattle.run_waiting.specs.Waiting.{AreSigned, AreToAsks}
 use Rattle.drain_steps.proofs.ItemsLemmas.{all_there, at_its_place, of_mapped}
 use Rattle.party_run.specs.Session.{proxy_of}
 use Rattle.party_steps.proofs.PlacedLemmas.{are_of_workers}
-use Rattle.party_steps.proofs.StepsLemmas.{steps_ready, steps_untold}
+use Rattle.party_steps.proofs.StepsLemmas.{steps_ready}
+use Rattle.party_sweep.proofs.StayLemmas.{stay_steps}
 use Rattle.party_sweep.proofs.showing.show_told.Goals as goal
 
 pub returns-clause-to_asks : goal.returns-clause-to_asks
@@ -19,9 +20,8 @@ returns-clause-to_asks g c =
     let session_lists = sessions.lists_of g.S.Tx.sent g.R.Rx.received in
     let those = c.show_all.new.parties.workers.items in
     let proxies = map proxy_of c.show_all.new.parties.sessions.items in
-    let stay = c.show_all.ensures.stay in
     let script = c.args.script.now in
-    let then = steps_ready script _ _ _ _ c.requires.running c.requires.none_kept (steps_untold _ _ _ _ stay.workers_told stay.sessions_told stay.goes_on) in
+    let then = steps_ready script _ _ _ _ c.requires.running c.requires.none_kept (stay_steps _ _ _ _ c.show_all.ensures.stay) in
     let told = c.show_all.ensures.told c.requires.free.0.complete c.requires.free.1.complete in
     all_there (λ its. AreToAsks its × AreSigned its) (map session_lists proxies) (λ at its here.
     let proxy = of_mapped session_lists proxies at its here in

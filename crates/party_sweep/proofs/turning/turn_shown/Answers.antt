@@ -7,9 +7,10 @@ use Rattle.run_waiting.specs.Waiting.{AreSigned}
 use Rattle.drain_steps.proofs.ItemsLemmas.{at_its_place, mapped, of_mapped, there_too}
 use Rattle.party_run.specs.Session.{proxy_of}
 use Rattle.party_steps.proofs.PlacedLemmas.{are_of_workers, may_be_polled}
-use Rattle.party_steps.proofs.StepsLemmas.{steps_through, steps_untold}
+use Rattle.party_steps.proofs.StepsLemmas.{steps_through}
 use Rattle.party_sweep.proofs.ItemsLemmas.{same_told}
 use Rattle.party_sweep.proofs.ServedLemmas.{known_beside, met_beside, served_all}
+use Rattle.party_sweep.proofs.StayLemmas.{stay_steps}
 use Rattle.party_sweep.specs.Sweeping.{HasServedAll}
 use Rattle.party_sweep.proofs.turning.turn_shown.Given.{Over}
 use Rattle.party_sweep.proofs.turning.turn_shown.Goals as goal
@@ -51,9 +52,7 @@ returns-clause-others g c other differs =
     ∙ ap (λ all. slice_get all other) c.show_worker.ensures.stay.workers_told
 
 pub returns-clause-steps : goal.returns-clause-steps
-returns-clause-steps g c =
-    let stay = c.show_worker.ensures.stay in
-    steps_through _ _ _ _ _ _ (steps_untold _ _ _ _ stay.workers_told stay.sessions_told stay.goes_on) c.in_ok-turn_worker.ensures.steps
+returns-clause-steps g c = steps_through _ _ _ _ _ _ (stay_steps _ _ _ _ c.show_worker.ensures.stay) c.in_ok-turn_worker.ensures.steps
 
 pub returns-clause-served : goal.returns-clause-served
 returns-clause-served g c at worker its worker_is its_is =
