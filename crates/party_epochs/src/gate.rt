@@ -1,5 +1,6 @@
 //! What is told of each turn in an epoch.
 use party_steps::Pace;
+use std::hint::spin_loop;
 use std::thread::yield_now;
 
 /// Is called before each turn of each party in an epoch. It changes nothing that a contract sees.
@@ -17,24 +18,48 @@ impl Gate for FreeGate {
     fn at(&self, _party: u16, _turn: u64) {}
 }
 
-/// The pace of a party in an epoch: before each turn the gate is called, and where a turn found nothing to do the
-/// party gives its place on the core away and tries again.
+/// After how many turns in a row that found nothing to do a party leaves the epoch.
+const MOST_WAITS: u32 = 32;
+
+/// A party spins for 2 to the power of this many pauses at most, which takes some microseconds.
+const LONGEST_SPIN: u32 = 9;
+
+/// The pace of a party in an epoch. Before each turn the gate is called. Where a turn found nothing to do the party
+/// waits a little before the next one: it gives its place on the core away and spins by turns, for longer each time;
+/// and after many such turns in a row it leaves the epoch. So it waits for what others do beside it, lets those go on
+/// that share its core, and costs few slices of a core that other programs want.
 #[derive(Drop)]
 pub(crate) struct EpochPace<'a, E: Gate> {
     pub(crate) gate: &'a E,
     pub(crate) party: u16,
     /// How many turns it has taken.
     pub(crate) turns: u64,
+    /// How many turns in a row found nothing to do, up to the last one that did.
+    pub(crate) waits: u32,
+    /// Whether the last turn is one of them.
+    pub(crate) waited: bool,
 }
 
 impl<'a, E: Gate> Pace for EpochPace<'a, E> {
     fn before(&mut self) {
+        if !self.waited {
+            self.waits = 0;
+        }
+        self.waited = false;
         self.turns = self.turns.saturating_add(1);
         self.gate.at(self.party, self.turns);
     }
 
     fn tries_again(&mut self) -> bool {
-        yield_now();
-        true
+        if self.waits % 2 == 0 {
+            yield_now();
+        } else {
+            for _ in 0..1u32 << self.waits.min(LONGEST_SPIN) {
+                spin_loop();
+            }
+        }
+        self.waits = self.waits.saturating_add(1);
+        self.waited = true;
+        self.waits < MOST_WAITS
     }
 }

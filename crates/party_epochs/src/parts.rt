@@ -41,6 +41,8 @@ impl<Q: Rx<Request>, T: Tx<Reply>, O: Tx<Batch>, G: GossipRx<Batch, From = O>> P
             gate,
             party: self.party,
             turns: self.turns,
+            waits: 0,
+            waited: false,
         };
         turn_often(&mut pace, &mut self.worker, MOST_TURNS)?;
         self.turns = pace.turns;
@@ -84,6 +86,8 @@ impl<S: Tx<Request>, R: Rx<Reply>> Piece for PolledOver<S, R> {
             gate,
             party: self.party,
             turns: self.turns,
+            waits: 0,
+            waited: false,
         };
         self.polled = poll_often(&mut pace, &mut self.session, MOST_TURNS)?;
         self.turns = pace.turns;
