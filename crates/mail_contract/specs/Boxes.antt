@@ -3,7 +3,7 @@ use Rattle.std.specs.Prelude.{◌≡◌, ◌⊎◌, ℕ, ◌+◌, ◌-◌, ◌*�
 use Rattle.lattice_laws.specs.declared.lattice.NoMemory.{NoMemory}
 use Rattle.mail_contract.specs.Got.{HandedOut, AreIn, IsOfSent, AreAllOfSent as AreAllGot, IsOfShown as IsGotOfShown, StayDue, AreDueHandedOut, missing}
 use Rattle.mail_contract.specs.Parts.{Parts}
-use Rattle.mail_contract.specs.Standing.{About, AllStand, AreMet, Learned, OthersStay, Settled, left_of_all}
+use Rattle.mail_contract.specs.Standing.{About, AllStand, AreMet, Learned, OthersStay, Settled, StillAll, left_of_all}
 use Rattle.mail_contract.specs.Takes.{Answers, OnSome, OnNone, Took, Counted, LeftFalls, IsFront, IsFrontOfSent, AreAllOfSent, IsOfShown, IsInTurn, IsNothingLeft, from_sender, last_sender}
 
 -- what contracts see of a box, beside its key
@@ -52,7 +52,7 @@ pub record HandsOut {M E : Type 0} (keeps : Parts) (senders : ℕ) (answer : Res
   pub most : IsTrue keeps.finite → AreMet senders before.about → now.most ≤ before.most
   pub falls : IsTrue keeps.finite → AreMet senders before.about → OnSome answer (λ sender message. now.most + 1 ≤ before.most)
   pub exact : IsTrue keeps.exact → OnNone answer (IsNothingLeft now.about)
-  pub due : StayDue before.got now.got before.due now.due
+  pub due : StayDue before.got now.got before.about before.due now.due
   pub advances : IsTrue keeps.advances → OnNone answer (AreDueHandedOut now.got now.about now.due)
   pub sure : IsTrue keeps.sure → IsOk answer
 
@@ -95,6 +95,7 @@ pub record SettlesWeak {M : Type 0} (keeps : Parts) (senders sender : ℕ) (sent
   pub told : AreIn (before.got sender) sent
   pub left : IsTrue keeps.finite → (now.about sender).left ≤ missing (before.got sender) sent
   pub most : IsTrue keeps.finite → now.most ≤ 2 * (left_of_all senders now.about + 8)
+  pub still_due : StillAll before.due now.due
 
 -- a sender is held beside the weak box
 pub record ShowsWeak {M : Type 0} (keeps : Parts) (senders sender : ℕ) (sent : List M) (before now : WeakBox M) : Type 0 where
@@ -103,6 +104,7 @@ pub record ShowsWeak {M : Type 0} (keeps : Parts) (senders sender : ℕ) (sent :
   pub learned : Learned keeps sender sent before.about now.about
   pub most : IsTrue keeps.finite → now.most ≤ 2 * (left_of_all senders now.about + 8)
   pub due : IsTrue (now.due sender)
+  pub still_due : StillAll before.due now.due
   pub told : IsTrue keeps.complete → AreIn (before.got sender) sent
 
 -- a sender is held beside the box

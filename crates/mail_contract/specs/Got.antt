@@ -1,7 +1,7 @@
 -- What a weak box has handed out: at a sender's number and a place in what that one sent, a message.
-use Rattle.std.specs.Prelude.{◌≡◌, ◌⊎◌, ℕ, ◌<◌, Bool, IsTrue, List, length, slice_get, sum_by, Option, Some, None, Result, Ok, Err}
+use Rattle.std.specs.Prelude.{◌≡◌, ◌⊎◌, ℕ, ◌+◌, ◌<◌, ◌≤◌, Bool, IsTrue, List, length, slice_get, sum_by, Option, Some, None, Result, Ok, Err}
 use Rattle.std.specs.List.{range_with_len}
-use Rattle.mail_contract.specs.Standing.{About, OnShown, OfSent}
+use Rattle.mail_contract.specs.Standing.{About, Standing, OnShown, OfSent}
 use Rattle.mail_contract.specs.Takes.{from_sender}
 
 module _ {M : Type 0} where
@@ -49,9 +49,13 @@ module _ {M : Type 0} where
   abbrev pub IsOfShown : (ℕ → ℕ → Option M) → (ℕ → About M) → ℕ → Type 0
   IsOfShown got about sender = OnShown (about sender).standing (AreIn (got sender))
 
-  -- a sender of which nothing new comes stays due
-  abbrev pub StayDue : (ℕ → ℕ → Option M) → (ℕ → ℕ → Option M) → (ℕ → Bool) → (ℕ → Bool) → Type 0
-  StayDue got got_now due now = (sender : ℕ) → got_now sender ≡ got sender → IsTrue (due sender) → IsTrue (now sender)
+  -- of what a shown sender had sent when it was last beside the box a message came that was missing
+  abbrev pub FewerMissing : (ℕ → Option M) → (ℕ → Option M) → Standing M → Type 0
+  FewerMissing got got_now standing = OnShown standing (λ sent. missing got_now sent + 1 ≤ missing got sent)
+
+  -- a sender stays due until such a message comes
+  abbrev pub StayDue : (ℕ → ℕ → Option M) → (ℕ → ℕ → Option M) → (ℕ → About M) → (ℕ → Bool) → (ℕ → Bool) → Type 0
+  StayDue got got_now about due now = (sender : ℕ) → IsTrue (due sender) → IsTrue (now sender) ⊎ FewerMissing (got sender) (got_now sender) (about sender).standing
 
   -- of those that are shown and due all was handed out that they had sent when they were last beside the box
   abbrev pub AreDueHandedOut : (ℕ → ℕ → Option M) → (ℕ → About M) → (ℕ → Bool) → Type 0

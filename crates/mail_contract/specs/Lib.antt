@@ -2,6 +2,7 @@ pub mod Boxes
 pub mod Carried
 pub mod Got
 pub mod Lanes
+pub mod Laws
 pub mod Parcels
 pub mod Parts
 pub mod Plain

@@ -1,6 +1,6 @@
 -- What a send answers.
 use Rattle.std.specs.Prelude.{◌≡◌, ◌≢◌, ℕ, ◌≤◌, List, [], ◌∷◌, ◌++◌, slice_index_or, slice_set, Result, Ok, Err, ⊤}
-use Rattle.lattice_laws.specs.Counts.{Rose}
+use Rattle.lattice_laws.specs.Counts.{one_more}
 use Rattle.mail_contract.specs.declared.Refused.{Refused}
 use Rattle.mail_contract.specs.declared.Refused.TheVariants.{NoMemory, Full}
 
@@ -15,6 +15,10 @@ module _ {M U : Type 0} where
   abbrev pub OnSent : Result U (Refused M) → Type 0 → Type 0
   OnSent (Ok done) holds = holds
   OnSent (Err refused) holds = ⊤
+
+  abbrev pub OnRefused : Result U (Refused M) → Type 0 → Type 0
+  OnRefused (Ok done) holds = ⊤
+  OnRefused (Err refused) holds = holds
 
   abbrev pub OnFull : Result U (Refused M) → Type 0 → Type 0
   OnFull (Err (Full back)) holds = holds
@@ -33,6 +37,6 @@ module _ {M U : Type 0} where
   -- how often each wanted for a place
   abbrev pub FullsAfter : Result U (Refused M) → ℕ → List ℕ → List ℕ → Type 0
   FullsAfter (Err (Full back)) place before now =
-      (slice_index_or before place 0 ≤ slice_index_or now place 0) × Rose (slice_index_or before place 0) (slice_index_or now place 0)
+      (slice_index_or before place 0 ≤ slice_index_or now place 0) × (slice_index_or now place 0 ≡ one_more (slice_index_or before place 0))
       × ((other : ℕ) → other ≢ place → slice_index_or now other 0 ≡ slice_index_or before other 0)
   FullsAfter result place before now = now ≡ before

@@ -19,6 +19,10 @@ pub record About (M : Type 0) : Type 0 where
   -- how many are, where that is known
   pub left : ℕ
 
+-- what holds of a sender still does
+abbrev pub StillAll : (ℕ → Bool) → (ℕ → Bool) → Type 0
+StillAll before now = (sender : ℕ) → IsTrue (before sender) → IsTrue (now sender)
+
 module _ {M : Type 0} where
   abbrev pub OnShown : Standing M → (List M → Type 0) → Type 0
   OnShown Apart holds = ⊤

@@ -1,6 +1,6 @@
 -- What a take answers.
 use Rattle.std.specs.Prelude.{◌≡◌, ◌≢◌, ◌⊎◌, ℕ, ◌+◌, ◌<◌, ◌≤◌, ◌==◌, if◌then◌else◌, Bool, IsTrue, List, [], ◌∷◌, ◌++◌, length, map, take, slice_index_or, Option, Some, None, Result, Ok, Err, ⊤}
-use Rattle.lattice_laws.specs.Counts.{Rose}
+use Rattle.lattice_laws.specs.Counts.{one_more}
 use Rattle.mail_contract.specs.Standing.{About, OnShown, OfSent}
 
 -- how often a box answered, each counted up to the greatest number of a `u64`
@@ -33,10 +33,10 @@ module _ {M E : Type 0} where
   Took (Ok None) before now = now ≡ before
   Took (Err error) before now = now ≡ before
 
-  -- one count rises, that of the answer
+  -- one count rises, that of the answer, and by one
   abbrev pub Counted : Result (Option (ℕ × M)) E → Answers → Answers → Type 0
-  Counted (Ok (Some message)) before now = (now.nones ≡ before.nones) × (before.somes ≤ now.somes) × Rose before.somes now.somes
-  Counted (Ok None) before now = (before.nones ≤ now.nones) × Rose before.nones now.nones × (now.somes ≡ before.somes)
+  Counted (Ok (Some message)) before now = (now.nones ≡ before.nones) × (before.somes ≤ now.somes) × (now.somes ≡ one_more before.somes)
+  Counted (Ok None) before now = (before.nones ≤ now.nones) × (now.nones ≡ one_more before.nones) × (now.somes ≡ before.somes)
   Counted (Err error) before now = now ≡ before
 
   -- a message that is taken is one less that its sender has left, where that is known

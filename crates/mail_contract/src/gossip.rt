@@ -3,7 +3,7 @@ ghost use Rattle.std.specs.Prelude.{◌≡◌, ℕ, ◌+◌, ◌*◌, ◌≤◌,
 ghost use Rattle.lattice_laws.specs.declared.lattice.NoMemory.{NoMemory};
 ghost use Rattle.mail_contract.specs.Got.{HandedOut, AreIn, AreAll, IsOfSent, AreAllOfSent, IsOfShown, StayDue, AreDueHandedOut, missing};
 ghost use Rattle.mail_contract.specs.Parts.{Parts};
-ghost use Rattle.mail_contract.specs.Standing.{About, Learned, Settled, IsSettled, AllPart, AllStand, AreMet, OthersStay, left_of_all};
+ghost use Rattle.mail_contract.specs.Standing.{About, Learned, Settled, IsSettled, AllPart, AllStand, AreMet, OthersStay, StillAll, left_of_all};
 ghost use Rattle.mail_contract.specs.Takes.{Answers, OnSome, OnNone, Counted, IsNothingLeft, LeftFalls};
 
 use crate::Tx;
@@ -36,8 +36,8 @@ pub trait GossipRx<M>: Drop {
 
     ghost about: { Self → ℕ → About M };
 
-    // Of a sender: until one of its messages comes that had not come before, nothing is found only
-    // where all came that it had sent when it was last beside the box.
+    // Of a sender: nothing is found only where all came that it had sent when it was last beside the
+    // box. So it is from then on, until such a message comes that was missing.
     ghost due: { Self → ℕ → Bool };
 
     // How often a message is handed out at most before nothing is found, where every sender is met.
@@ -73,7 +73,8 @@ pub trait GossipRx<M>: Drop {
         ensures falls { IsTrue keeps.finite → AreMet (senders (key self.old)) (about self.old)
             → OnSome result (λ _ _. most self.new + 1 ≤ most self.old) }
         ensures exact { IsTrue keeps.exact → OnNone result (IsNothingLeft (about self.new)) }
-        ensures due { StayDue (got self.old) (got self.new) (due self.old) (due self.new) }
+        ensures due { StayDue (got self.old) (got self.new) (about self.old)
+            (due self.old) (due self.new) }
         ensures advances { IsTrue keeps.advances
             → OnNone result (AreDueHandedOut (got self.new) (about self.new) (due self.new)) }
         ensures sure { IsTrue keeps.sure → IsOk result }
@@ -95,7 +96,8 @@ pub trait GossipRx<M>: Drop {
         ensures left { IsTrue keeps.finite → (about self.new (Self.From.number ended)).left
             ≤ missing (got self.old (Self.From.number ended)) (Self.From.sent ended) }
         ensures most { IsTrue keeps.finite → most self.new
-            ≤ 2 * (left_of_all (senders (key self.old)) (about self.new) + 8) };
+            ≤ 2 * (left_of_all (senders (key self.old)) (about self.new) + 8) }
+        ensures still_due { StillAll (due self.old) (due self.new) };
 
     /// Holds a sender beside the box, so that each learns what the other has. Takes no memory.
     fn beside(&mut self, tx: &mut Self::From)
@@ -112,6 +114,7 @@ pub trait GossipRx<M>: Drop {
         ensures most { IsTrue keeps.finite → most self.new
             ≤ 2 * (left_of_all (senders (key self.old)) (about self.new) + 8) }
         ensures due { IsTrue (due self.new (Self.From.number tx.old)) }
+        ensures still_due { StillAll (due self.old) (due self.new) }
         ensures told { IsTrue keeps.complete
             → AreIn (got self.old (Self.From.number tx.old)) (Self.From.sent tx.old) }
         ensures roomy { IsTrue keeps.roomy → Self.From.unseen tx.new

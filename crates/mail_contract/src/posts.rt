@@ -1,7 +1,7 @@
 //! Sending by one of several senders.
 ghost use Rattle.std.specs.Prelude.{◌≡◌, ◌≢◌, ◌<◌, ◌≤◌, ◌+◌, ℕ, length, map, slice_get, slice_index_or, min, IsTrue, Some};
 ghost use Rattle.mail_contract.specs.Parcels.{GivesUp};
-ghost use Rattle.mail_contract.specs.Sends.{FullsAfter, OnFull, OnSent, Posted};
+ghost use Rattle.mail_contract.specs.Sends.{FullsAfter, OnFull, OnRefused, OnSent, Posted};
 
 use crate::{Message, Parcel, PlainTx, Refused, Tx};
 
@@ -24,6 +24,11 @@ pub fn post<M, T: Tx<M>>(senders: &mut Vec<T>, place: usize, message: M) -> Resu
     ensures unseen { IsTrue T.roomy
         → OnSent result (slice_index_or (map T.unseen senders.new.items) place 0
         ≡ min 64 (slice_index_or (map T.unseen senders.old.items) place 0 + 1)) }
+    ensures still_unseen { OnRefused result
+        (map T.unseen senders.new.items ≡ map T.unseen senders.old.items) }
+    ensures still_clear { OnRefused result ((was now : T)
+        → slice_get senders.old.items place ≡ Some was
+        → slice_get senders.new.items place ≡ Some now → T.clear was → T.clear now) }
 {
     let sender = &mut senders[place];
     sender.send(message)

@@ -1,7 +1,7 @@
 //! The end of a sender.
 ghost use Rattle.std.specs.Prelude.{◌≡◌, ℕ, ◌+◌, ◌≤◌, Bool, IsTrue, List, min};
-ghost use Rattle.lattice_laws.specs.Counts.{Rose};
-ghost use Rattle.mail_contract.specs.Sends.{Sent, OnSent, OnFull, NotFull};
+ghost use Rattle.lattice_laws.specs.Counts.{one_more};
+ghost use Rattle.mail_contract.specs.Sends.{Sent, OnSent, OnRefused, OnFull, NotFull};
 
 use crate::Refused;
 
@@ -41,10 +41,12 @@ pub trait Tx<M>: Drop {
         ensures number { number self.new ≡ number self.old }
         ensures sent { Sent result message (sent self.old) (sent self.new) }
         ensures fulls { OnFull result ((fulls self.old ≤ fulls self.new)
-            × Rose (fulls self.old) (fulls self.new)) }
+            × (fulls self.new ≡ one_more (fulls self.old))) }
         ensures not_full { NotFull result (fulls self.new ≡ fulls self.old) }
         ensures not_clear { OnFull result (clear self.old → ⊥) }
         ensures no_room { IsTrue roomy → OnFull result (64 ≤ unseen self.old) }
         ensures unseen { IsTrue roomy
-            → OnSent result (unseen self.new ≡ min 64 (unseen self.old + 1)) };
+            → OnSent result (unseen self.new ≡ min 64 (unseen self.old + 1)) }
+        ensures still_unseen { OnRefused result (unseen self.new ≡ unseen self.old) }
+        ensures still_clear { OnRefused result (clear self.old → clear self.new) };
 }

@@ -77,6 +77,8 @@ pub trait Meets<Q: Rx<Request>, T: Tx<Reply>> {
             → clear self.new worker }
         ensures others { (other : ℕ) → 1 ≤ other → other ≢ worker
             → clear self.old other → clear self.new other }
+        ensures others_unseen { (other : ℕ) → 1 ≤ other → other ≢ worker
+            → unseen self.new other ≡ unseen self.old other }
 
         // The session's box.
         ensures learned { Learned keeps (T.number replies.old) (T.sent replies.old)
@@ -112,6 +114,8 @@ pub fn meet_ends<T: Tx<Request>, R: Rx<Reply>, Q: Rx<Request, From = T>>(
     ensures sent { map T.sent ends.new.requests.items ≡ map T.sent ends.old.requests.items }
     ensures key { R.key ends.new.replies ≡ R.key ends.old.replies }
     ensures received { R.received ends.new.replies ≡ R.received ends.old.replies }
+    ensures fulls { map T.fulls ends.new.requests.items ≡ map T.fulls ends.old.requests.items }
+    ensures answers { R.answers ends.new.replies ≡ R.answers ends.old.replies }
 
     // The box of requests.
     ensures requests_key { Q.key requests.new ≡ Q.key requests.old }
@@ -139,6 +143,9 @@ pub fn meet_ends<T: Tx<Request>, R: Rx<Reply>, Q: Rx<Request, From = T>>(
         → (tx : T) → slice_index_or ends.new.requests.items (worker - 1) tx ≡ tx → T.clear tx }
     ensures others { (place : ℕ) (tx : T) → place ≢ worker - 1
         → slice_index_or ends.new.requests.items place tx ≡ slice_index_or ends.old.requests.items place tx }
+    ensures others_unseen { (place : ℕ) → place ≢ worker - 1
+        → slice_index_or (map T.unseen ends.new.requests.items) place 0
+        ≡ slice_index_or (map T.unseen ends.old.requests.items) place 0 }
 
     // The session's box.
     ensures learned { Learned R.keeps (R.From.number replies.old) (R.From.sent replies.old)
@@ -167,7 +174,7 @@ impl<T: Tx<Request>, R: Rx<Reply>, Q: Rx<Request, From = T>> Meets<Q, R::From>
     for SessionEndsOver<T, R> {
     ghost use Rattle.std.specs.Prelude.{◌≡◌, ◌-◌, ℕ, [], List, map, slice_index_or};
     ghost use Rattle.mail_contract.specs.Lanes.{IsLaneOf};
-    ghost use Rattle.mail_contract.specs.Takes.{from_sender};
+    ghost use Rattle.mail_contract.specs.Takes.{Answers, from_sender};
     ghost use Rattle.store_msg.specs.Reply.{PlainReply};
     ghost use Rattle.store_msg.specs.declared.request.Request.{Request as Asked};
 
@@ -193,12 +200,14 @@ impl<T: Tx<Request>, R: Rx<Reply>, Q: Rx<Request, From = T>> Meets<Q, R::From>
     ghost clear = { λ ends worker. (tx : T)
         → slice_index_or ends.requests.items (worker - 1) tx ≡ tx → T.clear tx };
 
-    ghost Rest = { List ℕ × List (List Asked) × List (ℕ × PlainReply) };
+    ghost Rest = { List ℕ × List (List Asked) × List (ℕ × PlainReply) × List ℕ × Answers };
 
     ghost rest = { λ ends. (
       map T.number ends.requests.items,
       map T.sent ends.requests.items,
       R.received ends.replies,
+      map T.fulls ends.requests.items,
+      R.answers ends.replies,
     ) };
 
     ghost about = { λ ends. R.about ends.replies };

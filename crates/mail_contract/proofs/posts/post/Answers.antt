@@ -1,6 +1,6 @@
 use Rattle.std.proofs.Common.{◌∙◌, ap}
 use Rattle.std.proofs.Math.Seq.{map-set_same}
-use Rattle.mail_contract.proofs.PostsLemmas.{fulls_after, no_room_after, not_clear_after, posted, stays_elsewhere, unseen_after}
+use Rattle.mail_contract.proofs.PostsLemmas.{fulls_after, no_room_after, not_clear_after, posted, stays_elsewhere, still_clear_after, still_unseen_after, unseen_after}
 use Rattle.mail_contract.proofs.posts.post.Goals as goal
 
 pub returns-clause-keys : goal.returns-clause-keys
@@ -27,3 +27,11 @@ returns-clause-no_room g c = no_room_after g.T.Tx.unseen _ _ _ c.send.result c.r
 
 pub returns-clause-unseen : goal.returns-clause-unseen
 returns-clause-unseen g c = unseen_after g.T.Tx.unseen _ _ _ c.send.result c.requires c.index_mut-sender.ensures.value _ c.send.ensures.unseen
+
+pub returns-clause-still_unseen : goal.returns-clause-still_unseen
+returns-clause-still_unseen g c =
+    still_unseen_after g.T.Tx.unseen _ _ _ _ c.send.result c.index_mut-sender.ensures.value c.send.ensures.still_unseen
+
+pub returns-clause-still_clear : goal.returns-clause-still_clear
+returns-clause-still_clear g c =
+    still_clear_after g.T.Tx.clear c.args.senders.now.items c.args.place _ _ c.send.result c.requires c.index_mut-sender.ensures.value c.send.ensures.still_clear
