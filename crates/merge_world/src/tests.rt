@@ -1,6 +1,6 @@
 //! Runs of the protocol, and what they end in.
-ghost use Rattle.std.specs.Prelude.{◌≡◌, ◌+◌, ◌<◌, ◌≤◌, ◌^◌, length, IfOk, OnOk};
-ghost use Rattle.placement.specs.Config.{IsValidConfig};
+ghost use Rattle.std.specs.Prelude.{◌≡◌, ◌+◌, ◌<◌, ◌≤◌, ◌^◌, [], All, length, IfOk, OnOk};
+ghost use Rattle.placement.specs.Config.{ArePins, IsValidConfig};
 
 use crate::{Event, Took, World, run_world};
 use clock_lattice::{Clock, Needs};
@@ -22,6 +22,41 @@ fn one_key(alloc: Global) -> Result<Config, Fail>
         factor: 1,
         keys: Items::new(vec![in alloc; KeyPlace { name, pins }]?),
     })
+}
+
+/// A key of one letter, which lives at workers 1 and 2.
+fn key(alloc: Global, letter: u8) -> Result<KeyPlace, Fail>
+    ensures { IfOk result (λ key. ArePins 2 key.pins) }
+{
+    let name = Name::of(&[letter])?;
+    let pins = Items::new(vec![in alloc; 1, 2]?);
+    Ok(KeyPlace { name, pins })
+}
+
+/// Keys a to q, each of which lives at workers 1 and 2.
+fn keys_a_to_q(alloc: Global) -> Result<Vec<KeyPlace>, Fail>
+    ensures pins { IfOk result (λ keys. All (λ key. ArePins 2 key.pins) keys.items) }
+    ensures seventeen { IfOk result (λ keys. length keys.items ≡ 17) }
+{
+    let mut keys = Vec::new(alloc);
+    for i in 0..17 {
+        keys.push(key(alloc, b'a' + i)?)?;
+    }
+    Ok(keys)
+}
+
+/// Workers 1 and 2, which share 17 keys of kind max.
+fn seventeen_keys(alloc: Global) -> Result<World, Fail>
+    ensures { IfOk result (λ world. world.pool ≡ []) }
+{
+    let config = Config {
+        workers: 2,
+        factor: 1,
+        keys: Items::new(keys_a_to_q(alloc)?),
+    };
+    let placement = Placement::build(alloc, &config)?;
+    let kinds = Items::new(vec![in alloc; Kind::Max; 17]?);
+    Ok(World::new(alloc, placement, kinds)?)
 }
 
 /// A session's put of a number on key 1.
@@ -60,6 +95,21 @@ fn happens(world: &mut World, event: Event) -> Result<Took, Fail>
     Ok(world.step(&event)?)
 }
 
+/// What becomes of gossip of these keys.
+fn told(
+    alloc: Global,
+    world: &mut World,
+    worker: u16,
+    mate: u16,
+    keys: &[u16],
+) -> Result<Took, Fail>
+    requires { length world.old.pool < 2 ^ 32 }
+    ensures { OnOk result (length world.new.pool ≤ length world.old.pool + 1) }
+{
+    let keys = Items::new(keys.to_vec(alloc)?);
+    happens(world, Event::Send { worker, mate, keys })
+}
+
 /// How many puts of a session a replica of key 1 counts, and the greatest number put.
 fn shown(world: &World, worker: u16, session: u16) -> Option<(u64, u64)> {
     let cell = world.replica(worker, 1)?;
@@ -91,6 +141,28 @@ fn gossip_comes_late_and_again(rt: HostRuntime) -> Result<(), Fail> {
     assert_eq!(rt; happens(&mut world, heard(0))?, Took::Done);
     assert_eq!(rt; happens(&mut world, heard(7))?, Took::Strange);
     assert_eq!(rt; shown(&world, 2, 1), Some((2, 5)));
+    Ok(())
+}
+
+#[test]
+fn a_message_tells_of_one_to_sixteen_ascending_keys(rt: HostRuntime) -> Result<(), Fail> {
+    let alloc = rt.alloc();
+    let mut world = seventeen_keys(alloc)?;
+    let keys = [1, 2, 3, 4, 5, 6, 7, 8, 9, 10, 11, 12, 13, 14, 15, 16, 17];
+    assert_eq!(rt; happens(&mut world, put(alloc, 1, 1, 1, 5))?, Took::Done);
+    assert_eq!(rt; told(alloc, &mut world, 1, 2, &keys)?, Took::Strange);
+    assert_eq!(rt; told(alloc, &mut world, 1, 2, &[])?, Took::Strange);
+    assert_eq!(rt; told(alloc, &mut world, 1, 2, &[2, 1])?, Took::Strange);
+    assert_eq!(rt; told(alloc, &mut world, 1, 2, &[1, 1])?, Took::Strange);
+    assert_eq!(rt; told(alloc, &mut world, 1, 2, &[1, 18])?, Took::Strange);
+    assert_eq!(rt; told(alloc, &mut world, 1, 1, &[1])?, Took::Strange);
+    assert_eq!(rt; told(alloc, &mut world, 1, 3, &[1])?, Took::Strange);
+    // No message was sent, and worker 2 has heard nothing.
+    assert_eq!(rt; happens(&mut world, heard(0))?, Took::Strange);
+    assert_eq!(rt; shown(&world, 2, 1), None);
+    assert_eq!(rt; told(alloc, &mut world, 1, 2, &keys[..16])?, Took::Done);
+    assert_eq!(rt; happens(&mut world, heard(0))?, Took::Done);
+    assert_eq!(rt; shown(&world, 2, 1), Some((1, 5)));
     Ok(())
 }
 

@@ -1,10 +1,12 @@
 pub mod BatchesLemmas
+pub mod FewLemmas
 pub mod KeptLemmas
 pub mod KeysLemmas
 pub mod LagLemmas
 pub mod LawfulLemmas
 pub mod MapLemmas
 pub mod MarkingLemmas
+pub mod OrderLemmas
 pub mod OwnLemmas
 pub mod RepliesLemmas
 pub mod RoomLemmas

@@ -606,7 +606,7 @@ module _ (U : Type 0) {M : Type 0} (refused : Refused M) (back message : M) (pla
   found_full is posted fulls_after =
       let sends = subst (λ refused. Posted {U = U} (Err refused) message place sent sent_now) is posted in
       let counts = subst (λ refused. FullsAfter {U = U} (Err refused) place fulls fulls_now) is fulls_after in
-      (sends.1, counts.0, counts.1, counts.2)
+      (sends.1, counts.0, omega (arith, counts.1), counts.2)
 
   -- where memory was wanting for it nothing was sent, and no count rose
   pub found_no_memory : refused ≡ NoMemory back → Posted {U = U} (Err refused) message place sent sent_now

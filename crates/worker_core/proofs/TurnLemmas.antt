@@ -260,13 +260,21 @@ rounds_at_first due true result before now count count_now room room_first tried
 rounds_at_first due false result before now count count_now room room_first tried same round = round
 
 -- a round in which a batch went out
-pub round_turns : (made : Bool) (result : Result ℕ NoMemory) (sent : ℕ) (before now : Lists) (count count_now : Counts) (room : ℕ → List Bool → Type 0) → result ≡ Ok sent → 0 < sent
-    → RoundsIf made result before now count count_now room → (gossips : Gossips before now) × (1 ≤ batches gossips.tries) × HaveRoom before gossips.tries room
-round_turns true result sent before now count count_now room is some round = by_sent (subst (λ result. Rounds result before now count count_now room) is round)
+pub round_turns : (made : Bool) (result : Result ℕ NoMemory) (sent : ℕ) (before now : Lists) (count count_first count_now : Counts) (room : ℕ → List Bool → Type 0) → result ≡ Ok sent → 0 < sent
+    → count_first.gossip_fulls ≡ count.gossip_fulls → RoundsIf made result before now count count_now room → Turns {E = NoMemory} (Ok did.Round) before now count_first count_now room
+round_turns true result sent before now count count_first count_now room is some same round = by_sent (subst (λ result. Rounds result before now count count_now room) is round)
   where
-    by_sent : Rounds {E = NoMemory} (Ok sent) before now count count_now room → (gossips : Gossips before now) × (1 ≤ batches gossips.tries) × HaveRoom before gossips.tries room
-    by_sent (gossips, back, have, tried, sent_is, since) = (gossips, omega (arith, sent_is, some), have)
-round_turns false result sent before now count count_now room is some same = absurd (omega (arith, ok_same sent 0 (sym is ∙ same.0), some))
+    by_sent : Rounds {E = NoMemory} (Ok sent) before now count count_now room → Turns {E = NoMemory} (Ok did.Round) before now count_first count_now room
+    by_sent (gossips, back, have, tried, sent_is, since) = (
+      gossips,
+      omega (arith, sent_is, some),
+      have,
+      tried,
+      λ place low any.
+          subst (λ fulls. Rose (slice_index_or fulls place 0) (slice_index_or count_now.gossip_fulls place 0)) (sym same) (back place low any),
+      since,
+    )
+round_turns false result sent before now count count_first count_now room is some same nothing = absurd (omega (arith, ok_same sent 0 (sym is ∙ nothing.0), some))
 
 -- a round that met want of memory
 pub round_lacks : (made : Bool) (result : Result ℕ NoMemory) (error : NoMemory) (before now : Lists) (count count_now : Counts) (room : ℕ → List Bool → Type 0) → result ≡ Err error

@@ -1,6 +1,7 @@
 pub mod Changes
 pub mod Lag
 pub mod Local
+pub mod Order
 pub mod Kept
 pub mod Room
 pub mod Sealed

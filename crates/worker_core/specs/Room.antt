@@ -53,6 +53,10 @@ StaysClear clear sent before now = clear before → clear now ⊎ (length (sent 
 abbrev pub StayClear : {T M : Type 0} → (T → Type 0) → (T → List M) → List T → List T → Type 0
 StayClear {T} clear sent before now = (place : ℕ) (was is : T) → slice_get before place ≡ Some was → slice_get now place ≡ Some is → StaysClear clear sent was is
 
+-- 64 messages or more of it may take up a place, where that is what a sender may want for
+abbrev pub HasNoRoom : {T M : Type 0} → Bool → (T → ℕ) → List T → Option (ℕ × M) → Type 0
+HasNoRoom {T} roomy unseen senders held = IsTrue roomy → IfSome held (λ held. (sender : T) → slice_get senders (held.0 - 1) ≡ Some sender → 64 ≤ unseen sender)
+
 -- the sender to the session for which a message is held found no place for it
 abbrev pub WantsPlace : {T M : Type 0} → (T → Type 0) → List T → Option (ℕ × M) → Type 0
 WantsPlace {T} clear senders held = IfSome held (λ held. (sender : T) → slice_get senders (held.0 - 1) ≡ Some sender → clear sender → ⊥)

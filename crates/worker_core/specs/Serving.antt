@@ -1,5 +1,5 @@
 -- A worker works on the message that is kept.
-use Rattle.std.specs.Prelude.{◌≡◌, ◌⊎◌, ℕ, ◌-◌, ◌<◌, ◌≤◌, ◌==◌, ◌||◌, ltb, Bool, true, false, IsTrue, is_some, if◌then◌else◌, List, [], ◌∷◌, ◌++◌, length, slice_index_or, slice_set, Option, Some, None, Result, Ok, Err, IfOk, OnErr, OnOk}
+use Rattle.std.specs.Prelude.{◌≡◌, ◌⊎◌, ℕ, ◌-◌, ◌<◌, ◌≤◌, ◌==◌, ◌||◌, ltb, Bool, true, false, IsTrue, is_some, if◌then◌else◌, List, [], ◌∷◌, ◌++◌, length, slice_index_or, slice_set, Option, Some, None, Result, Ok, Err, IfOk, OnErr, OnOk, ⊤}
 use Rattle.lattice_laws.specs.Counts.{Rose}
 use Rattle.mail_contract.specs.Takes.{Answers}
 use Rattle.merge_world.specs.Effects.{hears}
@@ -7,7 +7,7 @@ use Rattle.store_msg.specs.Reply.{PlainReply}
 use Rattle.store_msg.specs.declared.request.Request.{Request}
 use Rattle.worker_core.specs.Share.{IsHeldFor, owed_to}
 use Rattle.worker_core.specs.State.{Lists, State, dirty}
-use Rattle.worker_core.specs.Turns.{Counts, KeepsBatch, KeepsRequest, Rounds, marked, reply_to, served}
+use Rattle.worker_core.specs.Turns.{Counts, IsHeldBack, KeepsBatch, KeepsRequest, Rounds, marked, reply_to, served}
 use Rattle.worker_core.specs.declared.did.Did.{Did}
 use Rattle.worker_core.specs.declared.did.Did.TheVariants as did
 use Rattle.worker_core.specs.declared.popped.Popped.{Popped}
@@ -38,6 +38,12 @@ Served (Some (popped.Request session request)) before now replied replied_now = 
 Served (Some (popped.Batch sender batch)) before now replied replied_now =
     (now ≡ record before { cells = hears batch before.cells; kept = None }) × (replied_now ≡ replied)
 
+-- where it was a request, no reply is held after it but one that came back; a batch leaves what senders of replies tell
+abbrev pub HoldsBack : Option Popped → Option (ℕ × PlainReply) → List ℕ → List ℕ → Type 0
+HoldsBack None held fulls fulls_now = ⊤
+HoldsBack (Some (popped.Request session request)) held fulls fulls_now = IsHeldBack held fulls fulls_now
+HoldsBack (Some (popped.Batch sender batch)) held fulls fulls_now = fulls_now ≡ fulls
+
 -- what it was
 abbrev pub did_of : Option Popped → Did
 did_of None = did.Idle
@@ -50,8 +56,7 @@ Resent (Ok true) held held_now replied replied_now fulls fulls_now =
     (session : ℕ) × (reply : PlainReply) × (held ≡ Some (session, reply)) × (held_now ≡ None)
     × (replied_now ≡ slice_set replied (session - 1) (slice_index_or replied (session - 1) [] ++ reply ∷ []))
 Resent (Ok false) held held_now replied replied_now fulls fulls_now =
-    (held_now ≡ held) × (replied_now ≡ replied)
-    × ((held ≡ None) ⊎ ((session : ℕ) × (reply : PlainReply) × (held ≡ Some (session, reply)) × (session - 1 < length fulls) × Rose (slice_index_or fulls (session - 1) 0) (slice_index_or fulls_now (session - 1) 0)))
+    (held_now ≡ held) × (replied_now ≡ replied) × IsHeldBack held fulls fulls_now
 Resent (Err error) held held_now replied replied_now fulls fulls_now = (held_now ≡ held) × (replied_now ≡ replied)
 
 -- the message that is kept is worked on, by the answer

@@ -189,6 +189,13 @@ IsUnmoved before now = now ≡ record before { state = record before.state { tur
 abbrev pub AreFirstBack : ℕ → State → (ℕ → List Bool → Type 0) → Type 0
 AreFirstBack mates state room = (place : ℕ) → place < mates → changed_of state place ≢ [] → (tries : List Bool) × room place (false ∷ tries)
 
+-- no reply is held, or the one that is came back for want of a place
+abbrev pub IsHeldBack : Option (ℕ × PlainReply) → List ℕ → List ℕ → Type 0
+IsHeldBack held fulls fulls_now =
+    (held ≡ None)
+    ⊎ ((session : ℕ) × (reply : PlainReply) × (held ≡ Some (session, reply)) × (session - 1 < length fulls)
+    × Rose (slice_index_or fulls (session - 1) 0) (slice_index_or fulls_now (session - 1) 0))
+
 -- Nothing could be done for want of a place: no gossip was found and no request, or none was looked for since a reply is held; each send of
 -- the call came back.
 pub record IsBlocked (before now : Lists) (count count_now : Counts) (room : ℕ → List Bool → Type 0) : Type 0 where
@@ -237,16 +244,24 @@ pub record Lacks (before now : Lists) : Type 0 where
 abbrev pub Turns : {E : Type 0} → Result Did E → Lists → Lists → Counts → Counts → (ℕ → List Bool → Type 0) → Type 0
 Turns (Ok did.Request) before now count count_now room = ((session : ℕ) × (request : Request) × Serves session request before now) ⊎ HandsOver before now
 Turns (Ok did.Gossip) before now count count_now room = HearsSome before now count count_now
-Turns (Ok did.Round) before now count count_now room = (gossips : Gossips before now) × (1 ≤ batches gossips.tries) × HaveRoom before gossips.tries room
+Turns (Ok did.Round) before now count count_now room =
+    (gossips : Gossips before now) × (1 ≤ batches gossips.tries) × HaveRoom before gossips.tries room
+    × AllTried before gossips.tries × BackOnlyWhereFull before gossips.tries count count_now × (now.state.since ≡ 0)
 Turns (Ok did.Blocked) before now count count_now room = IsBlocked before now count count_now room
 Turns (Ok did.Idle) before now count count_now room = IsIdle before now count count_now
 Turns (Err error) before now count count_now room = Lacks before now
+
+-- a batch to a mate came back, and how many requests were taken by then is kept
+pub record TurnsBack (taken back_now fulls fulls_now : ℕ) : Type 0 where
+  pub full : Rose fulls fulls_now
+  pub taken_is : back_now ≡ counted taken
 
 -- what was turned back changes for a mate only where the count of its sender rose
 abbrev pub TurnsOnlyWhereFull : Lists → Lists → Counts → Counts → Type 0
 TurnsOnlyWhereFull before now count count_now =
     (place : ℕ) → place < length before.told
-    → (slice_index_or now.state.turned place 0 ≡ slice_index_or before.state.turned place 0) ⊎ Rose (slice_index_or count.gossip_fulls place 0) (slice_index_or count_now.gossip_fulls place 0)
+    → (slice_index_or now.state.turned place 0 ≡ slice_index_or before.state.turned place 0)
+    ⊎ TurnsBack (length before.received) (slice_index_or now.state.turned place 0) (slice_index_or count.gossip_fulls place 0) (slice_index_or count_now.gossip_fulls place 0)
 
 -- a request may be taken: fewer than a round's were since the last one, or the changeset is empty
 abbrev pub MayAsk : State → Type 0

@@ -7,11 +7,11 @@ ghost use Rattle.store_msg.specs.declared.request.Request.TheVariants as request
 ghost use Rattle.worker_core.specs.Changes.{with_key};
 ghost use Rattle.worker_core.specs.Kept.{AreEntries, IsFree, IsRequest};
 ghost use Rattle.worker_core.specs.Local.{state_of};
-ghost use Rattle.worker_core.specs.Room.{StayClear, WantsPlace};
-ghost use Rattle.worker_core.specs.Serving.{AddsReplies, NoneTakenBack, Resent, Served, Worked, did_of, since_after};
+ghost use Rattle.worker_core.specs.Room.{HasNoRoom, StayClear, WantsPlace};
+ghost use Rattle.worker_core.specs.Serving.{AddsReplies, HoldsBack, NoneTakenBack, Resent, Served, Worked, did_of, since_after};
 ghost use Rattle.worker_core.specs.Share.{IsHeldFor};
 ghost use Rattle.worker_core.specs.State.{lives_at, mate_at};
-ghost use Rattle.worker_core.specs.Turns.{changes, is_of, marked_at, reply_from};
+ghost use Rattle.worker_core.specs.Turns.{IsHeldBack, changes, is_of, marked_at, reply_from};
 
 use crate::changeset::Changeset;
 use crate::local::Local;
@@ -188,6 +188,8 @@ fn give<T: Tx<Reply>>(
     ensures held { IsHeldFor (length replies.old.items) held.new }
     ensures err { OnErr result ((held.new ≡ held.old)
         × (map T.sent replies.new.items ≡ map T.sent replies.old.items)) }
+    ensures held_back { OnOk result (IsHeldBack held.new
+        (map T.fulls replies.old.items) (map T.fulls replies.new.items)) }
     ensures stay_clear { OnOk result (StayClear T.clear T.sent replies.old.items replies.new.items) }
 {
     match post(replies, usize::from(session) - 1, reply) {
@@ -214,6 +216,8 @@ pub(crate) fn resend<T: Tx<Reply>>(
         (map T.fulls replies.old.items) (map T.fulls replies.new.items) }
     ensures stay_clear { OnOk result (StayClear T.clear T.sent replies.old.items replies.new.items) }
     ensures wants_place { OnOk result (WantsPlace T.clear replies.old.items held.new) }
+    ensures no_room { OnOk result (HasNoRoom T.roomy T.unseen replies.old.items held.new) }
+    ensures none_held { held.old ≡ None → replies.new ≡ replies.old }
 {
     let Some((session, reply)) = held.take() else {
         return Ok(false);
@@ -251,6 +255,8 @@ fn serve_request<T: Tx<Reply>>(
     ensures most { local.new.changes.most ≡ local.old.changes.most }
     ensures ok { OnOk result (Worked session request.now (state_of local.old) (state_of local.new)
         (map T.sent replies.old.items) (map T.sent replies.new.items)) }
+    ensures held_back { OnOk result (IsHeldBack local.new.held
+        (map T.fulls replies.old.items) (map T.fulls replies.new.items)) }
     ensures err { OnErr result ((state_of local.new ≡ state_of local.old)
         × (map T.sent replies.new.items ≡ map T.sent replies.old.items)) }
     ensures stay_clear { OnOk result (StayClear T.clear T.sent replies.old.items replies.new.items) }
@@ -291,6 +297,8 @@ pub(crate) fn serve<T: Tx<Reply>>(local: &mut Local, replies: &mut Vec<T>) -> Re
     ensures did { IfOk result (λ did. did ≡ did_of local.old.kept) }
     ensures ok { OnOk result (Served local.old.kept (state_of local.old) (state_of local.new)
         (map T.sent replies.old.items) (map T.sent replies.new.items)) }
+    ensures held_back { OnOk result (HoldsBack local.old.kept local.new.held
+        (map T.fulls replies.old.items) (map T.fulls replies.new.items)) }
     ensures err { OnErr result ((state_of local.new ≡ state_of local.old)
         × (map T.sent replies.new.items ≡ map T.sent replies.old.items)) }
     ensures stay_clear { OnOk result (StayClear T.clear T.sent replies.old.items replies.new.items) }

@@ -7,11 +7,12 @@ ghost use Rattle.mail_contract.specs.Takes.{IsFront, from_sender};
 ghost use Rattle.merge_world.specs.Effects.{cells_at};
 ghost use Rattle.worker_core.specs.Kept.{IsRequest};
 ghost use Rattle.worker_core.specs.Lag.{Lags};
-ghost use Rattle.worker_core.specs.Room.{LearnsRoomOf, RoomAt, StayClear, WantsPlace};
+ghost use Rattle.worker_core.specs.Order.{InOrder, IsDue};
+ghost use Rattle.worker_core.specs.Room.{HasNoRoom, LearnsRoomOf, RoomAt, StayClear, WantsPlace};
 ghost use Rattle.worker_core.specs.Sealed.{HoldsSealed, sealed_of};
-ghost use Rattle.worker_core.specs.Serving.{NoneTakenBack, Resent, RoundsIf, TakesGossip, TakesRequest, WorksOn, rests_as};
+ghost use Rattle.worker_core.specs.Serving.{HoldsBack, NoneTakenBack, Resent, RoundsIf, TakesGossip, TakesRequest, WorksOn, rests_as};
 ghost use Rattle.worker_core.specs.Share.{Share};
-ghost use Rattle.worker_core.specs.State.{IsFixed, KeysStay, dirty, kept_batch, kept_request, lists_of, opening_state};
+ghost use Rattle.worker_core.specs.State.{IsFixed, KeysStay, changed_of, dirty, kept_batch, kept_request, lists_of, opening_state};
 ghost use Rattle.worker_core.specs.Turns.{FewerMayCome, MayAsk, OnNoneSent, OnNothing, Rounds, StayOrCameBack, Turns, TurnsOnlyWhereFull, counts_of, joined_in, may_come};
 
 use crate::boxes::meet;
@@ -131,6 +132,7 @@ impl<Q: Rx<Request>, T: Tx<Reply>, O: Tx<Batch>, G: GossipRx<Batch, From = O>> W
     /// that was joined is one fewer that may still come, and no call makes more. Where a request was worked on,
     /// a batch was joined or there is nothing to do, the senders of gossip are as before, or a round was tried
     /// first: keys were left to tell, and to each mate that was left to tell the first batch came back.
+    /// What came before what it did is told by `in_order`.
     pub fn turn(&mut self) -> Result<Did, NoMemory>
         ensures share { Share (lists_of Q.received T.sent O.sent G.got self.new) }
         ensures lags { Lags (lists_of Q.received T.sent O.sent G.got self.new) }
@@ -171,6 +173,14 @@ impl<Q: Rx<Request>, T: Tx<Reply>, O: Tx<Batch>, G: GossipRx<Batch, From = O>> W
             self.old.ends.replies.items self.new.ends.replies.items) }
         ensures wants_place { OnNothing result (WantsPlace T.clear
             self.old.ends.replies.items self.new.state.held) }
+        ensures no_room { OnNothing result (HasNoRoom T.roomy T.unseen
+            self.old.ends.replies.items self.new.state.held) }
+        ensures in_order { InOrder result
+            (lists_of Q.received T.sent O.sent G.got self.old)
+            (lists_of Q.received T.sent O.sent G.got self.new)
+            (counts_of Q.answers T.fulls O.fulls G.answers self.old)
+            (counts_of Q.answers T.fulls O.fulls G.answers self.new)
+            (RoomAt O.clear O.roomy O.unseen self.old.ends.gossip_out.items) }
     {
         let did = self.step();
         self.attest();
@@ -178,14 +188,16 @@ impl<Q: Rx<Request>, T: Tx<Reply>, O: Tx<Batch>, G: GossipRx<Batch, From = O>> W
     }
 
     /// Tells what the worker keeps from call to call: its share, how far gossip lags, that each request that
-    /// it received is one that there can be, and that it counts changed keys for each mate. It does nothing,
-    /// and takes no memory.
+    /// it received is one that there can be, and that it counts changed keys for each mate, for none of them
+    /// more than there are keys. It does nothing, and takes no memory.
     pub fn attest(&self)
         ensures share { Share (lists_of Q.received T.sent O.sent G.got self.now) }
         ensures lags { Lags (lists_of Q.received T.sent O.sent G.got self.now) }
         ensures requests { All (λ message. IsRequest message.1)
             (Q.received self.now.ends.requests) }
         ensures mates { length self.now.state.changed ≡ length self.now.ends.gossip_out.items }
+        ensures few_changed { (place : ℕ)
+            → length (changed_of self.now.state place) ≤ length self.now.state.placement }
     {
         let _ = &self.local;
     }
@@ -228,6 +240,14 @@ impl<Q: Rx<Request>, T: Tx<Reply>, O: Tx<Batch>, G: GossipRx<Batch, From = O>> W
             self.old.ends.replies.items self.new.ends.replies.items) }
         ensures wants_place { OnNothing result (WantsPlace T.clear
             self.old.ends.replies.items self.new.state.held) }
+        ensures no_room { OnNothing result (HasNoRoom T.roomy T.unseen
+            self.old.ends.replies.items self.new.state.held) }
+        ensures in_order { InOrder result
+            (lists_of Q.received T.sent O.sent G.got self.old)
+            (lists_of Q.received T.sent O.sent G.got self.new)
+            (counts_of Q.answers T.fulls O.fulls G.answers self.old)
+            (counts_of Q.answers T.fulls O.fulls G.answers self.new)
+            (RoomAt O.clear O.roomy O.unseen self.old.ends.gossip_out.items) }
     {
         if self.has_kept() {
             return self.work();
@@ -262,7 +282,7 @@ impl<Q: Rx<Request>, T: Tx<Reply>, O: Tx<Batch>, G: GossipRx<Batch, From = O>> W
 
     /// Whether a round is to be made before the next request is taken.
     fn is_due(&self) -> bool
-        ensures due { IsTrue result → 1 ≤ dirty self.now.state }
+        ensures due { IsTrue result → IsDue self.now.state }
         ensures not_due { result ≡ false → MayAsk self.now.state }
     {
         self.local.since >= self.local.round && self.local.changes.len() > 0
@@ -301,6 +321,8 @@ impl<Q: Rx<Request>, T: Tx<Reply>, O: Tx<Batch>, G: GossipRx<Batch, From = O>> W
             (lists_of Q.received T.sent O.sent G.got self.old)
             (lists_of Q.received T.sent O.sent G.got self.new) }
         ensures turned { self.new.state.turned ≡ self.old.state.turned }
+        ensures held_back { OnOk result (HoldsBack self.old.state.kept self.new.state.held
+            (map T.fulls self.old.ends.replies.items) (map T.fulls self.new.ends.replies.items)) }
         ensures stay_clear { OnOk result (StayClear T.clear T.sent
             self.old.ends.replies.items self.new.ends.replies.items) }
     {
@@ -323,6 +345,10 @@ impl<Q: Rx<Request>, T: Tx<Reply>, O: Tx<Batch>, G: GossipRx<Batch, From = O>> W
             self.old.ends.replies.items self.new.ends.replies.items) }
         ensures wants_place { OnOk result (WantsPlace T.clear
             self.old.ends.replies.items self.new.state.held) }
+        ensures no_room { OnOk result (HasNoRoom T.roomy T.unseen
+            self.old.ends.replies.items self.new.state.held) }
+        ensures none_held { self.old.state.held ≡ None
+            → self.new.ends.replies ≡ self.old.ends.replies }
     {
         resend(&mut self.local.held, &mut self.ends.replies)
     }
@@ -375,6 +401,7 @@ impl<Q: Rx<Request>, T: Tx<Reply>, O: Tx<Batch>, G: GossipRx<Batch, From = O>> W
             (Q.answers self.old.ends.requests) (Q.answers self.new.ends.requests)
             (FindsNothing Q.keeps
             (box_of Q.received Q.answers Q.about self.new.ends.requests)) }
+        ensures none_held { IfOk result (λ taken. IsTrue taken → self.old.state.held ≡ None) }
     {
         if self.local.held.is_some() {
             return Ok(false);

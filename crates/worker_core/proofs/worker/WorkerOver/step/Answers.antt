@@ -1,16 +1,19 @@
-use Rattle.std.proofs.Common.{◌≡◌, ◌∙◌, ℕ, ◌≤◌, ◌⊎◌, Bool, false, List, Result, IsTrue, Vec, is_some, ap, arith, length, map, sym, subst, refl, Ok, OnOk}
+use Rattle.std.proofs.Common.{◌≡◌, ◌∙◌, ℕ, ◌≤◌, ◌⊎◌, Bool, false, List, Result, IsTrue, None, Vec, is_some, ap, arith, inl, inr, length, map, sym, subst, refl, Ok, OnOk}
 use Rattle.std.specs.Global.{Global}
 use Rattle.std.proofs.lemmas.List.{length-map}
 use Rattle.std.proofs.lemmas.Result.{err_from_is_err_and, on_ok_weaker}
 use Rattle.lattice_laws.specs.Counts.{Rose}
 use Rattle.lattice_laws.specs.declared.lattice.NoMemory.{NoMemory}
 use Rattle.mail_contract.specs.Standing.{AreMet}
+use Rattle.worker_core.specs.Order.{AsksGossip, IsDue}
 use Rattle.worker_core.specs.Room.{RoomAt, StayClear}
 use Rattle.worker_core.specs.Serving.{RoundsIf}
 use Rattle.worker_core.specs.State.{Lists, PlainWorker, dirty, kept_batch, lists_of}
-use Rattle.worker_core.specs.Turns.{Counts, Gossips, HaveRoom, KeepsRequest, SomeRose, StayOrCameBack, batches, counts_of, joined_in}
+use Rattle.worker_core.specs.Turns.{Counts, Gossips, IsHeldBack, KeepsRequest, MayAsk, SomeRose, StayOrCameBack, Turns, counts_of, joined_in}
 use Rattle.worker_core.specs.declared.did.Did.{Did}
+use Rattle.worker_core.specs.declared.did.Did.TheVariants as did
 use Rattle.worker_core.proofs.LawfulLemmas.{as_long, none_held}
+use Rattle.worker_core.proofs.OrderLemmas.{heard_in_order, held_back, kept_in_order, kept_there, none_due, rests_in_order, served_in_order, someone}
 use Rattle.worker_core.proofs.RoomLemmas.{clear_through}
 use Rattle.worker_core.proofs.ToldLemmas.{gossips_nothing}
 use Rattle.worker_core.proofs.TurnLemmas.{CameBack, Started, batch_taken, either, heard_turns, held_full, items_of, kept_turns, lacks, left_back, no_batch, no_ok, no_request, not_counted, not_started, on_none_sent, request_taken, rests_joined, rests_turns, resent_lacks, resent_still, rose_between, round_lacks, round_turns, rounds_at_first, rounds_back, served_turns, some_sent, starts, unmoved_through, was_made}
@@ -93,7 +96,7 @@ module _ (g : Over) where
       → Begun c.is_due-due.result c.args.self.now (lists c.args.self.now) c.resend.new.self c.tell_if.new.self
   begun c same round =
       begins c.is_due-due.result c.tell_if.result c.in_ok-tell_if.field-0 c.args.self.now c.resend.new.self c.tell_if.new.self (lists c.args.self.now) same
-      (mates c.args.self.now c.has_kept.ensures.mates) c.in_ok-tell_if.was c.if-branch-gt0.false round c.is_due-due.ensures.due c.tell_if.ensures.keys.gossip_out_numbers
+      (mates c.args.self.now c.has_kept.ensures.mates) c.in_ok-tell_if.was c.if-branch-gt0.false round (λ made. (c.is_due-due.ensures.due made).1) c.tell_if.ensures.keys.gossip_out_numbers
       c.tell_if.ensures.mates
 
   -- no gossip was found
@@ -122,6 +125,13 @@ module _ (g : Over) where
   as_at_first c same round none_taken some =
       let made = was_made c.is_left-left.result c.tell_if-2.result _ _ _ _ _ (round_left c) some in
       (none_asked c).0 ∙ none_taken ∙ not_started c.is_due-due.result c.tell_if.result _ _ _ _ _ round (c.is_left-left.ensures.left made).0 ∙ same
+
+  -- and the senders of gossip neither
+  senders_at_first : (c : After-tell_if-2 g) → (c.tell_if-2.result ≡ Ok 0 → ⊥) → c.take_request.new.self.ends.gossip_out ≡ c.args.self.now.ends.gossip_out
+  senders_at_first c some =
+      let made = was_made c.is_left-left.result c.tell_if-2.result _ _ _ _ _ (round_left c) some in
+      c.take_request.ensures.gossip_out ∙ c.take_gossip.ensures.gossip_out ∙ c.tell_if.ensures.gossip_out (c.is_left-left.ensures.left made).0
+      ∙ c.resend.ensures.gossip_out
 
   -- nothing went out in it, or none was made
   ended : (c : After-rests g) → lists c.take_request.new.self ≡ lists c.tell_if.new.self
@@ -161,6 +171,51 @@ module _ (g : Over) where
   senders_due c start =
       either start.back (λ not_due. c.take_gossip.ensures.gossip_out ∙ c.tell_if.ensures.gossip_out not_due ∙ c.resend.ensures.gossip_out) (λ back. (back.some, back.no_room))
 
+  -- no message was kept
+  none_kept : (c : After-tell_if g) → c.args.self.now.state.kept ≡ None
+  none_kept c = none_held c.args.self.now.state.kept (sym c.has_kept.ensures.kept ∙ c.if-has_kept.false)
+
+  -- the reply that is held was sent again in vain, as is still told by the senders of replies
+  back : (c : After-tell_if g) (now : Worker) → now.ends.replies ≡ c.resend.new.self.ends.replies
+      → IsHeldBack c.args.self.now.state.held (counts c.args.self.now).reply_fulls (counts now).reply_fulls
+  back c now same =
+      subst (λ replies. IsHeldBack c.args.self.now.state.held (counts c.args.self.now).reply_fulls (map g.T.Tx.fulls (items_of replies))) (sym same)
+      (held_back c.args.self.now.state.held c.resend.new.self.state.held _ _ _ _ c.in_ok-resend.field-0 c.if-branch.false c.in_ok-resend.ensures.resent)
+
+  -- where no reply was held none was sent again
+  fulls_stay : (c : After-tell_if g) (now : Worker) → now.ends.replies ≡ c.resend.new.self.ends.replies → c.args.self.now.state.held ≡ None
+      → (counts now).reply_fulls ≡ (counts c.args.self.now).reply_fulls
+  fulls_stay c now same none =
+      ap (λ replies. map g.T.Tx.fulls (items_of replies)) (same ∙ c.resend.ensures.none_held none)
+
+  -- whether a round is due, by what was kept before the turn
+  may_ask : (c : After-tell_if g) → c.is_due-due.result ≡ false → MayAsk c.args.self.now.state
+  may_ask c not_due = subst MayAsk c.resend.ensures.state (c.is_due-due.ensures.not_due not_due)
+
+  is_due : (c : After-tell_if g) → IsTrue c.is_due-due.result → IsDue c.args.self.now.state
+  is_due c due = subst IsDue c.resend.ensures.state (c.is_due-due.ensures.due due)
+
+  -- what came before a box was asked
+  asks : (c : After-take_gossip g) (now : Worker)
+      → Begun c.is_due-due.result c.args.self.now (lists c.args.self.now) c.resend.new.self c.tell_if.new.self
+      → now.ends.gossip_out ≡ c.tell_if.new.self.ends.gossip_out
+      → (c.args.self.now.state.kept ≡ None)
+      → IsHeldBack c.args.self.now.state.held (counts c.args.self.now).reply_fulls (counts now).reply_fulls
+      → (c.is_due-due.result ≡ false → MayAsk c.args.self.now.state) → (IsTrue c.is_due-due.result → IsDue c.args.self.now.state)
+      → AsksGossip (lists c.args.self.now) (counts c.args.self.now) (counts now) (room c.args.self.now.ends.gossip_out)
+  asks c now start same none held not_due due =
+      let worker = c.args.self.now in
+      let fulls_of = λ (out : Vec g.row.O.Denot Global). map g.O.Tx.fulls (items_of out) in
+      let first = room worker.ends.gossip_out in
+      let came = either start.back (λ none. none)
+      (λ came. subst (λ fulls. CameBack (lists worker) fulls (counts now).gossip_fulls first) (ap fulls_of c.resend.ensures.gossip_out)
+      (subst (λ fulls. CameBack (lists worker) (counts c.resend.new.self).gossip_fulls fulls first) (ap fulls_of (sym same)) came)) in
+      record {
+        none_kept = none;
+        held_back = held;
+        none_due = none_due c.is_due-due.result (lists worker) (counts worker).gossip_fulls (counts now).gossip_fulls first due not_due came;
+      }
+
 pub returns-then-has_kept-clause-did : goal.returns-then-has_kept-clause-did
 returns-then-has_kept-clause-did g c =
     kept_turns c.work.result (lists g c.args.self.now) (lists g c.work.new.self) (counts g c.args.self.now) (counts g c.work.new.self) (room g c.args.self.now.ends.gossip_out)
@@ -185,8 +240,9 @@ pub returns-then-branch-gt0-clause-did : goal.returns-then-branch-gt0-clause-did
 returns-then-branch-gt0-clause-did g c =
     let at = (goal.at.returns-then-branch-gt0-clause-did g c).After-tell_if in
     let told = lists g c.tell_if.new.self in
-    subst (λ lists. (gossips : Gossips lists told) × (1 ≤ batches gossips.tries) × HaveRoom lists gossips.tries (room g c.args.self.now.ends.gossip_out)) (still g at)
-    (round_turns c.is_due-due.result c.tell_if.result c.in_ok-tell_if.field-0 _ _ _ _ _ c.in_ok-tell_if.was c.if-branch-gt0.true (round_due g at))
+    subst (λ lists. Turns {E = NoMemory} (Ok did.Round) lists told (counts g c.args.self.now) (counts g c.tell_if.new.self) (room g c.args.self.now.ends.gossip_out)) (still g at)
+    (round_turns c.is_due-due.result c.tell_if.result c.in_ok-tell_if.field-0 _ _ _ (counts g c.args.self.now) _ _ c.in_ok-tell_if.was c.if-branch-gt0.true
+    (ap (λ out. map g.O.Tx.fulls (items_of out)) (sym c.resend.ensures.gossip_out)) (round_due g at))
 
 pub returns-in_err-take_gossip-clause-did : goal.returns-in_err-take_gossip-clause-did
 returns-in_err-take_gossip-clause-did g c =
@@ -242,8 +298,9 @@ returns-then-branch-gt0-2-clause-did g c =
     let first = as_at_first g last (still g at.After-tell_if) (round_due g at.After-tell_if) (no_gossip g at.After-take_request).0
     (λ is. some_sent sent c.if-branch-gt0-2.true (sym c.in_ok-tell_if-2.was ∙ is)) in
     let now = lists g c.tell_if-2.new.self in
-    subst (λ lists. (gossips : Gossips lists now) × (1 ≤ batches gossips.tries) × HaveRoom lists gossips.tries (room g c.args.self.now.ends.gossip_out)) first
-    (round_turns c.is_left-left.result c.tell_if-2.result sent _ _ _ _ _ c.in_ok-tell_if-2.was c.if-branch-gt0-2.true (round_left g last))
+    subst (λ lists. Turns {E = NoMemory} (Ok did.Round) lists now (counts g c.args.self.now) (counts g c.tell_if-2.new.self) (room g c.args.self.now.ends.gossip_out)) first
+    (round_turns c.is_left-left.result c.tell_if-2.result sent _ _ _ (counts g c.args.self.now) _ _ c.in_ok-tell_if-2.was c.if-branch-gt0-2.true
+    (ap (λ out. map g.O.Tx.fulls (items_of out)) (sym (senders_at_first g last (λ is. some_sent sent c.if-branch-gt0-2.true (sym c.in_ok-tell_if-2.was ∙ is))))) (round_left g last))
 
 pub returns-clause-did : goal.returns-clause-did
 returns-clause-did g c =
@@ -343,3 +400,95 @@ returns-clause-fewer g c finite met =
       ap (λ did. joined_in {E = NoMemory} (Ok did)) c.rests.ensures,
       rests_joined c.tell_if-2.new.self.state,
     )
+
+pub returns-then-has_kept-clause-in_order : goal.returns-then-has_kept-clause-in_order
+returns-then-has_kept-clause-in_order g c =
+    let its = kept_there c.args.self.now.state.kept (sym c.has_kept.ensures.kept ∙ c.if-has_kept.true) in
+    kept_in_order c.work.result (lists g c.args.self.now) (lists g c.work.new.self) (counts g c.args.self.now) (counts g c.work.new.self) (room g c.args.self.now.ends.gossip_out)
+    its.0 its.1 c.work.ensures.works.did c.work.ensures.held_back
+
+pub returns-then-branch-gt0-clause-in_order : goal.returns-then-branch-gt0-clause-in_order
+returns-then-branch-gt0-clause-in_order g c =
+    let at = (goal.at.returns-then-branch-gt0-clause-in_order g c).After-tell_if in
+    record {
+      none_kept = none_kept g at;
+      held_back = back g at c.tell_if.new.self c.tell_if.ensures.replies;
+      in_time = inl (is_due g at (was_made c.is_due-due.result c.tell_if.result _ _ _ _ _ (round_due g at)
+          (λ is. some_sent c.in_ok-tell_if.field-0 c.if-branch-gt0.true (sym c.in_ok-tell_if.was ∙ is))));
+    }
+
+pub returns-then-branch-2-clause-in_order : goal.returns-then-branch-2-clause-in_order
+returns-then-branch-2-clause-in_order g c =
+    let at = goal.at.returns-then-branch-2-clause-in_order g c in
+    let start = begun g at.After-take_gossip (still g at.After-tell_if) (round_due g at.After-tell_if) in
+    let now = c.work-then-branch-2.new.self in
+    let taken = batch_taken c.in_ok-take_gossip.field-0 _ _ _ _ _ c.if-branch-2.true c.in_ok-take_gossip.ensures.kept in
+    heard_in_order c.work-then-branch-2.result _ _ (lists g c.take_gossip.new.self) (lists g now) (counts g c.args.self.now) (counts g c.take_gossip.new.self) (counts g now) _ taken.0
+    c.work-then-branch-2.ensures.works.did c.work-then-branch-2.ensures.held_back
+    (ap (λ out. map g.O.Tx.fulls (items_of out)) c.work-then-branch-2.ensures.gossip_out)
+    (asks g at.After-take_gossip c.take_gossip.new.self start c.take_gossip.ensures.gossip_out (none_kept g at.After-tell_if)
+    (back g at.After-tell_if c.take_gossip.new.self (c.take_gossip.ensures.replies ∙ c.tell_if.ensures.replies)) (may_ask g at.After-tell_if) (is_due g at.After-tell_if))
+
+pub returns-then-branch-3-clause-in_order : goal.returns-then-branch-3-clause-in_order
+returns-then-branch-3-clause-in_order g c =
+    let at = goal.at.returns-then-branch-3-clause-in_order g c in
+    let start = begun g at.After-take_gossip (still g at.After-tell_if) (round_due g at.After-tell_if) in
+    let worker = c.args.self.now in
+    let asked = c.take_request.new.self in
+    let now = c.work-then-branch-3.new.self in
+    let taken = request_taken c.in_ok-take_request.field-0 _ _ _ _ _ c.if-branch-3.true c.in_ok-take_request.ensures.kept in
+    let held : c.take_gossip.new.self.state.held ≡ None = c.in_ok-take_request.ensures.none_held c.if-branch-3.true in
+    let same_held : c.take_gossip.new.self.state.held ≡ worker.state.held =
+    ap (λ (lists : Lists). lists.state.held) ((no_gossip g at.After-take_request).0 ∙ start.unmoved) in
+    let same_replies = c.take_request.ensures.replies ∙ c.take_gossip.ensures.replies ∙ c.tell_if.ensures.replies in
+    let found : Rose (counts g worker).gossip.nones (counts g now).gossip.nones =
+    rose_between (ap (λ box. (g.G.GossipRx.answers box).nones) (sym (c.tell_if.ensures.gossip_in ∙ c.resend.ensures.gossip_in)))
+    (ap (λ box. (g.G.GossipRx.answers box).nones) (c.work-then-branch-3.ensures.gossip_in ∙ c.take_request.ensures.gossip_in)) (no_gossip g at.After-take_request).1 in
+    served_in_order c.work-then-branch-3.result (lists g worker) (lists g c.take_gossip.new.self) (lists g asked) (lists g now) (counts g worker) (counts g asked) (counts g now) _ taken
+    c.work-then-branch-3.ensures.works.did c.work-then-branch-3.ensures.held_back (fulls_stay g at.After-tell_if asked same_replies (sym same_held ∙ held))
+    (ap (λ out. map g.O.Tx.fulls (items_of out)) c.work-then-branch-3.ensures.gossip_out)
+    (asks g at.After-take_gossip asked start (c.take_request.ensures.gossip_out ∙ c.take_gossip.ensures.gossip_out) (none_kept g at.After-tell_if)
+    (back g at.After-tell_if asked same_replies) (may_ask g at.After-tell_if) (is_due g at.After-tell_if)) found (sym same_held ∙ held)
+
+pub returns-then-branch-gt0-2-clause-in_order : goal.returns-then-branch-gt0-2-clause-in_order
+returns-then-branch-gt0-2-clause-in_order g c =
+    let at = goal.at.returns-then-branch-gt0-2-clause-in_order g c in
+    let worker = c.args.self.now in
+    let now = c.tell_if-2.new.self in
+    let sent = c.in_ok-tell_if-2.field-0 in
+    let made = was_made c.is_left-left.result c.tell_if-2.result _ _ _ _ _ (round_left g at.After-tell_if-2) (λ is. some_sent sent c.if-branch-gt0-2.true (sym c.in_ok-tell_if-2.was ∙ is)) in
+    let not_due = (c.is_left-left.ensures.left made).0 in
+    let none_found = no_gossip g at.After-take_request in
+    let same_held : c.take_gossip.new.self.state.held ≡ worker.state.held =
+    ap (λ (lists : Lists). lists.state.held) (none_found.0 ∙ not_started c.is_due-due.result c.tell_if.result _ _ _ _ _ (round_due g at.After-tell_if) not_due ∙ still g at.After-tell_if) in
+    record {
+      none_kept = none_kept g at.After-tell_if;
+      held_back =
+          back g at.After-tell_if now
+          (c.tell_if-2.ensures.replies ∙ c.take_request.ensures.replies ∙ c.take_gossip.ensures.replies ∙ c.tell_if.ensures.replies);
+      in_time = inr (
+        may_ask g at.After-tell_if not_due,
+        record {
+          no_gossip =
+              rose_between (ap (λ box. (g.G.GossipRx.answers box).nones) (sym (c.tell_if.ensures.gossip_in ∙ c.resend.ensures.gossip_in)))
+              (ap (λ box. (g.G.GossipRx.answers box).nones) (c.tell_if-2.ensures.gossip_in ∙ c.take_request.ensures.gossip_in)) none_found.1;
+          no_request = elim ((none_asked g at.After-tell_if-2).1) [
+            | inl held ↦ inr (someone worker.state.held (ap is_some (sym same_held) ∙ held))
+            | inr found ↦ inl
+                (rose_between (ap (λ box. (g.Q.Rx.answers box).nones) (sym (c.take_gossip.ensures.requests ∙ c.tell_if.ensures.requests ∙ c.resend.ensures.requests)))
+                (ap (λ box. (g.Q.Rx.answers box).nones) c.tell_if-2.ensures.requests) found)
+          ];
+        },
+      );
+    }
+
+pub returns-clause-in_order : goal.returns-clause-in_order
+returns-clause-in_order g c =
+    let at = (goal.at.returns-clause-in_order g c).After-tell_if in
+    let now = c.tell_if-2.new.self in
+    rw c.rests.ensures (rests_in_order now.state _ (lists g now) _ (counts g now) (room g c.args.self.now.ends.gossip_out) (record {
+      none_kept = none_kept g at;
+      held_back =
+          back g at now
+          (c.tell_if-2.ensures.replies ∙ c.take_request.ensures.replies ∙ c.take_gossip.ensures.replies ∙ c.tell_if.ensures.replies);
+    }))
