@@ -6,9 +6,10 @@ use Rattle.std.proofs.lemmas.List.Sums.{sum_by-cons}
 use Rattle.mail_contract.proofs.CountsLemmas.{no_fewer}
 use Rattle.placement.specs.Config.{IsOneOf}
 use Rattle.session_proxy.specs.State.{Lists}
+use Rattle.run_measure.proofs.FrontLemmas.{front_short, front_through, front_whole}
 use Rattle.run_measure.proofs.MeasureLemmas.{asked_all, asked_of}
 use Rattle.run_measure.specs.Laws.{DoneRises, SessionsGoOnTwice, SessionsStay}
-use Rattle.run_measure.specs.Measure.{asked}
+use Rattle.run_measure.specs.Measure.{asked, asked_to, heard_from}
 use Rattle.run_measure.specs.Steps.{HasDone}
 
 -- a session that stays as it is has gone on,
@@ -18,9 +19,9 @@ goes_still lists = record {
   table = refl;
   lines = refl;
   workers = refl;
-  answered = omega arith;
-  asked_more = λ worker of. omega arith;
-  heard_more = λ worker. omega arith;
+  answered = front_whole lists.course.answers;
+  asked_more = λ worker of. front_whole (asked_to worker lists);
+  heard_more = λ worker. front_whole (heard_from worker lists);
 }
 
 -- and so has one that goes on twice
@@ -30,10 +31,12 @@ goes_through before between now first then = record {
   table = then.table ∙ first.table;
   lines = then.lines ∙ first.lines;
   workers = then.workers ∙ first.workers;
-  answered = omega (arith, first.answered, then.answered);
+  answered = front_through before.course.answers between.course.answers now.course.answers first.answered then.answered;
   asked_more = λ worker of.
-      omega (arith, first.asked_more worker of, then.asked_more worker (subst (λ many. IsOneOf many worker) (sym first.workers) of));
-  heard_more = λ worker. omega (arith, first.heard_more worker, then.heard_more worker);
+      front_through (asked_to worker before) (asked_to worker between) (asked_to worker now) (first.asked_more worker of)
+      (then.asked_more worker (subst (λ many. IsOneOf many worker) (sym first.workers) of));
+  heard_more = λ worker.
+      front_through (heard_from worker before) (heard_from worker between) (heard_from worker now) (first.heard_more worker) (then.heard_more worker);
 }
 
 -- a sum over some numbers is at most another where each term is
@@ -51,9 +54,16 @@ pub sent_more : (before now : Lists) → HasDone before now → sum_by length be
 sent_more before now goes =
     let before_all = asked_all before in
     let now_all = subst (λ n. asked_of now 1 n ≡ sum_by length now.sent) goes.workers (asked_all now) in
-    let sums = sums_le (λ worker. asked worker before) (λ worker. asked worker now) (length before.sent) 1 (λ worker from to. goes.asked_more worker (from, omega (arith, to))) in
+    let sums = sums_le (λ worker. asked worker before) (λ worker. asked worker now) (length before.sent) 1
+    (λ worker from to. front_short (asked_to worker before) (asked_to worker now) (goes.asked_more worker (from, omega (arith, to)))) in
     omega (arith, before_all, now_all, sums)
+
+-- nor taken fewer replies
+pub took_more : (before now : Lists) → HasDone before now → length before.received ≤ length now.received
+took_more before now goes =
+    no_fewer before.received now.received (λ worker. front_short (heard_from worker before) (heard_from worker now) (goes.heard_more worker))
 
 -- and has done no less
 pub done_rises : DoneRises
-done_rises before now goes = omega (arith, goes.answered, sent_more before now goes, no_fewer before.received now.received goes.heard_more)
+done_rises before now goes =
+    omega (arith, front_short before.course.answers now.course.answers goes.answered, sent_more before now goes, took_more before now goes)

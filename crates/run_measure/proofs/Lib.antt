@@ -1,5 +1,7 @@
 pub mod DoneLemmas
+pub mod FrontLemmas
 pub mod MeasureLemmas
+pub mod PaceLemmas
 pub mod PlacedLemmas
 pub mod PollingLemmas
 pub mod ServedLemmas

@@ -11,7 +11,9 @@ use Rattle.session_proxy.specs.State as sessions
 use Rattle.worker_core.specs.State as workers
 use Rattle.mail_contract.proofs.CountsLemmas.{from_all, lists_counted}
 use Rattle.run_measure.specs.Laws.{HearsWorkers, PollsLowerTheMeasure, TurnsLowerTheMeasure}
-use Rattle.run_measure.specs.Measure.{asked, between, between_all, heard, replied, taken}
+use Rattle.worker_core.specs.Share.{replies_to}
+use Rattle.run_measure.proofs.FrontLemmas.{front_short}
+use Rattle.run_measure.specs.Measure.{asked, asked_to, between, between_all, heard, heard_from, replied, taken, taken_of}
 
 -- where one worker is another, what is on its way between a session and all workers changes by what is between it and that one
 one_set : (all : List workers.Lists) (first place : ℕ) (before now : workers.Lists) (session : ℕ) (its : sessions.Lists) → slice_get all place ≡ Some before
@@ -35,8 +37,8 @@ one_set (worker ∷ all) first (suc place) before now session its there =
 pub turns_lower : TurnsLowerTheMeasure
 turns_lower all place before now many session its there goes of heard_few taken_few =
     let set = one_set all 1 place before now session its there in
-    let taken_more = goes.taken_more session of in
-    let replied_more = goes.replied_more session of in
+    let taken_more = front_short (taken_of session before) (taken_of session now) (goes.taken_more session of) in
+    let replied_more = front_short (replies_to before session) (replies_to now session) (goes.replied_more session of) in
     let as_taken = goes.as_taken session of in
     omega (arith, set, taken_more, replied_more, as_taken, heard_few, taken_few)
 
@@ -92,8 +94,10 @@ polls_lower all session before now goes share share_now hears hears_now as_many 
     let n : ℕ = length before.sent in
     let each : (place : ℕ) (worker : workers.Lists) → slice_get all place ≡ Some worker → GoesBetween session before now (place + 1) worker = λ place worker there. record {
       taken_few = (counted place worker there).0;
-      asked_more = let low = slice_get_within all place worker there in goes.asked_more (place + 1) (omega arith, omega (arith, low, as_many));
-      heard_more = goes.heard_more (place + 1);
+      asked_more =
+          let low = slice_get_within all place worker there in
+          front_short (asked_to (place + 1) before) (asked_to (place + 1) now) (goes.asked_more (place + 1) (omega arith, omega (arith, low, as_many)));
+      heard_more = front_short (heard_from (place + 1) before) (heard_from (place + 1) now) (goes.heard_more (place + 1));
       heard_few = (counted place worker there).1;
     }
     in
@@ -106,4 +110,18 @@ polls_lower all session before now goes share share_now hears hears_now as_many 
     let few = has_sent_few before share in
     let few_now = has_sent_few now share_now in
     let lines = ap length goes.lines in
-    omega (arith, between, asked_before, asked_now, heard_before, heard_now, most, few, few_now, lines, share.few, share_now.few, goes.answered)
+    omega (
+      arith,
+      between,
+      asked_before,
+      asked_now,
+      heard_before,
+      heard_now,
+      most,
+      few,
+      few_now,
+      lines,
+      share.few,
+      share_now.few,
+      front_short before.course.answers now.course.answers goes.answered,
+    )

@@ -5,35 +5,33 @@ use Rattle.std.proofs.lemmas.Bool.{cases_eq, cases_lt, false≢true}
 use Rattle.std.proofs.lemmas.List.{get_or-set_other, get_or-set_same, set_past}
 use Rattle.std.proofs.lemmas.List.Sums.{sum_by-set}
 use Rattle.mail_contract.proofs.WovenLemmas.{from_sender-append}
-use Rattle.mail_contract.specs.Takes.{from_sender}
+use Rattle.mail_contract.specs.Takes.{IsFront, from_sender}
 use Rattle.store_msg.specs.Reply.{PlainReply, is_found}
 use Rattle.session_proxy.specs.Polls.{AnswersAlone, AnswersBy, Counts, Drops, IsTaken, Polls, Rests, Sends}
 use Rattle.session_proxy.specs.Share.{IsAwaited, Share, request_of}
-use Rattle.session_proxy.specs.State.{IsFixed, Lists}
+use Rattle.session_proxy.specs.State.{Course, IsFixed, Lists}
 use Rattle.session_proxy.specs.declared.progress.Progress.{Progress}
 use Rattle.session_proxy.specs.declared.progress.Progress.TheVariants as progress
-use Rattle.run_measure.proofs.DoneLemmas.{sent_more}
+use Rattle.run_measure.proofs.DoneLemmas.{sent_more, took_more}
+use Rattle.run_measure.proofs.FrontLemmas.{front_more, front_same, front_short}
 use Rattle.run_measure.proofs.PlacedLemmas.{goes_to_worker}
-use Rattle.mail_contract.proofs.CountsLemmas.{no_fewer}
 use Rattle.run_measure.specs.Laws.{HasPolled}
-use Rattle.run_measure.specs.Measure.{asked, heard}
+use Rattle.run_measure.specs.Measure.{asked_to, heard_from}
 use Rattle.run_measure.specs.Steps.{HasDone, done}
 
--- an item more at a place leaves no list shorter, and where there is such a place the lists have one item more
+-- with an item more at a place each list goes on, and where there is such a place the lists have one item more
 module _ {X : Type 0} (lists : List (List X)) (place : ℕ) (item : X) where
   abbrev with_item : List (List X)
   with_item = slice_set lists place (slice_index_or lists place [] ++ item ∷ [])
 
-  none_shorter : (i : ℕ) → length (slice_index_or lists i []) ≤ length (slice_index_or with_item i [])
-  none_shorter i = elim (cases_eq i place) [
-    | inr apart ↦ let same = ap length (get_or-set_other lists place i (slice_index_or lists place [] ++ item ∷ []) [] apart) in omega (arith, same)
+  each_goes_on : (i : ℕ) → IsFront (slice_index_or lists i []) (slice_index_or with_item i [])
+  each_goes_on i = elim (cases_eq i place) [
+    | inr apart ↦ front_same (get_or-set_other lists place i (slice_index_or lists place [] ++ item ∷ []) [] apart)
     | inl here ↦ elim (cases_lt place (length lists)) [
       | inl low ↦
-          let now = ap length (ap (λ i. slice_index_or with_item i []) here ∙ get_or-set_same lists place (slice_index_or lists place [] ++ item ∷ []) [] low) in
-          let before = ap (λ i. length (slice_index_or lists i [])) here in
-          let one = length-append (slice_index_or lists place []) (item ∷ []) in
-          omega (arith, now, before, one)
-      | inr past ↦ let same = ap (λ lists. length (slice_index_or lists i [])) (set_past lists place (slice_index_or lists place [] ++ item ∷ []) past) in omega (arith, same)
+          subst (λ i. IsFront (slice_index_or lists i []) (slice_index_or with_item i [])) (sym here)
+          (front_more _ (get_or-set_same lists place (slice_index_or lists place [] ++ item ∷ []) [] low))
+      | inr past ↦ front_same (ap (λ lists. slice_index_or lists i []) (set_past lists place (slice_index_or lists place [] ++ item ∷ []) past))
     ]
   ]
 
@@ -48,9 +46,9 @@ longer : {X : Type 0} (before now : List X) (item : X) → now ≡ before ++ ite
 longer before now item is = let long = ap length is ∙ length-append before (item ∷ []) in omega (arith, long)
 
 module _ (before now : Lists) (fixed : IsFixed before.course now.course) (as_many : length now.sent ≡ length before.sent) where
-  -- the session goes on where neither its answers are fewer, nor its requests, nor the replies that it took
-  goes : length before.course.answers ≤ length now.course.answers → ((worker : ℕ) → asked worker before ≤ asked worker now)
-      → ((worker : ℕ) → heard worker before ≤ heard worker now) → HasDone before now
+  -- the session goes on where its answers do, its requests, and the replies that it took
+  goes : IsFront before.course.answers now.course.answers → ((worker : ℕ) → IsFront (asked_to worker before) (asked_to worker now))
+      → ((worker : ℕ) → IsFront (heard_from worker before) (heard_from worker now)) → HasDone before now
   goes answered asked_more heard_more = record {
     client = fixed.client;
     table = fixed.table;
@@ -62,20 +60,18 @@ module _ (before now : Lists) (fixed : IsFixed before.course now.course) (as_man
   }
 
   -- so where it sent nothing, or took nothing
-  asked_same : now.sent ≡ before.sent → (worker : ℕ) → asked worker before ≤ asked worker now
-  asked_same same worker = let its = ap (λ sent. length (slice_index_or sent (worker - 1) [])) same in omega (arith, its)
+  asked_same : now.sent ≡ before.sent → (worker : ℕ) → IsFront (asked_to worker before) (asked_to worker now)
+  asked_same same worker = front_same (ap (λ sent. slice_index_or sent (worker - 1) []) same)
 
-  heard_same : now.received ≡ before.received → (worker : ℕ) → heard worker before ≤ heard worker now
-  heard_same same worker = let its = ap (λ received. length (from_sender worker received)) same in omega (arith, its)
+  heard_same : now.received ≡ before.received → (worker : ℕ) → IsFront (heard_from worker before) (heard_from worker now)
+  heard_same same worker = front_same (ap (from_sender worker) same)
 
   -- and where it took a reply
-  heard_one : (sender : ℕ) (reply : PlainReply) → now.received ≡ before.received ++ (sender, reply) ∷ [] → (worker : ℕ) → heard worker before ≤ heard worker now
-  heard_one sender reply is worker =
-      let all = ap (λ received. length (from_sender worker received)) is ∙ ap length (from_sender-append worker before.received ((sender, reply) ∷ [])) in
-      let more = length-append (from_sender worker before.received) (from_sender worker ((sender, reply) ∷ [])) in
-      omega (arith, all, more)
+  heard_one : (sender : ℕ) (reply : PlainReply) → now.received ≡ before.received ++ (sender, reply) ∷ [] → (worker : ℕ)
+      → IsFront (heard_from worker before) (heard_from worker now)
+  heard_one sender reply is worker = front_more _ (ap (from_sender worker) is ∙ from_sender-append worker before.received ((sender, reply) ∷ []))
 
-  heard_taken : (reply : PlainReply) → IsTaken reply before now → (worker : ℕ) → heard worker before ≤ heard worker now
+  heard_taken : (reply : PlainReply) → IsTaken reply before now → (worker : ℕ) → IsFront (heard_from worker before) (heard_from worker now)
   heard_taken reply taken = elim taken [
     | inl was ↦ heard_same was.1
     | inr new ↦ heard_one new.1 reply new.2
@@ -94,12 +90,13 @@ module _ (before now : Lists) (fixed : IsFixed before.course now.course) (as_man
       → done before + 1 ≤ done now
   does_one has one =
       let sent = sent_more before now has in
-      let took = no_fewer before.received now.received has.heard_more in
+      let took = took_more before now has in
+      let answered = front_short before.course.answers now.course.answers has.answered in
       elim one [
-        | inl answers ↦ omega (arith, answers, sent, took, has.answered)
+        | inl answers ↦ omega (arith, answers, sent, took)
         | inr other ↦ elim other [
-          | inl sends ↦ omega (arith, sends, took, has.answered)
-          | inr takes ↦ omega (arith, takes, sent, has.answered)
+          | inl sends ↦ omega (arith, sends, took, answered)
+          | inr takes ↦ omega (arith, takes, sent, answered)
         ]
       ]
 
@@ -107,14 +104,13 @@ module _ (before now : Lists) (fixed : IsFixed before.course now.course) (as_man
   sends_polled : Sends before now → HasPolled progress.Moved before now
   sends_polled sends =
       let place : ℕ = sends.worker - 1 in
-      let asked_more : (worker : ℕ) → asked worker before ≤ asked worker now = λ worker.
-      subst (λ sent. asked worker before ≤ length (slice_index_or sent (worker - 1) [])) (sym sends.sent)
-      (none_shorter before.sent place (request_of sends.item) (worker - 1))
+      let asked_more : (worker : ℕ) → IsFront (asked_to worker before) (asked_to worker now) = λ worker.
+      subst (λ sent. IsFront (asked_to worker before) (slice_index_or sent (worker - 1) [])) (sym sends.sent)
+      (each_goes_on before.sent place (request_of sends.item) (worker - 1))
       in
       elim sends.course [
         | inl out ↦
-            let answers = ap (λ course. length course.answers) out in
-            let has = goes (omega (arith, answers)) asked_more (heard_same sends.received) in
+            let has = goes (front_same (ap (λ (course : Course). course.answers) out)) asked_more (heard_same sends.received) in
             record {
               goes_on = has;
               moved = λ placed.
@@ -125,7 +121,7 @@ module _ (before now : Lists) (fixed : IsFixed before.course now.course) (as_man
             }
         | inr last ↦
             let one = longer before.course.answers now.course.answers last.0.0 last.0.1 in
-            let has = goes (omega (arith, one)) asked_more (heard_same sends.received) in
+            let has = goes (front_more _ last.0.1) asked_more (heard_same sends.received) in
             record { goes_on = has; moved = λ placed. does_one has (inl one) }
       ]
 
@@ -133,14 +129,14 @@ module _ (before now : Lists) (fixed : IsFixed before.course now.course) (as_man
   alone_polled : AnswersAlone before now → HasPolled progress.Moved before now
   alone_polled alone =
       let one = longer before.course.answers now.course.answers alone.answers.0 alone.answers.1 in
-      let has = goes (omega (arith, one)) (asked_same alone.sent) (heard_same alone.received) in
+      let has = goes (front_more _ alone.answers.1) (asked_same alone.sent) (heard_same alone.received) in
       record { goes_on = has; moved = λ placed. does_one has (inl one) }
 
   -- or by a reply
   by_polled : AnswersBy before now → HasPolled progress.Moved before now
   by_polled by =
       let one = longer before.course.answers now.course.answers _ by.answers in
-      let has = goes (omega (arith, one)) (asked_same by.sent) (heard_taken by.reply by.taken) in
+      let has = goes (front_more _ by.answers) (asked_same by.sent) (heard_taken by.reply by.taken) in
       record { goes_on = has; moved = λ placed. does_one has (inl one) }
 
   -- what is kept is awaited, and shows a cell
@@ -150,24 +146,21 @@ module _ (before now : Lists) (fixed : IsFixed before.course now.course) (as_man
   -- a reply is dropped
   drops_polled : Share before → Drops before now → HasPolled progress.Moved before now
   drops_polled share drops =
-      let answers = ap (λ course. length course.answers) drops.course in
-      let has = goes (omega (arith, answers)) (asked_same drops.sent) (heard_taken drops.reply drops.taken) in
+      let has = goes (front_same (ap (λ (course : Course). course.answers) drops.course)) (asked_same drops.sent) (heard_taken drops.reply drops.taken) in
       let one = took_one drops.reply drops.taken (λ is. drops.of_other (kept_is share drops.reply is).0) in
       record { goes_on = has; moved = λ placed. does_one has (inr (inr one)) }
 
   -- the awaited reply lacked something
   rests_polled : Share before → Rests before now → HasPolled progress.Rest before now
   rests_polled share rests =
-      let answers = ap (λ course. length course.answers) rests.course in
-      let has = goes (omega (arith, answers)) (asked_same rests.sent) (heard_taken rests.reply rests.taken) in
+      let has = goes (front_same (ap (λ (course : Course). course.answers) rests.course)) (asked_same rests.sent) (heard_taken rests.reply rests.taken) in
       let one = took_one rests.reply rests.taken (λ is. false≢true (sym rests.lacks ∙ (kept_is share rests.reply is).1)) in
       record { goes_on = has; moved = does_one has (inr (inr one)) }
 
   -- nothing has changed
   same_goes : now ≡ before → HasDone before now
   same_goes same =
-      let answers = ap (λ (lists : Lists). length lists.course.answers) same in
-      goes (omega (arith, answers)) (asked_same (ap (λ (lists : Lists). lists.sent) same)) (heard_same (ap (λ (lists : Lists). lists.received) same))
+      goes (front_same (ap (λ (lists : Lists). lists.course.answers) same)) (asked_same (ap (λ (lists : Lists). lists.sent) same)) (heard_same (ap (λ (lists : Lists). lists.received) same))
 
 -- What a poll says of how far the session is does not depend on what it says of its ends.
 pub polled : (answer : Progress) (before now : Lists) (counts counts_now : Counts) (wants_room : ℕ → Type 0) (nothing : Type 0)

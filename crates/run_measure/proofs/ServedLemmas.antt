@@ -2,22 +2,30 @@
 use Rattle.std.specs.Prelude.{◌≡◌, ℕ, Bool, List, length, None, Result, Ok, Err, OnOk}
 use Rattle.std.proofs.Common.{arith, refl, subst}
 use Rattle.lattice_laws.specs.declared.lattice.NoMemory.{NoMemory}
-use Rattle.worker_core.specs.Share.{Share}
+use Rattle.worker_core.specs.Share.{Share, replies_to}
 use Rattle.worker_core.specs.State.{Lists}
 use Rattle.worker_core.specs.Turns.{Counts, Turns}
 use Rattle.worker_core.specs.declared.did.Did.{Did}
+use Rattle.run_measure.proofs.FrontLemmas.{front_through, front_whole}
 use Rattle.run_measure.proofs.TurningLemmas.{turned}
+use Rattle.run_measure.specs.Measure.{taken_of}
 use Rattle.run_measure.specs.Steps.{HasServed, RepliesAsTaken}
 
 -- a worker that stays as it is took nothing,
 pub takes_still : (many : ℕ) (lists : Lists) → RepliesAsTaken many lists lists
-takes_still many lists = record { taken_more = λ session of. omega arith; replied_more = λ session of. omega arith; as_taken = λ session of. omega arith }
+takes_still many lists = record {
+  taken_more = λ session of. front_whole (taken_of session lists);
+  replied_more = λ session of. front_whole (replies_to lists session);
+  as_taken = λ session of. omega arith;
+}
 
 -- and one that took twice replied to each session no more than it took of it
 pub takes_through : (many : ℕ) (before between now : Lists) → RepliesAsTaken many before between → RepliesAsTaken many between now → RepliesAsTaken many before now
 takes_through many before between now first then = record {
-  taken_more = λ session of. omega (arith, first.taken_more session of, then.taken_more session of);
-  replied_more = λ session of. omega (arith, first.replied_more session of, then.replied_more session of);
+  taken_more = λ session of.
+      front_through (taken_of session before) (taken_of session between) (taken_of session now) (first.taken_more session of) (then.taken_more session of);
+  replied_more = λ session of.
+      front_through (replies_to before session) (replies_to between session) (replies_to now session) (first.replied_more session of) (then.replied_more session of);
   as_taken = λ session of. omega (arith, first.as_taken session of, then.as_taken session of);
 }
 

@@ -10,7 +10,8 @@ use Rattle.session_proxy.specs.Share.{most_in_all}
 use Rattle.session_proxy.specs.State as sessions
 use Rattle.worker_core.specs.State as workers
 use Rattle.run_measure.specs.Laws.{IsOfWorkers, TogetherLowerTheMeasure}
-use Rattle.run_measure.specs.Measure.{asked, between_all, heard, measure, measure_of_all, replied, taken}
+use Rattle.run_measure.proofs.FrontLemmas.{front_short}
+use Rattle.run_measure.specs.Measure.{asked, asked_to, between_all, heard, heard_from, measure, measure_of_all, replied, taken, taken_of}
 use Rattle.run_measure.specs.Steps.{HasDone, done}
 use Rattle.run_measure.proofs.MeasureLemmas.{asked_all, asked_of, heard_all, heard_of}
 
@@ -82,7 +83,21 @@ module _ (session : ℕ) (before now : sessions.Lists) where
       let few = has_sent_few before its.share in
       let few_now = has_sent_few now its_now.share in
       let lines = ap length goes.lines in
-      omega (arith, rises, asked_before, asked_now, heard_before, heard_now, most, few, few_now, lines, its.share.few, its_now.share.few, goes.answered)
+      omega (
+        arith,
+        rises,
+        asked_before,
+        asked_now,
+        heard_before,
+        heard_now,
+        most,
+        few,
+        few_now,
+        lines,
+        its.share.few,
+        its_now.share.few,
+        front_short before.course.answers now.course.answers goes.answered,
+      )
 
 -- and so of all sessions
 all_lower : (all all_now : List workers.Lists) (session : ℕ) (those those_now : List sessions.Lists) → length those_now ≡ length those
@@ -116,9 +131,9 @@ together_lower all all_now those those_now gone_on of_workers of_workers_now cou
     let first = counted place at worker before is there in
     let then = counted_now place at worker_now now is_now also in
     record {
-      asked_more = goes.asked_more (place + 1) (omega arith, omega (arith, within, senders));
-      heard_more = goes.heard_more (place + 1);
-      taken_more = served.taken_more (at + 1) (omega arith, omega (arith, inside));
+      asked_more = front_short (asked_to (place + 1) before) (asked_to (place + 1) now) (goes.asked_more (place + 1) (omega arith, omega (arith, within, senders)));
+      heard_more = front_short (heard_from (place + 1) before) (heard_from (place + 1) now) (goes.heard_more (place + 1));
+      taken_more = front_short (taken_of (at + 1) worker) (taken_of (at + 1) worker_now) (served.taken_more (at + 1) (omega arith, omega (arith, inside)));
       as_taken = served.as_taken (at + 1) (omega arith, omega (arith, inside));
       taken_few = first.requests;
       heard_few = first.replies;

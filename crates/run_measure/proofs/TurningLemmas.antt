@@ -5,6 +5,7 @@ use Rattle.std.proofs.lemmas.Bool.Decides.{eqb_tells}
 use Rattle.std.proofs.lemmas.Option.{none-some}
 use Rattle.lattice_laws.specs.declared.lattice.NoMemory.{NoMemory}
 use Rattle.mail_contract.proofs.WovenLemmas.{from_sender_more, from_sender_same}
+use Rattle.mail_contract.specs.Takes.{IsFront, from_sender}
 use Rattle.placement.specs.Config.{IsOneOf}
 use Rattle.store_msg.specs.declared.request.Request.{Request}
 use Rattle.store_msg.specs.declared.request.Request.TheVariants as requests
@@ -15,15 +16,16 @@ use Rattle.worker_core.specs.Turns.{Counts, HandsOver, Serves, Turns, reply_to}
 use Rattle.worker_core.specs.declared.did.Did.{Did}
 use Rattle.worker_core.specs.declared.did.Did.TheVariants as did
 use Rattle.run_measure.specs.Laws.{HasTurned}
-use Rattle.run_measure.specs.Measure.{replied, taken}
+use Rattle.run_measure.proofs.FrontLemmas.{front_more, front_same}
+use Rattle.run_measure.specs.Measure.{replied, taken, taken_of}
 use Rattle.run_measure.specs.Steps.{RepliesAsTaken}
 
 -- a worker that took the same requests, and replied the same, has gone on
 still : (sessions : ℕ) (before now : Lists) → now.received ≡ before.received → ((to : ℕ) → IsOneOf sessions to → replies_to now to ≡ replies_to before to)
     → RepliesAsTaken sessions before now
 still sessions before now same replies = record {
-  taken_more = λ to of. let its = as_taken to in omega (arith, its);
-  replied_more = λ to of. let its = as_replied to of in omega (arith, its);
+  taken_more = λ to of. front_same (ap (from_sender to) same);
+  replied_more = λ to of. front_same (replies to of);
   as_taken = λ to of. let its = as_taken to in let theirs = as_replied to of in omega (arith, its, theirs);
 }
   where
@@ -48,7 +50,8 @@ module _ (session : ℕ) (request : Request) (before now : Lists) (serves : Serv
 
   -- of its session one more was taken, and of another as many, and so they were replied to
   of_each : (to : ℕ) → IsOneOf (length before.replied) to
-      → (more : ℕ) × (taken to now ≡ taken to before + more) × (replied to before ≤ replied to now) × (replied to now ≤ replied to before + more)
+      → (more : ℕ) × (taken to now ≡ taken to before + more) × IsFront (replies_to before to) (replies_to now to) × (replied to now ≤ replied to before + more)
+      × IsFront (taken_of to before) (taken_of to now)
   of_each to of = elim (eqb_tells session to) [
     | inl same ↦
         let replies : replies_to now to ≡ replies_to before to ++ reply_to before.state request =
@@ -60,7 +63,8 @@ module _ (session : ℕ) (request : Request) (before now : Lists) (serves : Serv
         ap (λ received. taken to (record before { received = received })) received
         ∙ ap length (from_sender_more to before.received (session, request) same.1) ∙ length-append _ _
         in
-        (1, took, omega (arith, count), omega (arith, count, one))
+        let front = front_more _ (ap (from_sender to) received ∙ from_sender_more to before.received (session, request) same.1) in
+        (1, took, front_more _ replies, omega (arith, count, one), front)
     | inr apart ↦
         let replies : replies_to now to ≡ replies_to before to =
         serves.replies to of ∙ ap (λ (own : Bool). replies_to before to ++ (if own then reply_to before.state request else [])) apart.0 ∙ append-nil _
@@ -69,13 +73,14 @@ module _ (session : ℕ) (request : Request) (before now : Lists) (serves : Serv
         let took : taken to now ≡ taken to before =
         ap (λ received. taken to (record before { received = received })) received ∙ ap length (from_sender_same to before.received (session, request) apart.1)
         in
-        (0, omega (arith, took), omega (arith, count), omega (arith, count))
+        let front = front_same (ap (from_sender to) received ∙ from_sender_same to before.received (session, request) apart.1) in
+        (0, omega (arith, took), front_same replies, omega (arith, count), front)
   ]
 
   taken_turned : HasTurned did.Request before now
   taken_turned = record {
     replies = record {
-      taken_more = λ to of. let its = of_each to of in omega (arith, its.1);
+      taken_more = λ to of. (of_each to of).4;
       replied_more = λ to of. (of_each to of).2;
       as_taken = λ to of. let its = of_each to of in omega (arith, its.1, its.3);
     };

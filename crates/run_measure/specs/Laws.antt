@@ -1,6 +1,7 @@
 -- The laws of the measure: what a turn of a worker and a poll of a session are to it.
 use Rattle.std.specs.Prelude.{◌≡◌, ℕ, ◌+◌, ◌≤◌, List, [], ◌∷◌, ◌++◌, All, length, slice_get, slice_set, sum_by, Some, None, Ok, ⊤}
 use Rattle.lattice_laws.specs.declared.lattice.NoMemory.{NoMemory}
+use Rattle.mail_contract.specs.Takes.{IsFront}
 use Rattle.placement.specs.Config.{IsOneOf}
 use Rattle.session_proxy.specs.Lines.{AreReplicas, MayRun}
 use Rattle.session_proxy.specs.Polls as polls
@@ -15,6 +16,7 @@ use Rattle.worker_core.specs.Turns as turns
 use Rattle.worker_core.specs.declared.did.Did.{Did}
 use Rattle.worker_core.specs.declared.did.Did.TheVariants as did
 use Rattle.run_measure.specs.Measure.{AreAllCounted, asked, heard, measure, measure_of_all, replied, taken}
+use Rattle.run_measure.specs.Pace.{IsPaced, rests_by}
 use Rattle.run_measure.specs.Steps.{HasDone, HaveAllGoneOn, RepliesAsTaken, done}
 
 -- A worker took one request.
@@ -73,6 +75,17 @@ abbrev pub SessionsGoOn : Type 0
 SessionsGoOn =
     (answer : Progress) (before now : sessions.Lists) (counts counts_now : polls.Counts) → polls.Polls (Ok answer) before now counts counts_now (λ place. ⊤) ⊤
     → proxies.Share before → sessions.IsFixed before.course now.course → length now.sent ≡ length before.sent → HasPolled answer before now
+
+-- In a poll that says that an ask came to nothing one did, and in every other none; and so where a session went on twice, and none did at first.
+abbrev pub PollsArePaced : Type 0
+PollsArePaced =
+    (answer : Progress) (before now : sessions.Lists) (counts counts_now : polls.Counts) → polls.Polls (Ok answer) before now counts counts_now (λ place. ⊤) ⊤
+    → proxies.Share before → IsPaced (rests_by answer) before.course now.course
+
+abbrev pub PaceIsKept : Type 0
+PaceIsKept =
+    (rests : ℕ) (before between now : sessions.Course) → IsFront before.answers between.answers → IsFront between.answers now.answers
+    → IsPaced 0 before between → IsPaced rests between now → IsPaced rests before now
 
 -- Where a session stays as it is, it has gone on, and one that goes on twice does; and it has done no less.
 abbrev pub SessionsStay : Type 0

@@ -1,3 +1,4 @@
 pub mod Laws
 pub mod Measure
+pub mod Pace
 pub mod Steps

@@ -3,6 +3,8 @@ use Rattle.std.specs.Prelude.{◌≡◌, ℕ, ◌+◌, ◌-◌, ◌*◌, ◌≤�
 use Rattle.mail_contract.specs.Takes.{from_sender}
 use Rattle.session_proxy.specs.Share.{most_in_all}
 use Rattle.session_proxy.specs.State as sessions
+use Rattle.store_msg.specs.Reply.{PlainReply}
+use Rattle.store_msg.specs.declared.request.Request.{Request}
 use Rattle.worker_core.specs.Share.{replies_to}
 use Rattle.worker_core.specs.State as workers
 
@@ -15,18 +17,27 @@ abbrev pub may_send : sessions.Lists → ℕ
 may_send its = most_in_all its.course - sum_by length its.sent
 
 -- what it sent to a worker, and what the worker took of it, each by number, from 1
+abbrev pub asked_to : ℕ → sessions.Lists → List Request
+asked_to worker its = slice_index_or its.sent (worker - 1) []
+
 abbrev pub asked : ℕ → sessions.Lists → ℕ
-asked worker its = length (slice_index_or its.sent (worker - 1) [])
+asked worker its = length (asked_to worker its)
+
+abbrev pub taken_of : ℕ → workers.Lists → List Request
+taken_of session worker = from_sender session worker.received
 
 abbrev pub taken : ℕ → workers.Lists → ℕ
-taken session worker = length (from_sender session worker.received)
+taken session worker = length (taken_of session worker)
 
 -- what the worker replied to it, that which is held included, and what it took of these
 abbrev pub replied : ℕ → workers.Lists → ℕ
 replied session worker = length (replies_to worker session)
 
+abbrev pub heard_from : ℕ → sessions.Lists → List PlainReply
+heard_from worker its = from_sender worker its.received
+
 abbrev pub heard : ℕ → sessions.Lists → ℕ
-heard worker its = length (from_sender worker its.received)
+heard worker its = length (heard_from worker its)
 
 -- what is on its way between a session and a worker, by their numbers: twice the requests that the worker has not taken, and the replies that the
 -- session has not

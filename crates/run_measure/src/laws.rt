@@ -1,5 +1,5 @@
 //! The laws of the measure: each function does nothing and carries its laws.
-ghost use Rattle.run_measure.specs.Laws.{DoneRises, PollsLowerTheMeasure, RepliesFollowRequests, SessionsGoOn, SessionsGoOnTwice, SessionsStay, TogetherLowerTheMeasure, TurnsLowerTheMeasure, WorkersGoOn, WorkersStay};
+ghost use Rattle.run_measure.specs.Laws.{DoneRises, PaceIsKept, PollsArePaced, PollsLowerTheMeasure, RepliesFollowRequests, SessionsGoOn, SessionsGoOnTwice, SessionsStay, TogetherLowerTheMeasure, TurnsLowerTheMeasure, WorkersGoOn, WorkersStay};
 
 /// A worker replies to a session no more than it takes of it, turn by turn, and takes nothing back, where it
 /// keeps no message, and holds a reply for one of its sessions if it holds any. It keeps none after the turn,
@@ -23,6 +23,13 @@ pub fn sessions_go_on()
     ensures stays { SessionsStay }
     ensures goes_on { SessionsGoOnTwice }
     ensures done { DoneRises }
+{}
+
+/// Poll by poll no ask of a session comes to nothing but where the poll says so, and then one does: so it is after
+/// many polls of which the last alone may say so.
+pub fn polls_are_paced()
+    ensures polls { PollsArePaced }
+    ensures goes_on { PaceIsKept }
 {}
 
 /// Where a session goes on, its measure falls at least by what it has done.

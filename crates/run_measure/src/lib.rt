@@ -9,12 +9,13 @@
 //! falls by what it has done; and where all parties have gone on, in no order of steps, the measure of all
 //! sessions has fallen by what they have done.
 //!
-//! `specs/Measure.antt` says what the measure is, `specs/Steps.antt` what a step is to it.
+//! `specs/Measure.antt` says what the measure is, `specs/Steps.antt` what a step is to it, and `specs/Pace.antt`
+//! how often a session asks in vain.
 #![tactic(auto)]
 
 mod laws;
 
 pub use laws::{
-    parties_lower_the_measure, polls_lower_the_measure, replies_follow_requests, sessions_go_on,
-    turns_lower_the_measure,
+    parties_lower_the_measure, polls_are_paced, polls_lower_the_measure, replies_follow_requests,
+    sessions_go_on, turns_lower_the_measure,
 };

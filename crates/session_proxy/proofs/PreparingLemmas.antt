@@ -15,7 +15,7 @@ use Rattle.store_msg.specs.Reply.{PlainReply}
 use Rattle.store_msg.specs.declared.request.Request.{Request}
 use Rattle.session_proxy.proofs.KeepsLemmas.{closed_unbegun, keeps_as, keeps_open}
 use Rattle.session_proxy.proofs.PutsLemmas.{made_there, makes_one, puts_length}
-use Rattle.session_proxy.proofs.SendingLemmas.{IsPosted, sends_last, sends_put}
+use Rattle.session_proxy.proofs.SendingLemmas.{IsPosted, last_answer, sends_last, sends_put}
 use Rattle.session_proxy.specs.Kept.{ArePutting, Keeps}
 use Rattle.session_proxy.specs.Local.{KeepsAs, PreparesOf, SendsOf, answer_sent, course_of, put_at}
 use Rattle.session_proxy.specs.Polls.{Sends}
@@ -114,7 +114,16 @@ module _ (old now : Local) (puts : Puts) (request : Request) (sent : List (List 
             elim sends [
               | inl (left, is) ↦ inl (is.course_is ∙ ap (λ waits. record course { out = old.out + 1; waits = waits }) (keeps.stands.0.waits ∙ sym there.3))
               | inr (last, is) ↦ inr (
-                (_, ap (λ (course : Course). course.answers) is.course_is),
+                (
+                  answer_sent line old.session puts,
+                  ap (λ (course : Course). course.answers) is.course_is,
+                  record {
+                    line = line;
+                    line_is = keeps.stands.2;
+                    no_ask = keeps.stands.3.no_ask;
+                    answer_is = last_answer (record { course = course; sent = sent; received = received }) old.session puts request keeps sent_now last;
+                  },
+                ),
                 last ∙ sym (puts_length course line keeps.stands.2 old.session.state puts keeps.stands.3),
                 closed_unbegun course (course_of now) (answer_sent line old.session puts) course.asks is.course_is,
               )

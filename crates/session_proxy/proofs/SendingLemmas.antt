@@ -112,6 +112,16 @@ module _ (lists : Lists) (session : InState) (puts : Puts) (request : Request) (
         },
       )
 
+  -- the answer of the line once the last was sent
+  pub last_answer : course.out + 1 ≡ length puts.puts → answer_sent line session puts ≡ answer_at (state_now course) line
+  last_answer last =
+      let putting = keeps.stands.3 in
+      let none_left : drop (course.out + 1) puts.puts ≡ [] = drop_of_length-le puts.puts (omega (arith, last)) in
+      let knows : session.state.knows ≡ knows_committed course.client (state_now course).knows puts.lamport puts.puts =
+      sym (ap (knows_committed course.client session.state.knows puts.lamport) none_left) ∙ putting.knows
+      in
+      answer_sent_is course.client (state_now course) line session puts putting.no_ask putting.puts_are (omega (arith, last)) putting.lamport_is knows
+
   -- the last answers it
   pub sends_last : IsPosted → course.out + 1 ≡ length puts.puts → Keeps (record { course = answered_with course (answer_sent line session puts); sent = sent; received = lists.received }) session ways.Nothing None
   sends_last posted last =
@@ -134,7 +144,7 @@ module _ (lists : Lists) (session : InState) (puts : Puts) (request : Request) (
       ap (λ held. record { knows = session.state.knows; held = held }) putting.none_held ∙ ap (λ knows. record { knows = knows; held = None }) knows
       ∙ ap (λ lamport. known_of lamport puts.puts) putting.lamport_is ∙ ap (known_of (S.knows.lamport + 1)) putting.puts_are ∙ sym (after_due course.client S line putting.no_ask due_some)
       in
-      let answer_is = answer_sent_is course.client S line session puts putting.no_ask putting.puts_are some putting.lamport_is knows in
+      let answer_is = last_answer last in
       subst (λ answer. Keeps (record { course = answered_with course answer; sent = sent; received = lists.received }) session ways.Nothing None) (sym answer_is) (
       closes_alone lists line keeps.stands.2 putting.no_ask session (ways.Puts puts) (Some request) keeps keeps.stands.0.kept sent session (as_many_then lists keeps.share home its.0 its_home its.1 sent its.2)
       (λ w of. sent_then lists keeps.share home its.0 its_home its.1 sent its.2 w of

@@ -108,7 +108,9 @@ module _ (lists : Lists) (share : Share lists) (worker : ℕ) (item : Sent) (goe
 -- how often senders refused, where the one at a place handed a request back
 pub rose_there : (refused : Refused Request) (back : Request) (place : ℕ) (fulls fulls_now : List ℕ) → refused ≡ Full back → FullsAfter {M = Request} {U = Unit {0}} (Err refused) place fulls fulls_now
     → Rose (slice_index_or fulls place 0) (slice_index_or fulls_now place 0)
-rose_there refused back place fulls fulls_now is after = (subst (λ refused. FullsAfter {M = Request} {U = Unit {0}} (Err refused) place fulls fulls_now) is after).1
+rose_there refused back place fulls fulls_now is after =
+    let counts = subst (λ refused. FullsAfter {M = Request} {U = Unit {0}} (Err refused) place fulls fulls_now) is after in
+    omega (arith, counts.1)
 
 -- the sender says what it knows of its room
 pub room_there : {P : Type 0} (refused : Refused Request) (back : Request) → refused ≡ Full back → OnFull {M = Request} {U = Unit {0}} (Err refused) P → P

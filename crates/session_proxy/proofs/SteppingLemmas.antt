@@ -89,7 +89,11 @@ module _ (before now : Local) (sent : List (List Request)) (received : List (ℕ
   answered_alone opens =
       let is = answered_course opens in
       record {
-        answers = (answer_at (state_now (course_of before)) opens.line, ap (λ (course : Course). course.answers) is);
+        answers = (
+          answer_at (state_now (course_of before)) opens.line,
+          ap (λ (course : Course). course.answers) is,
+          record { line = opens.line; line_is = opens.line_is; no_ask = opens.begins.0.no_ask; answer_is = refl },
+        );
         course = opens.course_is ∙ ap (λ client. record (course_of before) { client = client; answers = now.answers.items }) opens.begins.0.client_is;
         sent = refl;
         received = refl;

@@ -5,11 +5,13 @@ use Rattle.lattice_laws.specs.declared.lattice.NoMemory.{NoMemory}
 use Rattle.mail_contract.specs.Takes.{Answers}
 use Rattle.session_known.specs.Requests.{Sent, SentAsk, SentPut}
 use Rattle.session_known.specs.declared.report.Answer.{Answer}
+use Rattle.session_known.specs.declared.script.Line.{Line}
 use Rattle.store_msg.specs.Reply.{PlainReply, is_found}
 use Rattle.store_msg.specs.declared.ends.SessionEndsOver.{SessionEndsOver}
+use Rattle.session_proxy.specs.Lines.{answer_at}
 use Rattle.session_proxy.specs.Run.{answer_by}
-use Rattle.session_proxy.specs.Share.{IsAwaited, open_most, request_of}
-use Rattle.session_proxy.specs.State.{Course, Lists, PlainProxy}
+use Rattle.session_proxy.specs.Share.{IsAsked, IsAwaited, open_most, request_of}
+use Rattle.session_proxy.specs.State.{Course, Lists, PlainProxy, open_line, state_now}
 use Rattle.session_proxy.specs.declared.progress.Progress.{Progress}
 use Rattle.session_proxy.specs.declared.progress.Progress.TheVariants as progress
 
@@ -36,9 +38,16 @@ pub record IsUnbegun (course : Course) : Type 0 where
   pub waits : course.waits ≡ false
   pub kept : course.kept ≡ None
 
--- One line is answered.
+-- The open line is no get and no await, and this is its answer, by what the session knows.
+pub record IsOwnAnswer (course : Course) (answer : Answer) : Type 0 where
+  pub line : Line
+  pub line_is : open_line course ≡ Some line
+  pub no_ask : IsAsked line → ⊥
+  pub answer_is : answer ≡ answer_at (state_now course) line
+
+-- One line is answered, and without a reply.
 abbrev pub AnswersOne : Lists → Lists → Type 0
-AnswersOne before now = (answer : Answer) × (now.course.answers ≡ before.course.answers ++ answer ∷ [])
+AnswersOne before now = (answer : Answer) × (now.course.answers ≡ before.course.answers ++ answer ∷ []) × IsOwnAnswer before.course answer
 
 -- a request is an ask
 abbrev pub is_ask : Sent → Bool

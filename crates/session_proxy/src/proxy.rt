@@ -171,7 +171,7 @@ impl<C: Consistency, T: Tx<Request>, R: Rx<Reply>, Q: Rx<Request, From = T>> Mee
     for ProxyOver<C, T, R> {
     ghost use Rattle.std.specs.Prelude.{◌≡◌, ◌-◌, ℕ, [], List, map, slice_index_or};
     ghost use Rattle.mail_contract.specs.Lanes.{IsLaneOf};
-    ghost use Rattle.mail_contract.specs.Takes.{from_sender};
+    ghost use Rattle.mail_contract.specs.Takes.{Answers, from_sender};
     ghost use Rattle.session_proxy.specs.State.{Course};
     ghost use Rattle.store_msg.specs.Reply.{PlainReply};
     ghost use Rattle.store_msg.specs.declared.request.Request.{Request as Asked};
@@ -198,13 +198,15 @@ impl<C: Consistency, T: Tx<Request>, R: Rx<Reply>, Q: Rx<Request, From = T>> Mee
     ghost clear = { λ proxy worker. (tx : T)
         → slice_index_or proxy.ends.requests.items (worker - 1) tx ≡ tx → T.clear tx };
 
-    ghost Rest = { Course × List ℕ × List (List Asked) × List (ℕ × PlainReply) };
+    ghost Rest = { Course × List ℕ × List (List Asked) × List (ℕ × PlainReply) × List ℕ × Answers };
 
     ghost rest = { λ proxy. (
       proxy.course,
       map T.number proxy.ends.requests.items,
       map T.sent proxy.ends.requests.items,
       R.received proxy.ends.replies,
+      map T.fulls proxy.ends.requests.items,
+      R.answers proxy.ends.replies,
     ) };
 
     ghost about = { λ proxy. R.about proxy.ends.replies };
