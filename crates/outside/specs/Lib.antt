@@ -1,3 +1,4 @@
+pub mod Adapters
 pub mod Gathering
 pub mod Memory
 pub mod Outside

@@ -6,14 +6,16 @@ use std::io;
 use std::io::{Error, ErrorKind, Read, Write};
 use std::test::Fail;
 
-/// Each read gives one byte, or fails where the byte is a `!`.
+/// Each read gives one byte, or fails where the byte is a `!`. It counts its reads.
 #[derive(Drop)]
 struct Bytewise<'a> {
     bytes: &'a [u8],
+    reads: u32,
 }
 
 impl Read for Bytewise<'_> {
     fn read(&mut self, buf: &mut [u8]) -> io::Result<usize> {
+        self.reads = self.reads.saturating_add(1);
         let Some((first, rest)) = self.bytes.split_first() else {
             return Ok(0);
         };
@@ -29,14 +31,18 @@ impl Read for Bytewise<'_> {
     }
 }
 
-/// Each write takes at most two bytes, and fails where the first is a `!`.
+/// Each write takes at most two bytes, and fails where the first is a `!`. It keeps what it took, and
+/// counts its calls.
 #[derive(Drop)]
 struct Pairwise {
     taken: Vec<u8>,
+    writes: u32,
+    flushes: u32,
 }
 
 impl Write for Pairwise {
     fn write(&mut self, buf: &[u8]) -> io::Result<usize> {
+        self.writes = self.writes.saturating_add(1);
         let pair = &buf[..buf.len().min(2)];
         if pair.first() == Some(&b'!') || self.taken.extend_from_slice(pair).is_err() {
             return Err(Error::from(ErrorKind::Other));
@@ -45,18 +51,21 @@ impl Write for Pairwise {
     }
 
     fn flush(&mut self) -> io::Result<()> {
+        self.flushes = self.flushes.saturating_add(1);
         Ok(())
     }
 }
 
-/// Writes nothing: each write answers 0, or fails.
+/// Writes nothing: each write answers 0, or fails. It counts its writes.
 #[derive(Drop)]
 struct Full {
     fails: bool,
+    writes: u32,
 }
 
 impl Write for Full {
     fn write(&mut self, _buf: &[u8]) -> io::Result<usize> {
+        self.writes = self.writes.saturating_add(1);
         if self.fails {
             Err(Error::from(ErrorKind::Other))
         } else {
@@ -70,45 +79,75 @@ impl Write for Full {
 }
 
 #[test]
-fn a_source_over_a_reader_counts_failed_reads(rt: HostRuntime) -> Result<(), Fail> {
-    let mut src = ReadSource::new(Bytewise { bytes: b"ab!c" });
+fn a_source_over_a_reader_hands_each_byte_on_once(rt: HostRuntime) -> Result<(), Fail> {
+    let bytes = b"ab!c";
+    let mut reader = Bytewise { bytes, reads: 0 };
+    let mut src = ReadSource::new(&mut reader);
     let mut into = [0u8; 4];
-    for (want, faults) in [
-        (Ok(1), 0),
-        (Ok(1), 0),
-        (Err(Failed), 1),
-        (Ok(1), 1),
-        (Ok(0), 1),
+    for (want, front, faults) in [
+        (Ok(1), b"a".as_slice(), 0),
+        (Ok(1), b"b", 0),
+        (Err(Failed), b"", 1),
+        (Ok(1), b"c", 1),
+        (Ok(0), b"", 1),
     ] {
-        assert_eq!(rt; src.take(&mut into), want);
+        let taken = src.take(&mut into);
+        assert_eq!(rt; taken, want);
+        assert!(rt; into.starts_with(front));
         assert_eq!(rt; src.faults(), faults);
     }
+    assert_eq!(rt; reader.reads, 5);
+
+    let mut reader = Bytewise { bytes, reads: 0 };
+    let mut src = ReadSource::new(&mut reader);
+    assert_eq!(rt;
+        read_all(rt.alloc(), &mut src, 9).err(),
+        Some(ReadFault::Failed)
+    );
+    assert_eq!(rt;
+        read_all(rt.alloc(), &mut src, 9)?.as_slice(),
+        b"c".as_slice()
+    );
+    assert_eq!(rt; src.faults(), 1);
+    assert_eq!(rt; reader.reads, 5);
     Ok(())
+}
+
+#[test]
+fn a_sink_over_a_writer_hands_each_byte_on_once(rt: HostRuntime) {
+    let mut writer = Pairwise {
+        taken: Vec::new(rt.alloc()),
+        writes: 0,
+        flushes: 0,
+    };
+    let mut sink = WriteSink::new(&mut writer);
+    assert_eq!(rt; sink.give(b"abc"), Ok(2));
+    assert_eq!(rt; write_all(&mut sink, b"cdefg"), Ok(()));
+    assert_eq!(rt; sink.faults(), 0);
+    assert_eq!(rt; write_all(&mut sink, b"hi!j"), Err(Failed));
+    assert_eq!(rt; sink.faults(), 1);
+    assert_eq!(rt; sink.give(b"j"), Ok(1));
+    assert_eq!(rt; sink.faults(), 1);
+    assert_eq!(rt; writer.taken.as_slice(), b"abcdefghij".as_slice());
+    assert_eq!(rt; writer.writes, 7);
+    assert_eq!(rt; writer.flushes, 0);
 }
 
 #[test]
 fn a_sink_over_a_writer_counts_failed_and_empty_writes(rt: HostRuntime) {
     for fails in [true, false] {
-        let mut sink = WriteSink::new(Full { fails });
+        let mut writer = Full { fails, writes: 0 };
+        let mut sink = WriteSink::new(&mut writer);
         assert_eq!(rt; sink.give(b"ab"), Err(Failed));
         assert_eq!(rt; sink.faults(), 1);
         assert_eq!(rt; write_all(&mut sink, b"ab"), Err(Failed));
         assert_eq!(rt; sink.faults(), 2);
         assert_eq!(rt; finish(&mut sink, 0, b"ab", 5), 5);
+        assert_eq!(rt; sink.faults(), 3);
         assert_eq!(rt; finish(&mut sink, 0, b"", 5), 0);
+        assert_eq!(rt; sink.faults(), 3);
+        assert_eq!(rt; writer.writes, 3);
     }
-}
-
-#[test]
-fn a_sink_over_a_writer_may_take_a_part_of_a_piece(rt: HostRuntime) {
-    let mut sink = WriteSink::new(Pairwise {
-        taken: Vec::new(rt.alloc()),
-    });
-    assert_eq!(rt; sink.give(b"abc"), Ok(2));
-    assert_eq!(rt; write_all(&mut sink, b"abcde"), Ok(()));
-    assert_eq!(rt; sink.faults(), 0);
-    assert_eq!(rt; write_all(&mut sink, b"ab!c"), Err(Failed));
-    assert_eq!(rt; sink.faults(), 1);
 }
 
 #[test]
@@ -135,7 +174,10 @@ fn reads_to_the_end_or_to_the_bound(rt: HostRuntime) -> Result<(), Fail> {
         (4, b"abcd"),
         (0, b""),
     ] {
-        let mut src = ReadSource::new(Bytewise { bytes: b"abcdef" });
+        let mut src = ReadSource::new(Bytewise {
+            bytes: b"abcdef",
+            reads: 0,
+        });
         assert_eq!(rt; read_all(rt.alloc(), &mut src, most)?.as_slice(), want);
         let mut src = SureSource::new(b"abcdef".to_vec(rt.alloc())?);
         assert_eq!(rt; read_all(rt.alloc(), &mut src, most)?.as_slice(), want);
@@ -163,7 +205,7 @@ fn the_sinks_over_memory_keep_what_fits(rt: HostRuntime) -> Result<(), Fail> {
     let rest = vec![in rt.alloc(); b'x'; MEM_SINK_ROOM - 6]?;
     assert_eq!(rt; sink.give(&rest), Ok(MEM_SINK_ROOM - 6));
     assert_eq!(rt; sink.give(b"y"), Err(Failed));
-    assert_eq!(rt; sink.written().len(), MEM_SINK_ROOM);
+    assert_eq!(rt; sink.written().len(), 1_048_576);
     Ok(())
 }
 
