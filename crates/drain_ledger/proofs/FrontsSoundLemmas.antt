@@ -53,9 +53,9 @@ module _ (script : Script) (table : List (List ℕ)) (report : Report) (ledger :
 module _ {Q T O G R : Type 0} (script : Script) (report : Report) (received : Q → List (ℕ × Request)) (got : G → ℕ → ℕ → Option Entries) (replies : R → List (ℕ × PlainReply)) (heard : List (PlainSealed Q G)) (boxes : List R)
     (drained : IsDrained script report (ledger_in received got replies heard boxes)) where
   -- And so is what a worker had that was handed over, from which a sealed one goes on.
-  pub were_sound : (place : ℕ) (before : PlainWorker Q T O G) (now : PlainSealed Q G) → place < script.config.workers → slice_get heard place ≡ Some now → GoesOn received got before now
+  pub were_sound : {K : Type 0} (in_key : G → K) (place : ℕ) (before : PlainWorker Q T O G) (now : PlainSealed Q G) → place < script.config.workers → slice_get heard place ≡ Some now → GoesOn received in_key got before now
       → AreFrontsSound script report (received before.ends.requests) (got before.ends.gossip_in)
-  were_sound place before now low there goes =
+  were_sound in_key place before now low there goes =
       let end : worker_at (ledger_in received got replies heard boxes) (suc place) ≡ end_in received got now = mapped_or (end_in received got) heard place now no_worker there in
       fronts_sound script drained.table report (ledger_in received got replies heard boxes) drained.valid drained.came (suc place) (omega arith, omega (arith, low))
       (received before.ends.requests) (got before.ends.gossip_in) goes.more (ap (λ (its : WorkerEnd). its.received) end ∙ goes.received_is)

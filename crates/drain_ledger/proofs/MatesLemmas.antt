@@ -446,13 +446,17 @@ module _ {S T O Q G R SK TK OK QK GK RK : Type 0}
           pub goes_on : ((place : ℕ) (before now : PlainWorker Q T O G) → slice_get workers place ≡ Some before → slice_get settled place ≡ Some now
               → requests_received now.ends.requests ≡ requests_received before.ends.requests)
               → (place : ℕ) (before : PlainWorker Q T O G) (now : PlainSealed Q G) → slice_get workers place ≡ Some before
-              → slice_get finished place ≡ Some now → GoesOn requests_received got before now
+              → slice_get finished place ≡ Some now → GoesOn requests_received in_key got before now
           goes_on same_received place before now is there =
               let come = has_come place now there in
               let between = there_too settled turned place come.before as_many_turned come.before_is in
               let went = gone place between.0 come.before between.1 come.before_is in
               let out = heard_out place come.before now come.before_is there in
+              let same : come.from.start ≡ before = same_Some come.from.start before (sym come.from.start_is ∙ is) in
               record {
+                key_is =
+                    come.hears.key_is ∙ come.taken.key_is ∙ come.from.key_is
+                    ∙ ap (λ (worker : PlainWorker Q T O G). in_key worker.ends.gossip_in) same;
                 me = out.me ∙ went.fixed.me ∙ ap (λ (its : PlainWorker Q T O G). its.state.me) (only_requests place before between.0 is between.1);
                 more = went.more;
                 received_is = ap requests_received out.requests ∙ went.received_is ∙ ap (λ those. those ++ went.more) (same_received place before between.0 is between.1);

@@ -314,6 +314,7 @@ module _ {S T O Q G R SK TK OK QK GK RK : Type 0}
             let mates = first.mates in
             record {
               me = went.fixed.me ∙ ap (λ its. its.me) state ∙ first.me;
+              round = went.fixed.round ∙ ap (λ its. its.round) state ∙ first.round;
               placement = went.fixed.placement ∙ ap (λ its. its.placement) state ∙ first.placement;
               kinds = went.fixed.kinds ∙ ap (λ its. its.kinds) state ∙ first.kinds;
               sessions = sessions_stay ∙ first.sessions;

@@ -31,9 +31,12 @@ pub record IsDrained (script : Script) (report : Report) (ledger : Ledger) : Typ
   pub settled : IsSettled table ledger
   pub is : IsLegalAndCausal script table report
 
--- A sealed worker goes on from one that was handed over: it received what that one had, and more, and heard what that one had.
-pub record GoesOn {Q T O G : Type 0} (received : Q → List (ℕ × Request)) (got : G → ℕ → ℕ → Option Entries) (before : PlainWorker Q T O G) (now : PlainSealed Q G) : Type 0 where
+-- A sealed worker goes on from one that was handed over: it has that one's box of gossip, received what that one had, and more, and heard what that
+-- one had.
+pub record GoesOn {Q T O G K : Type 0} (received : Q → List (ℕ × Request)) (key : G → K) (got : G → ℕ → ℕ → Option Entries) (before : PlainWorker Q T O G)
+    (now : PlainSealed Q G) : Type 0 where
   pub me : now.me ≡ before.state.me
+  pub key_is : key now.gossip_in ≡ key before.ends.gossip_in
   pub more : List (ℕ × Request)
   pub received_is : received now.requests ≡ received before.ends.requests ++ more
   pub got_more : (sender place : ℕ) (batch : Entries) → got before.ends.gossip_in sender place ≡ Some batch → got now.gossip_in sender place ≡ Some batch

@@ -18,6 +18,8 @@ use Rattle.drain_turns.specs.Ready.{IsMate}
 -- a worker of a script, by its place from 0
 pub record IsOfScript {Q T O G : Type 0} (script : Script) (table : List (List ℕ)) (place : ℕ) (worker : PlainWorker Q T O G) : Type 0 where
   pub me : worker.state.me ≡ place + 1
+  -- it makes a round of gossip after as many requests as the script says
+  pub round : worker.state.round ≡ script.round
   pub placement : worker.state.placement ≡ table
   pub kinds : worker.state.kinds ≡ script.kinds
   pub sessions : length worker.ends.replies.items ≡ length script.sessions

@@ -1,5 +1,5 @@
 //! The drain, step by step.
-ghost use Rattle.std.specs.Prelude.{◌≡◌, ◌⊎◌, ℕ, length, slice_get, IfOk, IsFalse, IsTrue, Some};
+ghost use Rattle.std.specs.Prelude.{◌≡◌, ◌⊎◌, ℕ, length, map, slice_get, IfOk, IsFalse, IsTrue, Some};
 ghost use Rattle.drain_ledger.specs.Drained.{AreFrontsSound, GoesOn, IsDrained, ledger_in};
 ghost use Rattle.drain_ledger.specs.Handed.{AreFrontsOfSent, AreOfOneRun};
 ghost use Rattle.drain_turns.specs.Ready.{FreesPlaces, NeverFull};
@@ -54,11 +54,13 @@ pub fn drain<
         script.now workers.items sessions.items }
     ensures drained { IfOk result (λ drained. IsDrained script.now drained.report
         (ledger_in Q.received G.got R.received drained.workers.items drained.replies.items)) }
+    ensures answers { IfOk result (λ drained. drained.report.answers
+        ≡ map (λ its. its.0) sessions.items) }
     ensures goes_on { IfOk result (λ drained. (place : ℕ)
         (before : PlainWorker Q T O G) (now : PlainSealed Q G)
         → slice_get workers.items place ≡ Some before
         → slice_get drained.workers.items place ≡ Some now
-        → GoesOn Q.received G.got before now) }
+        → GoesOn Q.received G.key G.got before now) }
 
     // What a worker had while the run went on, from what it had received and heard by then, was sound.
     ensures sound { IfOk result (λ drained. (place : ℕ) (worker : PlainWorker Q T O G)

@@ -121,7 +121,7 @@ module _ {Q T O G : Type 0} (keeps : Parts) (senders : Q → ℕ) (received : Q 
         (omega (arith, fewer), omega (arith, fewer, one_held now.state.held))
     turn_leaves (Ok did.Request) count count_now room (inr hands) = no_more_as _ hands.sent (refl, omega arith, omega arith)
     turn_leaves (Ok did.Gossip) count count_now room (sender, batch, hears, was) = no_more_as _ hears.rest (refl, omega arith, omega arith)
-    turn_leaves (Ok did.Round) count count_now room (gossips, some, have) = no_more_as _ gossips.rest (refl, omega arith, omega arith)
+    turn_leaves (Ok did.Round) count count_now room (gossips, some, have, tried, full, anew) = no_more_as _ gossips.rest (refl, omega arith, omega arith)
     turn_leaves (Ok did.Blocked) count count_now room blocked = no_more_as _ blocked.unmoved (refl, omega arith, omega arith)
     turn_leaves (Ok did.Idle) count count_now room idle = no_more_as _ idle.unmoved (refl, omega arith, omega arith)
     turn_leaves (Err error) count count_now room lacks = by_kept lacks.kept
@@ -173,7 +173,7 @@ module _ {Q T O G : Type 0} (keeps : Parts) (senders : Q → ℕ) (received : Q 
     turn_joins (Ok did.Request) count count_now room come come_now turns fewer = tt
     turn_joins (Ok did.Gossip) count count_now room come come_now (sender, batch, hears, was) fewer =
         omega (arith, fewer, ap (λ (lists : Lists). dirty lists.state) hears.rest)
-    turn_joins (Ok did.Round) count count_now room come come_now (gossips, some, have) fewer =
+    turn_joins (Ok did.Round) count count_now room come come_now (gossips, some, have, tried, full, anew) fewer =
         omega (arith, fewer, gossip_tells_some at_first at_last gossips told_are changed_stay some)
     turn_joins (Ok did.Blocked) count count_now room come come_now turns fewer = tt
     turn_joins (Ok did.Idle) count count_now room come come_now turns fewer = tt
@@ -186,7 +186,7 @@ module _ {Q T O G : Type 0} (keeps : Parts) (senders : Q → ℕ) (received : Q 
         absurd (omega (arith, none, serves_one boxes session request serves.taken serves.kept))
     turn_changes (Ok did.Request) count count_now room boxes (inr hands) none = omega (arith, ap (λ (lists : Lists). dirty lists.state) hands.sent)
     turn_changes (Ok did.Gossip) count count_now room boxes (sender, batch, hears, was) none = omega (arith, ap (λ (lists : Lists). dirty lists.state) hears.rest)
-    turn_changes (Ok did.Round) count count_now room boxes (gossips, some, have) none = gossip_tells at_first at_last gossips told_are changed_stay
+    turn_changes (Ok did.Round) count count_now room boxes (gossips, some, have, tried, full, anew) none = gossip_tells at_first at_last gossips told_are changed_stay
     turn_changes (Ok did.Blocked) count count_now room boxes blocked none = omega (arith, ap (λ (lists : Lists). dirty lists.state) blocked.unmoved)
     turn_changes (Ok did.Idle) count count_now room boxes idle none = omega (arith, ap (λ (lists : Lists). dirty lists.state) idle.unmoved)
     turn_changes (Err error) count count_now room boxes lacks none = by_kept lacks.kept
@@ -225,7 +225,7 @@ module _ {Q T O G : Type 0} (keeps : Parts) (senders : Q → ℕ) (received : Q 
           absurd (omega (arith, none, serves_one boxes session request serves.taken serves.kept))
       turn_rooms (Ok did.Request) count count_now boxes (inr hands) senders none = room_kept (ap (λ (lists : Lists). dirty lists.state) hands.sent) senders
       turn_rooms (Ok did.Gossip) count count_now boxes (sender, batch, hears, was) senders none = room_kept (ap (λ (lists : Lists). dirty lists.state) hears.rest) senders
-      turn_rooms (Ok did.Round) count count_now boxes (gossips, some, have) senders none =
+      turn_rooms (Ok did.Round) count count_now boxes (gossips, some, have, tried, full, anew) senders none =
           inl (gossip_tells_some at_first at_last gossips told_are changed_stay some)
       turn_rooms (Ok did.Blocked) count count_now boxes blocked senders none = elim blocked.left [
         | inl some ↦ inr (inr (back_to_some now.state changed_stay some blocked.no_room))

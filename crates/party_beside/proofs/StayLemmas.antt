@@ -62,6 +62,7 @@ module _ {S T O Q G R SK TK OK QK GK RK : Type 0} {request_key : S → SK} {requ
   all_stay workers workers_now sessions sessions_now long long_sessions each each_session =
       let its_workers = worker_lists requests_received replied told got in
       let its_sessions = session_lists asked replies_received in
+      let key_of = λ (worker : PlainWorker Q T O G). in_key worker.ends.gossip_in in
       let same_workers = same_made its_workers its_workers workers_now workers (sym long) (λ place is was also there. (each place was is there also).lists) in
       let same_sessions = same_made its_sessions its_sessions sessions_now sessions (sym long_sessions) (λ place is was also there. (each_session place was is there also).lists) in
       record {
@@ -69,6 +70,7 @@ module _ {S T O Q G R SK TK OK QK GK RK : Type 0} {request_key : S → SK} {requ
         sessions_told = same_sessions;
         goes_on =
             goes_on_so replied told workers workers_now sessions sessions_now same_workers same_sessions
+            (same_made key_of key_of workers_now workers (sym long) (λ place is was also there. (each place was is there also).ends.keys.gossip_in_key))
             (ends_kept workers workers_now sessions sessions_now long long_sessions (λ place was is there also. (each place was is there also).ends)
             (λ place was is there also. (each_session place was is there also).ends));
       }
@@ -81,7 +83,7 @@ module _ {S T O Q G R SK TK OK QK GK RK : Type 0} {request_key : S → SK} {requ
   stay_still workers sessions = record {
     workers_told = refl;
     sessions_told = refl;
-    goes_on = goes_on_so replied told workers workers sessions sessions refl refl (λ ends. ends);
+    goes_on = goes_on_so replied told workers workers sessions sessions refl refl refl (λ ends. ends);
   }
 
   -- and where two such steps were made

@@ -184,6 +184,7 @@ module _ {S T O Q G R SK TK OK QK GK RK : Type 0}
         let mates = (at_its_place (AreUnusedOfWorker requests_received got replied told script.config.workers) worker_ends place its.0 (of_workers ends) its.1).mates in
         record {
           me = ap (λ (one : PlainWorker Q T O G). one.state.me) is;
+          round = ap (λ (one : PlainWorker Q T O G). one.state.round) is;
           placement = ap (λ (one : PlainWorker Q T O G). one.state.placement) is;
           kinds = ap (λ (one : PlainWorker Q T O G). one.state.kinds) is;
           sessions = ap (λ (one : PlainWorker Q T O G). length one.ends.replies.items) is ∙ replies_long ends place its.0 its.1 ∙ as_many;

@@ -35,6 +35,7 @@ worker_still : {Q T O G : Type 0} (received : Q → List (ℕ × Request)) (repl
     → worker_lists received replied told got was ≡ worker_lists received replied told got is → IsOfScript script table place was → IsOfScript script table place is
 worker_still received replied told got was is same its = record {
   me = ap (λ lists. lists.state.me) (sym same) ∙ its.me;
+  round = ap (λ lists. lists.state.round) (sym same) ∙ its.round;
   placement = ap (λ lists. lists.state.placement) (sym same) ∙ its.placement;
   kinds = ap (λ lists. lists.state.kinds) (sym same) ∙ its.kinds;
   sessions = sym (length-map is.ends.replies.items replied) ∙ ap (λ lists. length lists.replied) (sym same) ∙ length-map was.ends.replies.items replied ∙ its.sessions;
@@ -65,6 +66,7 @@ module _ {S T O Q G R SK TK OK QK GK RK : Type 0}
   goes_on_through workers workers_then workers_now sessions sessions_then sessions_now first second = record {
     workers_long = second.workers_long ∙ first.workers_long;
     sessions_long = second.sessions_long ∙ first.sessions_long;
+    gossip_keys = second.gossip_keys ∙ first.gossip_keys;
     ends = λ ends. second.ends (first.ends ends);
     running = λ script run. second.running script (first.running script run);
   }
@@ -74,6 +76,7 @@ module _ {S T O Q G R SK TK OK QK GK RK : Type 0}
       (workers workers_now : List (PlainWorker Q T O G)) (sessions sessions_now : List (PlainProxy S R))
       → map (worker_lists requests_received replied told got) workers_now ≡ map (worker_lists requests_received replied told got) workers
       → map (session_lists asked replies_received) sessions_now ≡ map (session_lists asked replies_received) sessions
+      → map (λ (worker : PlainWorker Q T O G). in_key worker.ends.gossip_in) workers_now ≡ map (λ (worker : PlainWorker Q T O G). in_key worker.ends.gossip_in) workers
       → (HaveEnds request_key request_number reply_key reply_number gossip_key gossip_number
       requests_key requests_pairs requests_senders requests_received requests_about in_key in_pairs in_senders got in_about
       replies_key replies_pairs replies_senders replies_about workers sessions
@@ -83,7 +86,7 @@ module _ {S T O Q G R SK TK OK QK GK RK : Type 0}
       → GoesOn request_key request_number asked reply_key reply_number gossip_key gossip_number
       requests_key requests_pairs requests_senders requests_received requests_about in_key in_pairs in_senders got in_about
       replies_key replies_pairs replies_senders replies_received replies_about workers workers_now sessions sessions_now
-  goes_on_so replied told workers workers_now sessions sessions_now same_workers same_sessions ends =
+  goes_on_so replied told workers workers_now sessions sessions_now same_workers same_sessions keys ends =
       let its_workers = worker_lists requests_received replied told got in
       let its_sessions = session_lists asked replies_received in
       let as_many = long_alike its_workers workers workers_now same_workers in
@@ -91,6 +94,7 @@ module _ {S T O Q G R SK TK OK QK GK RK : Type 0}
       record {
         workers_long = as_many;
         sessions_long = so_many;
+        gossip_keys = keys;
         ends = ends;
         running = λ script run. record {
           table = run.table;

@@ -66,7 +66,7 @@ pub record AreRunning {S T O Q G R SK TK OK QK GK RK : Type 0}
       requests_key requests_pairs requests_senders requests_received requests_about in_key in_pairs in_senders got in_about
       replies_key replies_pairs replies_senders replies_about workers sessions
 
--- A run goes on: there are as many workers and sessions as before, and what held of their ends and of them all still does.
+-- A run goes on: there are as many workers and sessions as before, each worker has its box of gossip, and what held of their ends and of them all still does.
 pub record GoesOn {S T O Q G R SK TK OK QK GK RK : Type 0}
     (request_key : S → SK) (request_number : S → ℕ) (asked : S → List Request)
     (reply_key : T → TK) (reply_number : T → ℕ)
@@ -77,6 +77,8 @@ pub record GoesOn {S T O Q G R SK TK OK QK GK RK : Type 0}
     (workers workers_now : List (PlainWorker Q T O G)) (sessions sessions_now : List (PlainProxy S R)) : Type 0 where
   pub workers_long : length workers_now ≡ length workers
   pub sessions_long : length sessions_now ≡ length sessions
+  -- each worker has the box of gossip that it had
+  pub gossip_keys : map (λ (worker : PlainWorker Q T O G). in_key worker.ends.gossip_in) workers_now ≡ map (λ (worker : PlainWorker Q T O G). in_key worker.ends.gossip_in) workers
   pub ends : HaveEnds request_key request_number reply_key reply_number gossip_key gossip_number
       requests_key requests_pairs requests_senders requests_received requests_about in_key in_pairs in_senders got in_about
       replies_key replies_pairs replies_senders replies_about workers sessions

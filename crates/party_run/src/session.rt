@@ -166,7 +166,7 @@ impl<T: Tx<Request>, R: Rx<Reply>, Q: Rx<Request, From = T>> Meets<Q, R::From>
     for SessionOver<T, R> {
     ghost use Rattle.std.specs.Prelude.{◌≡◌, ◌-◌, ℕ, [], List, map, slice_index_or};
     ghost use Rattle.mail_contract.specs.Lanes.{IsLaneOf};
-    ghost use Rattle.mail_contract.specs.Takes.{from_sender};
+    ghost use Rattle.mail_contract.specs.Takes.{Answers, from_sender};
     ghost use Rattle.party_run.specs.Session.{proxy_of};
     ghost use Rattle.session_proxy.specs.State.{Course};
     ghost use Rattle.store_msg.specs.Reply.{PlainReply};
@@ -198,13 +198,15 @@ impl<T: Tx<Request>, R: Rx<Reply>, Q: Rx<Request, From = T>> Meets<Q, R::From>
     ghost clear = { λ session worker. (tx : T)
         → slice_index_or (proxy_of session).ends.requests.items (worker - 1) tx ≡ tx → T.clear tx };
 
-    ghost Rest = { Course × List ℕ × List (List Asked) × List (ℕ × PlainReply) };
+    ghost Rest = { Course × List ℕ × List (List Asked) × List (ℕ × PlainReply) × List ℕ × Answers };
 
     ghost rest = { λ session. (
       (proxy_of session).course,
       map T.number (proxy_of session).ends.requests.items,
       map T.sent (proxy_of session).ends.requests.items,
       R.received (proxy_of session).ends.replies,
+      map T.fulls (proxy_of session).ends.requests.items,
+      R.answers (proxy_of session).ends.replies,
     ) };
 
     ghost about = { λ session. R.about (proxy_of session).ends.replies };

@@ -262,4 +262,4 @@ returns-clause-sound g c = λ place worker there.
     let now = there_too c.hear_all.new.workers.items c.args.workers.items place worker (sym (c.hear_all.ensures.long ∙ gathered_long ∙ as_long ∙ long)) there in
     let within = slice_get_within c.args.workers.items place worker there in
     were_sound c.args.script.now (record { answers = c.new.result; finals = c.new-2.result }) g.Q.Rx.received g.G.GossipRx.got g.R.Rx.received c.hear_all.new.workers.items c.settle_all-3.new.parties.items
-    (returns-clause-drained g c) place worker now.0 (omega (arith, within, c.requires.run.as_many)) now.1 (returns-clause-goes_on g c place worker now.0 there now.1)
+    (returns-clause-drained g c) g.G.GossipRx.key place worker now.0 (omega (arith, within, c.requires.run.as_many)) now.1 (returns-clause-goes_on g c place worker now.0 there now.1)
