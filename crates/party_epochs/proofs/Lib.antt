@@ -1,2 +1,3 @@
 pub mod PiecesLemmas
 pub mod EpochLemmas
+mod TurnsLemmas

@@ -1,6 +1,7 @@
 //! One epoch of a run.
-ghost use Rattle.std.specs.Prelude.{◌≡◌, ◌+◌, ◌≤◌, ℕ, length, map, slice_get, IfOk, IsTrue, OnOk, Some};
+ghost use Rattle.std.specs.Prelude.{◌≡◌, ◌+◌, ◌++◌, ◌≤◌, ℕ, length, map, slice_get, IfOk, IsTrue, OnOk, Some};
 ghost use Rattle.party_epochs.specs.Pieces.{Pairwise};
+ghost use Rattle.party_epochs.specs.Turns.{AreCounted, TakesAtMost, turns_of};
 ghost use Rattle.party_steps.specs.Progress.{HasMovedOn};
 ghost use Rattle.party_steps.specs.declared.stepping.Polled.{Polled as Came};
 ghost use Rattle.session_known.specs.declared.script.Script.{Script};
@@ -17,9 +18,20 @@ use std::thread::Threads;
 use store_msg::{Batch, Reply, Request};
 use worker_core::WorkerOver;
 
-/// How many turns a party of this number has taken in the epochs before.
-fn turns_of(turns: &[u64], party: u16) -> u64 {
-    turns.get(usize::from(party)).copied().unwrap_or(0)
+/// How many turns the party at a place after the first ones has taken in the epochs before.
+fn turns_of(turns: &[u64], first: usize, place: usize) -> u64
+    ensures { result ≡ turns_of turns.now (first + place) }
+{
+    let all = turns.len();
+    if all <= first || all - first <= place {
+        return 0;
+    }
+    turns[first + place]
+}
+
+/// The number of the party at a place after the first ones.
+fn number_of(first: usize, place: usize) -> u16 {
+    u16::try_from(first.saturating_add(place)).unwrap_or(u16::MAX)
 }
 
 /// The parts of the workers, from party 0 on.
@@ -27,17 +39,18 @@ fn parts_of_workers<Q: Rx<Request>, T: Tx<Reply>, O: Tx<Batch>, G: GossipRx<Batc
     turns: &[u64],
     workers: Vec<WorkerOver<Q, T, O, G>>,
 ) -> Result<Vec<TurnedOver<Q, T, O, G>>, NoMemory>
-    ensures { IfOk result (λ parts. map (λ part. part.worker) parts.items ≡ workers.items) }
+    ensures workers { IfOk result (λ parts. map (λ part. part.worker) parts.items ≡ workers.items) }
+    ensures counted { IfOk result (λ parts. AreCounted turns.now 0
+        (map (λ part. part.turns) parts.items)) }
 {
     let mut parts = Vec::with_capacity(*workers.allocator(), workers.len())?;
-    let mut party = 0_u16;
     for worker in workers {
+        let place = parts.len();
         parts.push(TurnedOver {
             worker,
-            party,
-            turns: turns_of(turns, party),
+            party: number_of(0, place),
+            turns: turns_of(turns, 0, place),
         })?;
-        party = party.saturating_add(1);
     }
     Ok(parts)
 }
@@ -48,28 +61,52 @@ fn parts_of_sessions<S: Tx<Request>, R: Rx<Reply>>(
     workers: usize,
     sessions: Vec<SessionOver<S, R>>,
 ) -> Result<Vec<PolledOver<S, R>>, NoMemory>
-    ensures { IfOk result (λ parts. map (λ part. part.session) parts.items ≡ sessions.items) }
+    ensures sessions { IfOk result (λ parts. map (λ part. part.session) parts.items
+        ≡ sessions.items) }
+    ensures counted { IfOk result (λ parts. AreCounted turns.now workers
+        (map (λ part. part.turns) parts.items)) }
 {
     let mut parts = Vec::with_capacity(*sessions.allocator(), sessions.len())?;
-    let mut party = u16::try_from(workers).unwrap_or(u16::MAX);
     for session in sessions {
+        let place = parts.len();
         parts.push(PolledOver {
             session,
-            party,
-            turns: turns_of(turns, party),
+            party: number_of(workers, place),
+            turns: turns_of(turns, workers, place),
             polled: Polled {
                 ended: false,
                 moved: false,
                 rested: false,
             },
         })?;
-        party = party.saturating_add(1);
     }
     Ok(parts)
 }
 
-/// Keeps how many turns each party has taken.
-fn count_turns<
+/// How many turns each worker has taken.
+fn counts_of_workers<Q: Rx<Request>, T: Tx<Reply>, O: Tx<Batch>, G: GossipRx<Batch, From = O>>(
+    alloc: Global,
+    parts: &[TurnedOver<Q, T, O, G>],
+) -> Result<Vec<u64>, NoMemory>
+    ensures { IfOk result (λ counts. counts.items ≡ map (λ part. part.turns) parts.now) }
+{
+    let counts = parts.iter().map(|part| part.turns).collect(alloc)?;
+    Ok(counts)
+}
+
+/// How many turns each session has taken.
+fn counts_of_sessions<S: Tx<Request>, R: Rx<Reply>>(
+    alloc: Global,
+    parts: &[PolledOver<S, R>],
+) -> Result<Vec<u64>, NoMemory>
+    ensures { IfOk result (λ counts. counts.items ≡ map (λ part. part.turns) parts.now) }
+{
+    let counts = parts.iter().map(|part| part.turns).collect(alloc)?;
+    Ok(counts)
+}
+
+/// How many turns each party has taken.
+fn counts_of<
     Q: Rx<Request>,
     T: Tx<Reply>,
     O: Tx<Batch>,
@@ -77,18 +114,17 @@ fn count_turns<
     S: Tx<Request>,
     R: Rx<Reply>,
 >(
-    turns: &mut Vec<u64>,
+    alloc: Global,
     turned: &[TurnedOver<Q, T, O, G>],
     polled: &[PolledOver<S, R>],
-) -> Result<(), NoMemory> {
-    turns.clear();
-    for part in turned {
-        turns.push(part.turns)?;
-    }
-    for part in polled {
-        turns.push(part.turns)?;
-    }
-    Ok(())
+) -> Result<Vec<u64>, NoMemory>
+    ensures { IfOk result (λ counts. counts.items
+        ≡ map (λ part. part.turns) turned.now ++ map (λ part. part.turns) polled.now) }
+{
+    let mut counts = counts_of_workers(alloc, turned)?;
+    let of_sessions = counts_of_sessions(alloc, polled)?;
+    counts.extend_from_slice(&of_sessions)?;
+    Ok(counts)
 }
 
 /// The workers of parts.
@@ -169,6 +205,9 @@ pub fn run_epoch<
 ) -> Result<Vec<Polled>, NoMemory>
     ensures steps { OnOk result (⟦<PartiesOver<Q, T, O, G, S, R> as Progresses>⟧.step_on
         parties.old parties.new) }
+    ensures turns { OnOk result (TakesAtMost 128 turns.old.items turns.new.items) }
+    ensures counts { OnOk result (length turns.new.items
+        ≡ length parties.old.workers.items + length parties.old.sessions.items) }
     ensures each { IfOk result (λ came. length came.items ≡ length parties.old.sessions.items) }
     ensures moved { (script : Script)
         → ⟦<PartiesOver<Q, T, O, G, S, R> as Runs>⟧.are_running script parties.old
@@ -191,7 +230,7 @@ pub fn run_epoch<
     let mut turned = parts_of_workers(turns, workers)?;
     let mut polled = parts_of_sessions(turns, many, sessions)?;
     run_parts(rt, gate, &mut turned, &mut polled)?;
-    count_turns(turns, &turned, &polled)?;
+    *turns = counts_of(alloc, &turned, &polled)?;
     let came = polled_of(alloc, &polled)?;
     parties.workers = workers_of(alloc, turned)?;
     parties.sessions = sessions_of(alloc, polled)?;

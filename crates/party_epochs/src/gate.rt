@@ -41,7 +41,9 @@ pub(crate) struct EpochPace<'a, E: Gate> {
 }
 
 impl<'a, E: Gate> Pace for EpochPace<'a, E> {
-    fn before(&mut self) {
+    ghost steps = { λ pace. pace.turns };
+
+    fn begin(&mut self) {
         if !self.waited {
             self.waits = 0;
         }

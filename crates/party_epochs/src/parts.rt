@@ -25,6 +25,7 @@ impl<Q: Rx<Request>, T: Tx<Reply>, O: Tx<Batch>, G: GossipRx<Batch, From = O>> P
     for TurnedOver<Q, T, O, G> {
     ghost use Rattle.std.specs.Prelude.{◌≡◌, None};
     ghost use Rattle.run_measure.specs.Steps.{HasServed};
+    ghost use Rattle.party_steps.specs.Pace.{RoseAtMost};
     ghost use Rattle.party_steps.specs.Turning.{HasTurned};
     ghost use Rattle.worker_core.specs.State as workers;
 
@@ -34,7 +35,8 @@ impl<Q: Rx<Request>, T: Tx<Reply>, O: Tx<Batch>, G: GossipRx<Batch, From = O>> P
         G.keeps.complete G.senders G.got G.about before.worker now.worker
         × (before.worker.state.kept ≡ None → HasServed
         (workers.lists_of Q.received T.sent O.sent G.got before.worker)
-        (workers.lists_of Q.received T.sent O.sent G.got now.worker)) };
+        (workers.lists_of Q.received T.sent O.sent G.got now.worker))
+        × RoseAtMost 128 before.turns now.turns };
 
     fn part<E: Gate>(&mut self, gate: &E) -> Result<(), NoMemory> {
         let mut pace = EpochPace {
@@ -65,6 +67,7 @@ pub struct PolledOver<S: Tx<Request>, R: Rx<Reply>> {
 impl<S: Tx<Request>, R: Rx<Reply>> Piece for PolledOver<S, R> {
     ghost use Rattle.std.specs.Prelude.{IsTrue};
     ghost use Rattle.party_run.specs.Session.{proxy_of};
+    ghost use Rattle.party_steps.specs.Pace.{RoseAtMost};
     ghost use Rattle.party_steps.specs.Polling.{HasPolled, IsAllAnswered};
     ghost use Rattle.party_steps.specs.Progress.{HasMovedOn};
     ghost use Rattle.run_measure.specs.Laws.{IsPlaced};
@@ -79,7 +82,8 @@ impl<S: Tx<Request>, R: Rx<Reply>> Piece for PolledOver<S, R> {
         → Share (sessions.lists_of S.sent R.received (proxy_of before.session))
         → HasMovedOn now.polled
         (sessions.lists_of S.sent R.received (proxy_of before.session))
-        (sessions.lists_of S.sent R.received (proxy_of now.session))) };
+        (sessions.lists_of S.sent R.received (proxy_of now.session)))
+        × RoseAtMost 128 before.turns now.turns };
 
     fn part<E: Gate>(&mut self, gate: &E) -> Result<(), NoMemory> {
         let mut pace = EpochPace {

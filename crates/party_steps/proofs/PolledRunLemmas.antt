@@ -56,6 +56,7 @@ module _ {S T O Q G R SK TK OK QK GK RK : Type 0} {request_key : S → SK} {requ
   polled_goes_on = record {
     workers_long = refl;
     sessions_long = long;
+    gossip_keys = refl;
     ends = ends_stay;
     running = λ script running. record {
       table = running.table;

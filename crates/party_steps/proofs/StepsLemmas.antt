@@ -30,7 +30,7 @@ module _ {S T O Q G R SK TK OK QK GK RK : Type 0}
       requests_key requests_pairs requests_senders requests_received requests_about in_key in_pairs in_senders got in_about
       replies_key replies_pairs replies_senders replies_received replies_about those those proxies proxies
   steps_still those proxies = record {
-    goes_on = record { workers_long = refl; sessions_long = refl; ends = λ have. have; running = λ script run. run };
+    goes_on = record { workers_long = refl; sessions_long = refl; gossip_keys = refl; ends = λ have. have; running = λ script run. run };
     gone_on = λ script run none. (none, all_still (map (workers.lists_of requests_received replied told got) those) (map (sessions.lists_of asked replies_received) proxies));
   }
 

@@ -1,6 +1,6 @@
 -- A run of which workers took turns goes on.
 use Rattle.std.specs.Prelude.{◌≡◌, ℕ, ◌+◌, Bool, List, length, slice_get, Option, Some}
-use Rattle.std.proofs.Common.{◌∙◌, ap, refl, subst}
+use Rattle.std.proofs.Common.{◌∙◌, ap, refl, subst, sym}
 use Rattle.mail_contract.specs.Standing.{About, AllStand, IsSettled}
 use Rattle.session_known.specs.declared.script.Script.{Script}
 use Rattle.session_proxy.specs.State.{PlainProxy}
@@ -8,6 +8,7 @@ use Rattle.store_msg.specs.Reply.{PlainReply}
 use Rattle.store_msg.specs.declared.request.Request.{Request}
 use Rattle.worker_core.specs.State.{Entries, PlainWorker}
 use Rattle.drain_ledger.specs.Handed.{IsOfScript}
+use Rattle.drain_ledger.proofs.ListsLemmas.{same_made}
 use Rattle.party_run.specs.Running.{GoesOn, HaveEnds}
 use Rattle.placement.specs.Config.{IsOneOf}
 use Rattle.drain_turns.specs.Ready.{IsMate}
@@ -33,6 +34,7 @@ worker_stays {reply_number} {gossip_number} script table place was is turned of_
     let gone_on = turned.gone_on in
     record {
       me = gone_on.fixed.me ∙ of_script.me;
+      round = gone_on.fixed.round ∙ of_script.round;
       placement = gone_on.fixed.placement ∙ of_script.placement;
       kinds = gone_on.fixed.kinds ∙ of_script.kinds;
       sessions = long_alike reply_number was.ends.replies.items is.ends.replies.items gone_on.keys.replies_numbers ∙ of_script.sessions;
@@ -80,6 +82,9 @@ module _ {S T O Q G R SK TK OK QK GK RK : Type 0} {request_key : S → SK} {requ
   turned_goes_on = record {
     workers_long = long;
     sessions_long = refl;
+    gossip_keys =
+        let key_of = λ (worker : PlainWorker Q T O G). in_key worker.ends.gossip_in in
+        same_made key_of key_of workers_now workers (sym long) (λ place is was also there. (each place was is there also).gone_on.keys.gossip_in_key);
     ends = ends_stay;
     running = λ script running. record {
       table = running.table;

@@ -1,3 +1,4 @@
+pub mod Pace
 pub mod Polling
 pub mod Progress
 pub mod Turning

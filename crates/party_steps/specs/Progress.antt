@@ -1,5 +1,5 @@
 -- How far steps bring a party, and all parties of a run, by what they took, sent and answered.
-use Rattle.std.specs.Prelude.{◌≡◌, ℕ, ◌+◌, ◌≤◌, false, IsTrue, List, All, map, Option, None}
+use Rattle.std.specs.Prelude.{◌≡◌, ℕ, ◌+◌, ◌≤◌, false, if◌then◌else◌, IsTrue, List, All, map, Option, None}
 use Rattle.mail_contract.specs.Standing.{About}
 use Rattle.session_known.specs.declared.script.Script.{Script}
 use Rattle.session_proxy.specs.State as sessions
@@ -8,17 +8,19 @@ use Rattle.store_msg.specs.declared.request.Request.{Request}
 use Rattle.worker_core.specs.State as workers
 use Rattle.party_run.specs.Running.{AreRunning, GoesOn}
 use Rattle.party_steps.specs.declared.stepping.Polled.{Polled}
+use Rattle.run_measure.specs.Pace.{IsPaced}
 use Rattle.run_measure.specs.Steps.{HasDone, HaveAllGoneOn, done}
 use Rattle.run_waiting.specs.Waiting.{AreToAsks, AwaitsMissing}
 
 -- A session has gone on: it has answered no fewer lines, sent no fewer requests and taken no fewer replies; and where it moved it has done one of
--- these, where not, nothing has changed. An ask of it that came to nothing is a move. And where each reply that it took was to an ask, and the one
--- that it waits for was not taken, the one that it waits for then was not taken either.
+-- these, where not, nothing has changed. An ask of it that came to nothing is a move; there is one where it rested, and none where it did not. And
+-- where each reply that it took was to an ask, and the one that it waits for was not taken, the one that it waits for then was not taken either.
 pub record HasMovedOn (polled : Polled) (before now : sessions.Lists) : Type 0 where
   pub goes_on : HasDone before now
   pub moved : IsTrue polled.moved → done before + 1 ≤ done now
   pub still : polled.moved ≡ false → now ≡ before
   pub rested : IsTrue polled.rested → IsTrue polled.moved
+  pub paced : IsPaced (if polled.rested then 1 else 0) before.course now.course
   pub awaits : AwaitsMissing before → AreToAsks before → AwaitsMissing now
 
 -- no worker keeps a message that met want of memory

@@ -7,8 +7,8 @@
 //! ends of sessions of which every line is answered, and then the parties are such as a drain takes over.
 //!
 //! The definitions: `specs/Turning.antt`, what a worker keeps that is turned, `specs/Polling.antt`, what a
-//! session keeps that is polled; `specs/Progress.antt`, how far steps bring a party, and all of them. The crate
-//! stands on `party_run`, on `run_measure` and `run_waiting`, and on `drain_ledger` for what a drain takes over.
+//! session keeps that is polled; `specs/Pace.antt`, how counts of steps rise; `specs/Progress.antt`, how far steps
+//! bring a party, and all of them. The crate stands on `party_run`, on `run_measure` and `run_waiting`, and on `drain_ledger` for what a drain takes over.
 #![tactic(auto)]
 
 mod finishing;

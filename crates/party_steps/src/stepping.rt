@@ -1,6 +1,7 @@
 //! One party takes several steps.
 ghost use Rattle.std.specs.Prelude.{◌≡◌, ◌≤◌, false, IfOk, IsTrue, None, OnOk};
 ghost use Rattle.party_run.specs.Session.{proxy_of};
+ghost use Rattle.party_steps.specs.Pace.{RoseAtMost};
 ghost use Rattle.party_steps.specs.Polling.{HasPolled, HasWaited, IsAllAnswered};
 ghost use Rattle.party_steps.specs.Progress.{HasMovedOn};
 ghost use Rattle.run_measure.specs.Steps.{HasServed};
@@ -26,6 +27,7 @@ pub fn turn_often<
     G: GossipRx<Batch, From = O>,
     P: Pace,
 >(pace: &mut P, worker: &mut WorkerOver<Q, T, O, G>, most: u32) -> Result<(), NoMemory>
+    ensures counted { RoseAtMost most (P.steps pace.old) (P.steps pace.new) }
     ensures turned { HasTurned Q.key T.key T.number O.key O.number G.key
         Q.keeps.complete Q.senders Q.received Q.about T.sent
         G.keeps.complete G.senders G.got G.about worker.old worker.new }
@@ -35,7 +37,7 @@ pub fn turn_often<
 {
     worker.attest();
     for _ in 0..most {
-        pace.before();
+        pace.begin();
         let did = worker.turn()?;
         if (did == Did::Idle || did == Did::Blocked) && !pace.tries_again() {
             return Ok(());
@@ -66,6 +68,7 @@ pub fn poll_often<S: Tx<Request>, R: Rx<Reply>, P: Pace>(
     session: &mut SessionOver<S, R>,
     most: u32,
 ) -> Result<Polled, NoMemory>
+    ensures counted { RoseAtMost most (P.steps pace.old) (P.steps pace.new) }
     ensures polled { HasPolled S.key S.number S.sent R.key R.senders R.received R.about
         (proxy_of session.old) (proxy_of session.new) }
     ensures ended { IfOk result (λ polled. IsTrue polled.ended
@@ -81,7 +84,7 @@ pub fn poll_often<S: Tx<Request>, R: Rx<Reply>, P: Pace>(
 {
     let mut moved = false;
     for _ in 0..most {
-        pace.before();
+        pace.begin();
         let waited = session.waits();
         match session.poll()? {
             Progress::Moved => {

@@ -52,3 +52,7 @@ MovesOrEnds before now = (done before + 1 ≤ done now) ⊎ (length now.course.a
 abbrev pub EachMoves : (ℕ → Type 0) → List sessions.Lists → List sessions.Lists → Type 0
 EachMoves Of before now =
     (at : ℕ) (was is : sessions.Lists) → Of at → slice_get before at ≡ Some was → slice_get now at ≡ Some is → MovesOrEnds was is
+
+-- and each at a place of which something holds has not changed
+abbrev pub EachStays : (ℕ → Type 0) → List sessions.Lists → List sessions.Lists → Type 0
+EachStays Of before now = (at : ℕ) → Of at → slice_get now at ≡ slice_get before at

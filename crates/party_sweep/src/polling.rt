@@ -2,7 +2,7 @@
 ghost use Rattle.std.specs.Prelude.{◌≡◌, ◌≢◌, ◌+◌, ◌<◌, ◌≤◌, ℕ, All, false, IfOk, IsTrue, length, map, slice_get, OnOk, Some};
 ghost use Rattle.party_run.specs.Session.{proxy_of};
 ghost use Rattle.party_steps.specs.Polling.{IsAllAnswered};
-ghost use Rattle.party_sweep.specs.Sweeping.{AllAwait, AllServed, AllToAsks, EachMoves, FreeBoth, HasServedAll, MovesOrEnds, rested_at};
+ghost use Rattle.party_sweep.specs.Sweeping.{AllAwait, AllServed, AllToAsks, EachMoves, EachStays, FreeBoth, HasServedAll, MovesOrEnds, rested_at};
 ghost use Rattle.run_waiting.specs.Waiting.{AreToAsks, AwaitsMissing};
 ghost use Rattle.session_proxy.specs.State as sessions;
 ghost use Rattle.worker_core.specs.State as workers;
@@ -57,6 +57,9 @@ pub(crate) fn poll_sessions<
         → ⟦<PartiesOver<Q, T, O, G, S, R> as Progresses>⟧.are_answered parties.new) }
     ensures await_theirs { OnOk result (AllAwait
         (⟦<PartiesOver<Q, T, O, G, S, R> as Runs>⟧.session_lists parties.new)) }
+    ensures rested { OnOk result (EachStays (λ at. IsTrue (rested_at came.now at))
+        (⟦<PartiesOver<Q, T, O, G, S, R> as Runs>⟧.session_lists parties.old)
+        (⟦<PartiesOver<Q, T, O, G, S, R> as Runs>⟧.session_lists parties.new)) }
     ensures moved { OnOk result (EachMoves (λ at. rested_at came.now at ≡ false)
         (⟦<PartiesOver<Q, T, O, G, S, R> as Runs>⟧.session_lists parties.old)
         (⟦<PartiesOver<Q, T, O, G, S, R> as Runs>⟧.session_lists parties.new)) }
@@ -108,6 +111,7 @@ fn poll_beside<
         ≡ slice_get (map proxy_of parties.old.sessions.items) other }
     ensures steps { OnOk result (⟦<PartiesOver<Q, T, O, G, S, R> as Progresses>⟧.step_on
         parties.old parties.new) }
+    ensures rested { IsTrue rested → parties.new ≡ parties.old }
     ensures its { IfOk result (λ ended. (was is : sessions.Lists)
         → slice_get (⟦<PartiesOver<Q, T, O, G, S, R> as Runs>⟧.session_lists parties.old) place ≡ Some was
         → slice_get (⟦<PartiesOver<Q, T, O, G, S, R> as Runs>⟧.session_lists parties.new) place ≡ Some is
@@ -117,7 +121,9 @@ fn poll_beside<
         → ⟦<PartiesOver<Q, T, O, G, S, R> as Progresses>⟧.done parties.old + 1
         ≤ ⟦<PartiesOver<Q, T, O, G, S, R> as Progresses>⟧.done parties.new) }
 {
-    let most = if rested { 0 } else { MOST_POLLS };
-    let its = poll_session(parties, place, most)?;
+    if rested {
+        return Ok(false);
+    }
+    let its = poll_session(parties, place, MOST_POLLS)?;
     Ok(its.ended)
 }

@@ -1,6 +1,6 @@
 //! One sweep.
 ghost use Rattle.std.specs.Prelude.{◌≡◌, ◌+◌, ◌≤◌, ℕ, false, IfOk, IsTrue, OnOk};
-ghost use Rattle.party_sweep.specs.Sweeping.{AllAwait, AllToAsks, EachMoves, FreeBoth, rested_at};
+ghost use Rattle.party_sweep.specs.Sweeping.{AllAwait, AllToAsks, EachMoves, EachStays, FreeBoth, rested_at};
 ghost use Rattle.run_waiting.specs.Told.{AreAllTold};
 
 use crate::polling::poll_sessions;
@@ -17,8 +17,8 @@ use store_msg::{Batch, Reply, Request};
 /// twice, and then the sessions are polled of which no ask came to nothing in the epoch. Tells whether every session
 /// has ended.
 ///
-/// Each of these sessions moves, or has ended. What a session waits for was not taken before; and no more was taken
-/// than was sent, once all parties were held beside each other again.
+/// Each of these sessions moves, or has ended, and the others stay as they were. What a session waits for was not
+/// taken before; and no more was taken than was sent, once all parties were held beside each other again.
 pub fn sweep<
     S: Tx<Request>,
     T: Tx<Reply>,
@@ -47,6 +47,9 @@ pub fn sweep<
     ensures await_theirs { OnOk result (AllAwait
         (⟦<PartiesOver<Q, T, O, G, S, R> as Runs>⟧.session_lists parties.new)) }
     ensures to_asks { OnOk result (AllToAsks
+        (⟦<PartiesOver<Q, T, O, G, S, R> as Runs>⟧.session_lists parties.new)) }
+    ensures rested { OnOk result (EachStays (λ at. IsTrue (rested_at came.now at))
+        (⟦<PartiesOver<Q, T, O, G, S, R> as Runs>⟧.session_lists parties.old)
         (⟦<PartiesOver<Q, T, O, G, S, R> as Runs>⟧.session_lists parties.new)) }
     ensures moved { OnOk result (EachMoves (λ at. rested_at came.now at ≡ false)
         (⟦<PartiesOver<Q, T, O, G, S, R> as Runs>⟧.session_lists parties.old)

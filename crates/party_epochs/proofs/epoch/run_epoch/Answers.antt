@@ -1,5 +1,5 @@
-use Rattle.std.proofs.Common.{◌≡◌, ◌∙◌, ℕ, ap, length, List, map, None, slice_get, Some, subst, sym}
-use Rattle.std.proofs.lemmas.List.{length-map}
+use Rattle.std.proofs.Common.{◌≡◌, ◌++◌, ◌∙◌, ℕ, ap, arith, length, List, map, None, slice_get, Some, subst, sym}
+use Rattle.std.proofs.lemmas.List.{length-append, length-map}
 use Rattle.std.proofs.lemmas.Simd.{map-map}
 use Rattle.session_proxy.specs.State as sessions
 use Rattle.worker_core.specs.State as workers
@@ -17,7 +17,9 @@ use Rattle.party_steps.proofs.PlacedLemmas.{may_be_polled}
 use Rattle.party_steps.proofs.PolledRunLemmas.{polled_goes_on}
 use Rattle.party_steps.proofs.TogetherLemmas.{all_stepped, done_more, each_goes}
 use Rattle.party_steps.proofs.TurnedRunLemmas.{turned_goes_on}
+use Rattle.party_epochs.specs.Turns.{AreCounted, TakesAtMost}
 use Rattle.party_epochs.proofs.EpochLemmas.{as_many_pieces, each_kept, each_told}
+use Rattle.party_epochs.proofs.TurnsLemmas.{all_take, takes_each}
 use Rattle.party_epochs.proofs.epoch.run_epoch.Given.{Over}
 use Rattle.party_epochs.proofs.epoch.run_epoch.Goals as goal
 use Rattle.party_epochs.proofs.epoch.run_epoch.Goals.{After-drop-parties-2}
@@ -50,14 +52,14 @@ module _ (g : Over) where
     proxies_now = map proxy_of c.in_ok-parties-2.field-0.items
 
     begun : map (λ part. part.worker) c.in_ok-turned.turned.items ≡ those
-    begun = c.in_ok-turned.ensures ∙ ap (λ vec. vec.items) c.replace-workers.ensures.value
+    begun = c.in_ok-turned.ensures.workers ∙ ap (λ vec. vec.items) c.replace-workers.ensures.value
 
     ended : those_now ≡ map (λ part. part.worker) c.run_parts.new.turned.items
     ended = c.in_ok-parties.ensures
 
     sessions_begun : map (λ part. proxy_of part.session) c.in_ok-polled.polled.items ≡ proxies
     sessions_begun =
-        sym (map-map proxy_of (λ part. part.session) c.in_ok-polled.polled.items) ∙ ap (map proxy_of) (c.in_ok-polled.ensures ∙ ap (λ vec. vec.items) c.replace-sessions.ensures.value)
+        sym (map-map proxy_of (λ part. part.session) c.in_ok-polled.polled.items) ∙ ap (map proxy_of) (c.in_ok-polled.ensures.sessions ∙ ap (λ vec. vec.items) c.replace-sessions.ensures.value)
 
     sessions_ended : proxies_now ≡ map (λ part. proxy_of part.session) c.run_parts.new.polled.items
     sessions_ended = ap (map proxy_of) c.in_ok-parties-2.ensures ∙ map-map proxy_of (λ part. part.session) c.run_parts.new.polled.items
@@ -86,7 +88,7 @@ module _ (g : Over) where
         each_kept _
         (λ was is. HasTurned g.Q.Rx.key g.T.Tx.key g.T.Tx.number g.O.Tx.key g.O.Tx.number g.G.GossipRx.key g.Q.Rx.keeps.complete g.Q.Rx.senders g.Q.Rx.received g.Q.Rx.about g.T.Tx.sent
         g.G.GossipRx.keeps.complete g.G.GossipRx.senders g.G.GossipRx.got g.G.GossipRx.about was is × (was.state.kept ≡ None → HasServed (of_worker was) (of_worker is)))
-        (λ part. part.worker) (λ before now became. became) c.in_ok-turned.turned.items c.run_parts.new.turned.items c.in_ok-run_parts.ensures.turned place was is
+        (λ part. part.worker) (λ before now became. (became.0, became.1)) c.in_ok-turned.turned.items c.run_parts.new.turned.items c.in_ok-run_parts.ensures.turned place was is
         (ap (λ all. slice_get all place) begun ∙ there) (ap (λ all. slice_get all place) (sym ended) ∙ also)
 
     -- and each session was polled
@@ -133,7 +135,7 @@ pub returns-clause-each : goal.returns-clause-each
 returns-clause-each g c =
     ap length (came g c) ∙ length-map c.run_parts.new.polled.items (λ part. part.polled)
     ∙ as_many_pieces _ c.in_ok-polled.polled.items c.run_parts.new.polled.items c.in_ok-run_parts.ensures.polled
-    ∙ sym (length-map c.in_ok-polled.polled.items (λ part. part.session)) ∙ ap length (c.in_ok-polled.ensures ∙ ap (λ vec. vec.items) c.replace-sessions.ensures.value)
+    ∙ sym (length-map c.in_ok-polled.polled.items (λ part. part.session)) ∙ ap length (c.in_ok-polled.ensures.sessions ∙ ap (λ vec. vec.items) c.replace-sessions.ensures.value)
 
 pub returns-clause-moved : goal.returns-clause-moved
 returns-clause-moved g c script running at its was is told there also =
@@ -155,3 +157,44 @@ returns-clause-done g c script running at its told moved =
     (each_goes g.S.Tx.sent g.T.Tx.sent g.O.Tx.sent g.Q.Rx.received g.G.GossipRx.got g.R.Rx.received (proxies g c) (proxies_now g c) (done_each g c may))
     at (of_session g was.0) (of_session g is) (mapped (of_session g) (proxies g c) at was.0 was.1) (mapped (of_session g) (proxies_now g c) at is after)
     ((moved_on g c may at its was.0 is told was.1 after).moved moved)
+
+-- the counts of all parties, workers first
+counts : (g : Over) (c : After-drop-parties-2 g)
+    → c.in_ok-turns.field-0.items ≡ map (λ part. part.turns) c.run_parts.new.turned.items ++ map (λ part. part.turns) c.run_parts.new.polled.items
+counts g c =
+    c.in_ok-turns.ensures ∙ ap (λ those. map (λ part. part.turns) those ++ map (λ part. part.turns) c.deref-4.result.now) c.deref-3.ensures.value
+    ∙ ap (λ those. map (λ part. part.turns) c.run_parts.new.turned.items ++ map (λ part. part.turns) those) c.deref-4.ensures.value
+
+pub returns-clause-turns : goal.returns-clause-turns
+returns-clause-turns g c =
+    let before = c.args.turns.now.items in
+    let turned = c.in_ok-turned.turned.items in
+    let turned_now = c.run_parts.new.turned.items in
+    let polled = c.in_ok-polled.polled.items in
+    let polled_now = c.run_parts.new.polled.items in
+    let first : c.len-many.result ≡ length (map (λ part. part.turns) turned) =
+    c.len-many.ensures ∙ c.replace-workers.result.ok.0 ∙ ap length (sym c.in_ok-turned.ensures.workers) ∙ length-map turned (λ part. part.worker) ∙ sym (length-map turned (λ part. part.turns)) in
+    let of_workers = subst (λ turns. AreCounted turns 0 (map (λ part. part.turns) turned)) c.deref.ensures.value c.in_ok-turned.ensures.counted in
+    let of_sessions =
+    subst (λ from. AreCounted before from (map (λ part. part.turns) polled)) first
+    (subst (λ turns. AreCounted turns c.len-many.result (map (λ part. part.turns) polled)) c.deref-2.ensures.value c.in_ok-polled.ensures.counted)
+    in
+    let as_many = length-map turned_now (λ part. part.turns) ∙ as_many_pieces _ turned turned_now c.in_ok-run_parts.ensures.turned ∙ sym (length-map turned (λ part. part.turns)) in
+    let so_many = length-map polled_now (λ part. part.turns) ∙ as_many_pieces _ polled polled_now c.in_ok-run_parts.ensures.polled ∙ sym (length-map polled (λ part. part.turns)) in
+    subst (TakesAtMost 128 before) (sym (counts g (goal.at.returns-clause-turns g c).After-drop-parties-2))
+    (all_take 128 before (map (λ part. part.turns) turned) (map (λ part. part.turns) turned_now) (map (λ part. part.turns) polled) (map (λ part. part.turns) polled_now)
+    of_workers of_sessions as_many so_many
+    (takes_each _ (λ part. part.turns) 128 (λ was is became. became.2) turned turned_now c.in_ok-run_parts.ensures.turned)
+    (takes_each _ (λ part. part.turns) 128 (λ was is became. became.3) polled polled_now c.in_ok-run_parts.ensures.polled))
+
+pub returns-clause-counts : goal.returns-clause-counts
+returns-clause-counts g c =
+    let after = (goal.at.returns-clause-counts g c).After-drop-parties-2 in
+    let turned_now = c.run_parts.new.turned.items in
+    let polled_now = c.run_parts.new.polled.items in
+    let long = ap length (counts g after) ∙ length-append (map (λ part. part.turns) turned_now) (map (λ part. part.turns) polled_now) in
+    let workers = length-map turned_now (λ part. part.turns) ∙ as_many_pieces _ c.in_ok-turned.turned.items turned_now c.in_ok-run_parts.ensures.turned
+    ∙ sym (length-map c.in_ok-turned.turned.items (λ part. part.worker)) ∙ ap length (begun g after) in
+    let sessions = length-map polled_now (λ part. part.turns) ∙ as_many_pieces _ c.in_ok-polled.polled.items polled_now c.in_ok-run_parts.ensures.polled
+    ∙ sym (length-map c.in_ok-polled.polled.items (λ part. part.session)) ∙ ap length (c.in_ok-polled.ensures.sessions ∙ ap (λ vec. vec.items) c.replace-sessions.ensures.value) in
+    omega (arith, long, workers, sessions)

@@ -1,4 +1,4 @@
-use Rattle.std.proofs.Common.{◌≡◌, None, Ok}
+use Rattle.std.proofs.Common.{◌≡◌, None, Ok, ap, arith}
 use Rattle.worker_core.specs.State.{lists_of}
 use Rattle.worker_core.specs.declared.did.Did.{Did}
 use Rattle.run_measure.specs.Steps.{HasServed}
@@ -8,7 +8,7 @@ use Rattle.party_steps.specs.Turning.{HasTurned}
 use Rattle.party_steps.proofs.TurnedLemmas.{turned_once, turned_still, turned_through}
 use Rattle.party_steps.proofs.stepping.turn_often.Given.{Over}
 use Rattle.party_steps.proofs.stepping.turn_often.Goals as goal
-use Rattle.party_steps.proofs.stepping.turn_often.Goals.{After-turn}
+use Rattle.party_steps.proofs.stepping.turn_often.Goals.{After-turn, else-eq-2-via-else-eq-2, else-eq-2-via-then-eq-2+else-not-tries_again}
 
 -- the worker after one more turn
 turned : (g : Over) (c : After-turn g)
@@ -32,6 +32,7 @@ served g c its is none_kept =
 
 pub loop-init : goal.loop-init
 loop-init g c = record {
+  counted = (omega arith, omega arith);
   turned = turned_still c.args.worker.now;
   share = c.attest.ensures.share;
   served = served_still (lists_of g.Q.Rx.received g.T.Tx.sent g.O.Tx.sent g.G.GossipRx.got c.args.worker.now);
@@ -40,7 +41,19 @@ loop-init g c = record {
 pub loop-preserved : goal.loop-preserved
 loop-preserved g c =
     let after = (goal.at.loop-preserved g c).After-turn in
-    record { turned = turned g after; share = c.turn.ensures.share; served = served g after c.in_ok-did.did c.in_ok-did.was }
+    record {
+      counted = elim c.else-eq-2.branch [
+        | else-eq-2-via-then-eq-2+else-not-tries_again w ↦
+            let is = ap g.P.Pace.steps w.pace-is in
+            (omega (arith, is, w.tries_again.ensures, c.begin.ensures.0, c.loop.invariant.counted.0), omega (arith, is, w.tries_again.ensures, c.begin.ensures.1, c.loop.invariant.counted.1))
+        | else-eq-2-via-else-eq-2 w ↦
+            let is = ap g.P.Pace.steps w.pace-is in
+            (omega (arith, is, c.begin.ensures.0, c.loop.invariant.counted.0), omega (arith, is, c.begin.ensures.1, c.loop.invariant.counted.1))
+      ];
+      turned = turned g after;
+      share = c.turn.ensures.share;
+      served = served g after c.in_ok-did.did c.in_ok-did.was;
+    }
 
 pub returns-in_err-did-clause-turned : goal.returns-in_err-did-clause-turned
 returns-in_err-did-clause-turned g c = turned g (goal.at.returns-in_err-did-clause-turned g c).After-turn

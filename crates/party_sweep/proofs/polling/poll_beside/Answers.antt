@@ -1,4 +1,4 @@
-use Rattle.std.proofs.Common.{◌≡◌, ◌∙◌, ◌≤◌, false, IsTrue, None, arith, inl, inr, length, map, subst, sym}
+use Rattle.std.proofs.Common.{◌≡◌, ◌∙◌, ◌≤◌, false, IsTrue, None, arith, inl, inr, length, lit≤, map, subst, sym}
 use Rattle.std.proofs.lemmas.Bool.{cases_Bool, false≢true}
 use Rattle.std.proofs.lemmas.List.{length-map}
 use Rattle.std.proofs.lemmas.Option.{slice_get_within}
@@ -12,7 +12,7 @@ use Rattle.party_sweep.proofs.WaitedLemmas.{not_waited}
 use Rattle.party_sweep.specs.Sweeping.{MovesOrEnds}
 use Rattle.party_sweep.proofs.polling.poll_beside.Given.{Over}
 use Rattle.party_sweep.proofs.polling.poll_beside.Goals as goal
-use Rattle.party_sweep.proofs.polling.poll_beside.Goals.{In_ok-its, else-rested, then-rested}
+use Rattle.party_sweep.proofs.polling.poll_beside.Goals.{In_ok-its}
 
 module _ (g : Over) where
   abbrev worker_lists : workers.PlainWorker g.row.Q.Denot g.row.T.Denot g.row.O.Denot g.row.G.Denot → workers.Lists
@@ -22,8 +22,8 @@ module _ (g : Over) where
   session_lists = sessions.lists_of g.S.Tx.sent g.R.Rx.received
 
   -- a session that is polled has moved or ended
-  moves : (c : In_ok-its g) → c.args.rested ≡ false → c.in_ok-its.its.ended ≡ false → IsTrue c.in_ok-its.its.moved
-  moves c awake not_ended = elim (cases_Bool c.in_ok-its.its.moved) [
+  moves : (c : In_ok-its g) → c.in_ok-its.its.ended ≡ false → IsTrue c.in_ok-its.its.moved
+  moves c not_ended = elim (cases_Bool c.in_ok-its.its.moved) [
     | inl moved ↦ moved
     | inr still ↦
         let script = c.args.script.now in
@@ -33,11 +33,6 @@ module _ (g : Over) where
         let many = length-map c.args.parties.now.sessions.items proxy_of in
         let proxy = there_is proxies c.args.place (omega (arith, c.requires.within, many)) in
         let its_lists = mapped session_lists proxies c.args.place proxy.0 proxy.1 in
-        let some : 1 ≤ c.if-rested.most = elim c.if-rested.branch [
-          | then-rested w ↦ absurd (false≢true (sym awake ∙ w.if-rested.true))
-          | else-rested w ↦ omega (arith, w.most-is)
-        ]
-        in
         let low = slice_get_within proxies c.args.place proxy.0 proxy.1 in
         absurd (not_waited c.requires.free c.args.place those proxy.0
         (λ place worker there. c.requires.beside place worker proxy.0 there proxy.1)
@@ -49,11 +44,11 @@ module _ (g : Over) where
           c.requires.served place (worker_lists worker) (session_lists proxy.0) (mapped worker_lists those place worker there) its_lists,
         ))
         (are_of_workers script those proxies running c.args.place (session_lists proxy.0) its_lists) (may_be_polled script those proxies running c.args.place proxy.0 proxy.1).0
-        (c.requires.awaits (session_lists proxy.0) its_lists).0 (c.in_ok-its.ensures.waited proxy.0 proxy.1 still not_ended some))
+        (c.requires.awaits (session_lists proxy.0) its_lists).0 (c.in_ok-its.ensures.waited proxy.0 proxy.1 still not_ended (lit≤ tt)))
   ]
 
 pub returns-clause-done : goal.returns-clause-done
-returns-clause-done g c not_ended awake = c.in_ok-its.ensures.done c.args.script.now c.requires.running (moves g c awake not_ended)
+returns-clause-done g c not_ended awake = c.in_ok-its.ensures.done c.args.script.now c.requires.running (moves g c not_ended)
 
 pub returns-clause-its : goal.returns-clause-its
 returns-clause-its g c was is was_there is_there =
@@ -73,9 +68,16 @@ returns-clause-its g c was is was_there is_there =
       answered,
       λ awake. elim (cases_Bool c.in_ok-its.its.ended) [
         | inl ended ↦ inr (answered ended)
-        | inr not_ended ↦ inl (moved.moved (moves g c awake not_ended))
+        | inr not_ended ↦ inl (moved.moved (moves g c not_ended))
       ],
     )
     in
     subst (λ (both : sessions.Lists × sessions.Lists). AwaitsMissing both.1 × (IsTrue c.in_ok-its.its.ended → length both.1.course.answers ≡ length both.1.course.lines)
     × (c.args.rested ≡ false → MovesOrEnds both.0 both.1)) (λ j. (before.2 j, now.2 j)) its
+
+pub returns-then-rested-clause-its : goal.returns-then-rested-clause-its
+returns-then-rested-clause-its g c was is was_there is_there = (
+  (c.requires.awaits is is_there).0,
+  λ ended. absurd (false≢true ended),
+  λ awake. absurd (false≢true (sym awake ∙ c.if-rested.true)),
+)

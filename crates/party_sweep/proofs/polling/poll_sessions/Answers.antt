@@ -1,5 +1,5 @@
 use Rattle.std.proofs.Common.{◌≡◌, ◌∙◌, ℕ, List, Some, ap, arith, inl, inr, map, slice_get, subst, sym}
-use Rattle.std.proofs.lemmas.Bool.{cases_eq, false≢true}
+use Rattle.std.proofs.lemmas.Bool.{cases_eq, cases_lt, false≢true}
 use Rattle.std.proofs.lemmas.List.{length-map}
 use Rattle.std.proofs.lemmas.Option.{slice_get_within}
 use Rattle.session_proxy.specs.State as sessions
@@ -80,6 +80,12 @@ loop-place-preserved g c =
       workers = its.workers ∙ so_far.workers;
       later = λ at low. c.poll_beside.ensures.others at (λ same. omega (arith, low, same)) ∙ so_far.later at (omega (arith, low));
       steps = steps_through _ _ _ _ _ _ so_far.steps its.steps;
+      rested = λ at below rests. elim (cases_eq at (place g c)) [
+        | inl here ↦
+            let same = its.rested (c.rested_at-rested.ensures ∙ ap (rested_at c.args.came.now) (sym here) ∙ rests) in
+            ap (λ parties. slice_get (map proxy_of parties.sessions.items) at) same ∙ so_far.later at (omega (arith, here))
+        | inr apart ↦ c.poll_beside.ensures.others at apart ∙ so_far.rested at (omega (arith, below, apart)) rests
+      ];
       await_theirs = λ at is below there. elim (cases_eq at (place g c)) [
         | inl here ↦
             let there_now = subst (λ n. slice_get (map (session_lists g) (now g c)) n ≡ Some is) here there in
@@ -133,6 +139,16 @@ returns-clause-await_theirs g c =
     all_there AwaitsMissing (map (session_lists g) those) (λ at its there.
     let low = slice_get_within (map (session_lists g) those) at its there in
     c.loop-place.invariant.await_theirs at its (omega (arith, low, made, long, many, c.loop-place-test.false, c.len-place-end.ensures)) there)
+
+pub returns-clause-rested : goal.returns-clause-rested
+returns-clause-rested g c at rests =
+    let before = map proxy_of c.args.parties.now.sessions.items in
+    let those = map proxy_of c.loop-place.parties.sessions.items in
+    same_told (session_lists g) before those at
+    (elim (cases_lt at c.loop-place.place) [
+      | inl below ↦ c.loop-place.invariant.rested at below rests
+      | inr past ↦ c.loop-place.invariant.later at past
+    ])
 
 pub returns-clause-moved : goal.returns-clause-moved
 returns-clause-moved g c at was is awake there_then there =

@@ -19,6 +19,7 @@ invariant-loop-place g l =
       steps : StepsOn g.S.Tx.key g.S.Tx.number g.S.Tx.sent g.T.Tx.key g.T.Tx.number g.T.Tx.sent g.O.Tx.key g.O.Tx.number g.O.Tx.sent
           g.Q.Rx.key g.Q.Rx.pairs g.Q.Rx.senders g.Q.Rx.received g.Q.Rx.about g.G.GossipRx.key g.G.GossipRx.pairs g.G.GossipRx.senders g.G.GossipRx.got g.G.GossipRx.about
           g.R.Rx.key g.R.Rx.pairs g.R.Rx.senders g.R.Rx.received g.R.Rx.about l.fn.parties.workers.items l.parties.workers.items before now;
+      rested : (at : ℕ) → at < l.place → IsTrue (rested_at l.fn.came at) → slice_get now at ≡ slice_get before at;
       await_theirs : (at : ℕ) (its : sessions.Lists) → at < l.place → slice_get (map session_lists now) at ≡ Some its → AwaitsMissing its;
       moved : (at : ℕ) (was is : sessions.Lists) → at < l.place → rested_at l.fn.came at ≡ false → slice_get (map session_lists before) at ≡ Some was
           → slice_get (map session_lists now) at ≡ Some is → MovesOrEnds was is;

@@ -101,3 +101,9 @@ returns-clause-done g c not_ended none =
     let after = ap (sum_by done) c.show_told-3.ensures.stay.sessions_told in
     let more = c.in_ok-ended.ensures.done not_ended none in
     omega (arith, before, after, more)
+
+pub returns-clause-rested : goal.returns-clause-rested
+returns-clause-rested g c at rests =
+    let before =
+    c.show_told-2.ensures.stay.sessions_told ∙ c.turn_workers-2.ensures.sessions ∙ c.turn_workers.ensures.sessions ∙ c.show_told.ensures.stay.sessions_told in
+    ap (λ those. slice_get those at) c.show_told-3.ensures.stay.sessions_told ∙ c.in_ok-ended.ensures.rested at rests ∙ ap (λ those. slice_get those at) before
