@@ -1,5 +1,6 @@
 //! Two workers over rings, on threads of their own and on one.
-ghost use Rattle.std.specs.Prelude.{◌≡◌, ◌≤◌, ◌∷◌, [], map, IfOk};
+ghost use Rattle.std.specs.Prelude.{◌≡◌, ◌≤◌, ℕ, ◌∷◌, [], map, None, IfOk};
+ghost use Rattle.worker_turns.specs.Desks.{IsAtRest};
 ghost use Rattle.worker_turns.specs.Mates.{AreMates};
 ghost use Rattle.worker_core.specs.State.{IsFixed, KeysStay};
 
@@ -17,10 +18,11 @@ use worker_core::{Did, WorkerOver};
 /// A worker over rings.
 type Ringed = WorkerOver<RingRx<Request>, RingTx<Reply>, RingTx<Batch>, RingRx<Batch>>;
 
-/// A session puts the number `max` on key 1, by its put of that `number`.
-fn ask(
+/// A session puts the number `max` on a key, by its put of that `number`.
+pub(crate) fn ask(
     alloc: Global,
     asks: &mut Vec<RingTx<Request>>,
+    key: u16,
     session: u16,
     number: u64,
     max: u64,
@@ -29,7 +31,7 @@ fn ask(
         return Err(Fail::new("no sender"));
     };
     let put = put(alloc, session, number, Payload::Max(max));
-    if tx.send(Request::Put { key: 1, put }).is_err() {
+    if tx.send(Request::Put { key, put }).is_err() {
         return Err(Fail::new("not sent"));
     }
     Ok(())
@@ -40,29 +42,32 @@ fn asked(alloc: Global, session: u16, max: u64) -> Result<RingRx<Request>, Fail>
     ensures { IfOk result (λ rx. ⟦<RingRx<Request> as Rx<Request>>⟧.received rx ≡ []) }
 {
     let (mut asks, requests) = rings(alloc, 1)?;
-    ask(alloc, &mut asks, session, 1, max)?;
+    ask(alloc, &mut asks, 1, session, 1, max)?;
     Ok(requests)
 }
 
-/// Worker `me` of two, with one key of kind max. It makes a round after each request.
-fn new_ringed(
+/// Worker `me` of two, with so many keys of kind max. It makes a round after each request.
+pub(crate) fn new_ringed<G: GossipRx<Batch, From = RingTx<Batch>>>(
     alloc: Global,
     me: u16,
+    keys: u16,
     requests: RingRx<Request>,
     gossip_out: Vec<RingTx<Batch>>,
-    gossip_in: RingRx<Batch>,
-) -> Result<Ringed, Fail>
+    gossip_in: G,
+) -> Result<WorkerOver<RingRx<Request>, RingTx<Reply>, RingTx<Batch>, G>, Fail>
     requires me { (1 ≤ me) × (me ≤ 2) }
+    requires keys { keys ≤ 128 }
     requires received { ⟦<RingRx<Request> as Rx<Request>>⟧.received requests ≡ [] }
     requires number { map (⟦<RingTx<Batch> as Tx<Batch>>⟧.number) gossip_out.items ≡ 1 ∷ [] }
     requires told { map (⟦<RingTx<Batch> as Tx<Batch>>⟧.sent) gossip_out.items ≡ [] ∷ [] }
-    requires got { ⟦<RingRx<Batch> as Rx<Batch>>⟧.received gossip_in ≡ [] }
+    requires got { (sender place : ℕ) → G.got gossip_in sender place ≡ None }
     ensures me { IfOk result (λ worker. worker.state.me ≡ me) }
     ensures gossip_out { IfOk result (λ worker. worker.ends.gossip_out ≡ gossip_out) }
     ensures gossip_in { IfOk result (λ worker. worker.ends.gossip_in ≡ gossip_in) }
+    ensures rests { IfOk result (λ worker. IsAtRest worker.state) }
 {
-    let placement = shared_keys(alloc, 1)?;
-    let kinds = Items::new(vec![in alloc; Kind::Max]?);
+    let placement = shared_keys(alloc, keys)?;
+    let kinds = Items::new(vec![in alloc; Kind::Max; keys as usize]?);
     let ends = WorkerEndsOver {
         requests,
         replies: Vec::new(alloc),
@@ -86,8 +91,8 @@ fn two_ringed(
 {
     let (to_second, of_second) = rings(alloc, 1)?;
     let (to_first, of_first) = rings(alloc, 1)?;
-    let first = new_ringed(alloc, 1, first_requests, to_second, of_first)?;
-    let second = new_ringed(alloc, 2, second_requests, to_first, of_second)?;
+    let first = new_ringed(alloc, 1, 1, first_requests, to_second, of_first)?;
+    let second = new_ringed(alloc, 2, 1, second_requests, to_first, of_second)?;
     Ok((first, second))
 }
 
@@ -188,14 +193,14 @@ fn a_batch_that_finds_no_place_goes_out_later(rt: HostRuntime) -> Result<(), Fai
     // Each of 64 batches finds a place in the ring.
     let want = [(Did::Request, 1), (Did::Round, 0), (Did::Idle, 0)];
     for number in 1..65 {
-        ask(alloc, &mut asks, 1, number, number)?;
+        ask(alloc, &mut asks, 1, 1, number, number)?;
         let did = turns(alloc, &mut first)?;
         assert_eq!(rt; did.as_slice(), want.as_slice(), "at {number}");
     }
 
     // The next one comes back, again and again, and holds no request up.
-    ask(alloc, &mut asks, 1, 65, 65)?;
-    ask(alloc, &mut asks, 1, 66, 66)?;
+    ask(alloc, &mut asks, 1, 1, 65, 65)?;
+    ask(alloc, &mut asks, 1, 1, 66, 66)?;
     let did = turns(alloc, &mut first)?;
     let want = [(Did::Request, 1), (Did::Request, 1), (Did::Blocked, 1)];
     assert_eq!(rt; did.as_slice(), want.as_slice());

@@ -1,0 +1,2 @@
+mod ListsLemmas
+mod PutsLemmas
