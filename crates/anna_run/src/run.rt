@@ -368,4 +368,8 @@ pub fn exit_of<S: Source, K: Sink, E: Gate + Sync, H: Threads + Sync>(
 #[cfg(test)]
 mod check_tests;
 #[cfg(test)]
+mod gate_tests;
+#[cfg(test)]
+mod limit_tests;
+#[cfg(test)]
 mod tests;

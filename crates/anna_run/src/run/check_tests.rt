@@ -1,4 +1,5 @@
 //! Reports that are checked, over memory.
+use super::tests::CONVERGED;
 use super::*;
 use outside::{MemSink, MemSource, SureSink, SureSource};
 use party_epochs::FreeGate;
@@ -7,15 +8,18 @@ use std::test::Fail;
 /// A script, and a report that is legal for it.
 type Worked = (&'static str, &'static str);
 
-const FIRST: Worked = (
-    "anna 1\nworkers 1\nkey a max\nsession s eventual\nput a 5\nput a 3\nget a\nend\n",
-    "anna report 1\nsession s eventual\nput a 1 at 1\nput a 2 at 2\nget a @1 clock s:2 top 2 value 5\nfinal\na @1 clock s:2 top 2 value 5\nend\n",
-);
+const FIRST: Worked = (tests::FIRST, tests::FIRST_REPORT);
 
 /// Held puts are dropped by an abort, accepted by a commit, and not shown before it.
 const HELD: Worked = (
     "anna 1\nworkers 1\nkey a max\nkey l last\nsession s committed\nbegin\nput a 5\nput l red\nabort\nbegin\nput a 5\nput l red\nget a\ncommit\nget l\nbegin\ncommit\nsession t eventual\nget a\nend\n",
     "anna report 1\nsession s committed\nbegin\nput a held\nput l held\nabort 2\nbegin\nput a held\nput l held\nget a @1 clock - top 0 value none\ncommit 2 at 1\nget l @1 clock s:1 top 1 value red/1/s/1\nbegin\ncommit 0\nsession t eventual\nget a @1 clock s:1 top 1 value 5\nfinal\na @1 clock s:1 top 1 value 5\nl @1 clock s:1 top 1 value red/1/s/1\nend\n",
+);
+
+/// A get at another replica than the one that took the put, which is behind.
+const STALE: Worked = (
+    tests::STALE,
+    "anna report 1\nsession s eventual\nput a 1 at 1\nget a @2 clock - top 0 value none\nfinal\na @1 clock s:1 top 1 value 5\na @2 clock s:1 top 1 value 5\nend\n",
 );
 
 /// Runs `check` on an input, and says how it ended and what was written.
@@ -50,30 +54,64 @@ fn input_of(alloc: Global, worked: Worked, spoilt: &[(u32, &str)]) -> Result<Vec
     Ok(input)
 }
 
+/// Whether a script with its report, in which lines are others, is judged as `want` says, with the status for that.
+fn is_judged<H: Threads + Sync>(
+    rt: &H,
+    alloc: Global,
+    worked: Worked,
+    spoilt: &[(u32, &str)],
+    want: &str,
+) -> Result<bool, NoMemory> {
+    let end = if want == "legal\n" {
+        Status::Done
+    } else {
+        Status::Unlawful
+    };
+    let (status, text) = check_on(rt, alloc, input_of(alloc, worked, spoilt)?)?;
+    Ok(status == end && text.as_slice() == want.as_bytes())
+}
+
 #[test]
-fn what_is_judged_is_told(rt: HostRuntime) -> Result<(), Fail> {
+fn the_first_unlawful_command_is_told(rt: HostRuntime) -> Result<(), Fail> {
+    let alloc = rt.alloc();
+    let legal = "legal\n";
+    assert!(rt; is_judged(&rt, alloc, FIRST, &[], legal)?);
+    let behind = (5, "get a @1 clock s:1 top 1 value 5");
+    let want = "unlawful session s command 3\n";
+    assert!(rt; is_judged(&rt, alloc, FIRST, &[behind], want)?);
+
+    assert!(rt; is_judged(&rt, alloc, STALE, &[], legal)?);
+    let up_to_date = (4, "get a @2 clock s:1 top 1 value 5");
+    assert!(rt; is_judged(&rt, alloc, STALE, &[up_to_date], legal)?);
+    let never_put = (4, "get a @2 clock s:1 top 1 value 4");
+    let want = "unlawful session s command 2\n";
+    assert!(rt; is_judged(&rt, alloc, STALE, &[never_put], want)?);
+    Ok(())
+}
+
+#[test]
+fn the_first_unlawful_final_cell_is_told(rt: HostRuntime) -> Result<(), Fail> {
+    let alloc = rt.alloc();
+    assert!(rt; is_judged(&rt, alloc, CONVERGED, &[], "legal\n")?);
+    let lesser = (9, "a @2 clock s:1,t:2 top 2 value 4");
+    let want = "unlawful final a @2\n";
+    assert!(rt; is_judged(&rt, alloc, CONVERGED, &[lesser], want)?);
+    Ok(())
+}
+
+#[test]
+fn what_is_decided_inside_a_session_is_told_first(rt: HostRuntime) -> Result<(), Fail> {
+    let alloc = rt.alloc();
     let unread = (12, "get l @1 clock s:1 top 1 value blue/1/s/1");
     let not_put = (16, "get a @1 clock s:1,t:1 top 1 value 5");
     let short = (18, "a @1 clock - top 0 value none");
-    let cases = [
-        ([].as_slice(), Status::Done, "legal\n"),
-        (
-            &[unread, not_put, short],
-            Status::Unlawful,
-            "unlawful session t command 1\n",
-        ),
-        (
-            &[unread, short],
-            Status::Unlawful,
-            "unlawful session s command 10\n",
-        ),
-        (&[short], Status::Unlawful, "unlawful final a @1\n"),
-    ];
-    for (changed, end, want) in cases {
-        let (status, text) = check_on(&rt, rt.alloc(), input_of(rt.alloc(), HELD, changed)?)?;
-        assert_eq!(rt; status, end);
-        assert_eq!(rt; text.as_slice(), want.as_bytes());
-    }
+    assert!(rt; is_judged(&rt, alloc, HELD, &[], "legal\n")?);
+    let want = "unlawful final a @1\n";
+    assert!(rt; is_judged(&rt, alloc, HELD, &[short], want)?);
+    let want = "unlawful session s command 10\n";
+    assert!(rt; is_judged(&rt, alloc, HELD, &[unread, short], want)?);
+    let want = "unlawful session t command 1\n";
+    assert!(rt; is_judged(&rt, alloc, HELD, &[unread, not_put, short], want)?);
     Ok(())
 }
 
@@ -90,12 +128,15 @@ fn what_is_no_script_or_no_report_is_refused(rt: HostRuntime) -> Result<(), Fail
         b"anna 1\nworkers 9\nend\nanna report 1\nfinal\nend\n",
     )?;
     let no_end = Vec::from_slice(rt.alloc(), b"anna 1\nworkers 1\n")?;
+    let mut longest = input_of(rt.alloc(), FIRST, &[])?;
+    longest.resize(16_777_216, b'x')?;
     let too_long = vec![in rt.alloc(); b'#'; 16_777_217]?;
     let cases = [
         (leading_zero, "refused report line 5\n"),
         (no_report, "refused report line 1\n"),
         (no_script, "refused line 2: code 8\n"),
         (no_end, "refused line 3: code 10\n"),
+        (longest, "refused report line 9\n"),
         (too_long, "refused line 0: code 12\n"),
     ];
     for (input, want) in Vec::from_array(rt.alloc(), cases)? {

@@ -6,10 +6,10 @@ use outside::{Failed, MemSink, MemSource, SureSink, SureSource};
 use party_epochs::FreeGate;
 use std::test::Fail;
 
-const FIRST: &str =
+pub(super) const FIRST: &str =
     "anna 1\nworkers 1\nkey a max\nsession s eventual\nput a 5\nput a 3\nget a\nend\n";
 
-const FIRST_REPORT: &str =
+pub(super) const FIRST_REPORT: &str =
     "anna report 1\nsession s eventual\nput a 1 at 1\nput a 2 at 2\nget a @1 clock s:2 top 2 value 5\nfinal\na @1 clock s:2 top 2 value 5\nend\n";
 
 /// The words of a line of words parted by `/`.
@@ -21,22 +21,36 @@ fn words_of(alloc: Global, line: &str) -> Result<Vec<String>, NoMemory> {
     Ok(words)
 }
 
-/// Runs the program with these words on an input, and says how it ended and what was written.
-fn ended<H: Threads + Sync>(
+/// Room for all that a test writes, in bytes.
+const ROOM: usize = 15_000_000;
+
+/// Runs the program at a gate, with these words on an input, and says how it ended and what was written.
+pub(super) fn ended_at<E: Gate + Sync, H: Threads + Sync>(
     rt: &H,
     alloc: Global,
+    gate: &E,
     words: &str,
     input: &[u8],
 ) -> Result<(Status, Vec<u8>), NoMemory> {
     let words = words_of(alloc, words)?;
     let mut src = SureSource::new(input.to_vec(alloc)?);
-    let mut sink = SureSink::new(alloc, 1_000_000)?;
-    let (status, _) = run(rt, alloc, &words, &mut src, &mut sink, &FreeGate);
+    let mut sink = SureSink::new(alloc, ROOM)?;
+    let (status, _) = run(rt, alloc, &words, &mut src, &mut sink, gate);
     Ok((status, sink.written().to_vec(alloc)?))
 }
 
+/// Runs the program with these words on an input, and says how it ended and what was written.
+pub(super) fn ended<H: Threads + Sync>(
+    rt: &H,
+    alloc: Global,
+    words: &str,
+    input: &[u8],
+) -> Result<(Status, Vec<u8>), NoMemory> {
+    ended_at(rt, alloc, &FreeGate, words, input)
+}
+
 /// Runs a script, and says how that ended and what was written.
-fn run_on<H: Threads + Sync>(
+pub(super) fn run_on<H: Threads + Sync>(
     rt: &H,
     alloc: Global,
     input: &[u8],
@@ -52,17 +66,17 @@ fn first_run(rt: HostRuntime) -> Result<(), Fail> {
     Ok(())
 }
 
+/// A get of a cell that no put made.
+pub(super) const GET: &str = "anna 1\nworkers 1\nkey a max\nsession s eventual\nget a\nend\n";
+
+pub(super) const GET_REPORT: &str =
+    "anna report 1\nsession s eventual\nget a @1 clock - top 0 value none\nfinal\na @1 clock - top 0 value none\nend\n";
+
 #[test]
 fn empty_cell(rt: HostRuntime) -> Result<(), Fail> {
-    let (status, text) = run_on(
-        &rt,
-        rt.alloc(),
-        b"anna 1\nworkers 1\nkey a max\nsession s eventual\nget a\nend\n",
-    )?;
+    let (status, text) = run_on(&rt, rt.alloc(), GET.as_bytes())?;
     assert_eq!(rt; status, Status::Done);
-    let want =
-        "anna report 1\nsession s eventual\nget a @1 clock - top 0 value none\nfinal\na @1 clock - top 0 value none\nend\n";
-    assert_eq!(rt; text.as_slice(), want.as_bytes());
+    assert_eq!(rt; text.as_slice(), GET_REPORT.as_bytes());
     Ok(())
 }
 
@@ -104,13 +118,15 @@ fn a_get_shows_what_was_put_before_it(rt: HostRuntime) -> Result<(), Fail> {
 
 // ---- several workers and sessions
 
+/// Two replicas converge, one of which took no put of its own.
+pub(super) const CONVERGED: (&str, &str) = (
+    "anna 1\nworkers 2\nkey a max at 1 2\nsession s eventual\nput a 4\nsession t eventual\nput a 9\nput a 2\nend\n",
+    "anna report 1\nsession s eventual\nput a 1 at 1\nsession t eventual\nput a 1 at 1\nput a 2 at 2\nfinal\na @1 clock s:1,t:2 top 2 value 9\na @2 clock s:1,t:2 top 2 value 9\nend\n",
+);
+
 /// Scripts whose reports are the same on every schedule, and those reports.
 const SETTLED: [(&str, &str); 6] = [
-    // Two replicas converge, one of which took no put of its own.
-    (
-        "anna 1\nworkers 2\nkey a max at 1 2\nsession s eventual\nput a 4\nsession t eventual\nput a 9\nput a 2\nend\n",
-        "anna report 1\nsession s eventual\nput a 1 at 1\nsession t eventual\nput a 1 at 1\nput a 2 at 2\nfinal\na @1 clock s:1,t:2 top 2 value 9\na @2 clock s:1,t:2 top 2 value 9\nend\n",
-    ),
+    CONVERGED,
     // A session is shown by its home what it put there before, and nothing that it puts later.
     (
         "anna 1\nworkers 2\nkey a set at 2 1\nsession s eventual\nput a x\nget a\nput a y\nget a\nend\n",
@@ -154,10 +170,13 @@ fn has_line(text: &[u8], line: &str) -> bool {
         .any(|one| one == line.as_bytes())
 }
 
+/// A get at another replica than the one that took the put.
+pub(super) const STALE: &str =
+    "anna 1\nworkers 2\nkey a max at 1 2\nsession s eventual\nput a 5\nget a 2\nend\n";
+
 #[test]
 fn another_replica_may_be_behind(rt: HostRuntime) -> Result<(), Fail> {
-    let script = "anna 1\nworkers 2\nkey a max at 1 2\nsession s eventual\nput a 5\nget a 2\nend\n";
-    let (status, text) = run_on(&rt, rt.alloc(), script.as_bytes())?;
+    let (status, text) = run_on(&rt, rt.alloc(), STALE.as_bytes())?;
     assert_eq!(rt; status, Status::Done);
     assert!(rt;
         has_line(&text, "get a @2 clock - top 0 value none")
@@ -178,16 +197,6 @@ fn a_chain_of_causes(rt: HostRuntime) -> Result<(), Fail> {
             || has_line(&text, "get a @2 clock s:1 top 1 value 5 needs -")
             || has_line(&text, "get a @3 clock s:1 top 1 value 5 needs -")
     );
-    Ok(())
-}
-
-#[test]
-fn what_never_comes_is_given_up(rt: HostRuntime) -> Result<(), Fail> {
-    let script =
-        "anna 1\nworkers 1\nkey a max\nsession s causal\nawait a t 3\nsession t eventual\nput a 5\nend\n";
-    let (status, text) = run_on(&rt, rt.alloc(), script.as_bytes())?;
-    assert_eq!(rt; status, Status::Done);
-    assert!(rt; has_line(&text, "await a t 3 gave up after 8 @1 clock t:1"));
     Ok(())
 }
 
@@ -236,20 +245,6 @@ fn sessions_of_all_levels_on_keys_of_all_kinds(rt: HostRuntime) -> Result<(), Fa
     Ok(())
 }
 
-// ---- large work
-
-#[test]
-fn large_work_is_the_same_each_time(rt: HostRuntime) -> Result<(), Fail> {
-    let (status, first) = ended(&rt, rt.alloc(), "big/7", b"")?;
-    assert_eq!(rt; status, Status::Done);
-    assert!(rt; first.starts_with(b"anna big 7\ncommands 3200\nputs "));
-    assert_eq!(rt; first.as_slice().split(|byte| *byte == b'\n').count(), 37);
-    let (status, again) = ended(&rt, rt.alloc(), "big/007", b"")?;
-    assert_eq!(rt; status, Status::Done);
-    assert_eq!(rt; again.as_slice(), first.as_slice());
-    Ok(())
-}
-
 // ---- what is read
 
 #[test]
@@ -259,73 +254,6 @@ fn spaces_tabs_returns_and_comments_change_nothing(rt: HostRuntime) -> Result<()
     let (status, text) = run_on(&rt, rt.alloc(), input)?;
     assert_eq!(rt; status, Status::Done);
     assert_eq!(rt; text.as_slice(), FIRST_REPORT.as_bytes());
-    Ok(())
-}
-
-/// The text of a refusal.
-fn refused(alloc: Global, line: u32, code: u8) -> Result<String, NoMemory> {
-    Ok(format!(in alloc; "refused line {line}: code {code}\n")?)
-}
-
-#[test]
-fn a_byte_that_is_no_text_is_refused(rt: HostRuntime) -> Result<(), Fail> {
-    let (status, text) = run_on(
-        &rt,
-        rt.alloc(),
-        b"anna 1\nworkers 1\nkey a max\nsession s eventual\nput a \x80\nput a 3\nget a\nend\n",
-    )?;
-    assert_eq!(rt; status, Status::Refused);
-    assert_eq!(rt; text.as_slice(), b"refused line 5: code 13\n".as_slice());
-    Ok(())
-}
-
-/// A script of one worker with so many keys, `k1` and on, and so many sessions.
-fn script_of(alloc: Global, keys: u32, sessions: u32) -> Result<String, NoMemory> {
-    let mut text = String::from_str(alloc, "anna 1\nworkers 1\n")?;
-    for key in 1..=keys {
-        text.push_str(format!(in alloc; "key k{key} max\n")?.as_str())?;
-    }
-    for session in 1..=sessions {
-        text.push_str(format!(in alloc; "session s{session} eventual\n")?.as_str())?;
-    }
-    text.push_str("end\n")?;
-    Ok(text)
-}
-
-#[test]
-fn as_many_keys_and_sessions_as_there_may_be(rt: HostRuntime) -> Result<(), Fail> {
-    for (keys, sessions, line) in [(129, 0, 131), (1, 17, 20)] {
-        let input = script_of(rt.alloc(), keys, sessions)?;
-        let (status, text) = run_on(&rt, rt.alloc(), input.as_bytes())?;
-        let want = refused(rt.alloc(), line, 8)?;
-        assert_eq!(rt; status, Status::Refused);
-        assert_eq!(rt; text.as_slice(), want.as_bytes());
-    }
-    let input = script_of(rt.alloc(), 128, 16)?;
-    let (status, text) = run_on(&rt, rt.alloc(), input.as_bytes())?;
-    assert_eq!(rt; status, Status::Done);
-    // The header, `final` and `end`, a line for each key and each session, and nothing after the last.
-    assert_eq!(rt; text.as_slice().split(|byte| *byte == b'\n').count(), 148);
-    Ok(())
-}
-
-/// The first script, filled up with spaces to so many bytes.
-fn filled(alloc: Global, length: usize) -> Result<Vec<u8>, NoMemory> {
-    let mut input = FIRST.as_bytes().to_vec(alloc)?;
-    input.resize(length, b' ')?;
-    Ok(input)
-}
-
-#[test]
-fn as_many_bytes_as_there_may_be(rt: HostRuntime) -> Result<(), Fail> {
-    let input = filled(rt.alloc(), 1_048_576)?;
-    let (status, text) = run_on(&rt, rt.alloc(), &input)?;
-    assert_eq!(rt; status, Status::Done);
-    assert_eq!(rt; text.as_slice(), FIRST_REPORT.as_bytes());
-    let input = filled(rt.alloc(), 1_048_577)?;
-    let (status, text) = run_on(&rt, rt.alloc(), &input)?;
-    assert_eq!(rt; status, Status::Refused);
-    assert_eq!(rt; text.as_slice(), b"refused line 0: code 12\n".as_slice());
     Ok(())
 }
 
@@ -379,7 +307,7 @@ fn words_of_no_accepted_form(rt: HostRuntime) -> Result<(), Fail> {
 // ---- faults outside
 
 /// Puts a line at the end of a text.
-fn push_line(text: &mut String, line: &str) -> Result<(), NoMemory> {
+pub(super) fn push_line(text: &mut String, line: &str) -> Result<(), NoMemory> {
     text.push_str(line)?;
     text.push_str("\n")?;
     Ok(())
