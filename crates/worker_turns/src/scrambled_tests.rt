@@ -1,14 +1,25 @@
 //! A sealed worker over a box that repeats and reverses.
 ghost use Rattle.std.specs.Prelude.{◌≡◌, [], IfOk};
+ghost use Rattle.worker_turns.specs.Desks.{IsAtRest};
 
-use crate::tests::turns;
+use crate::tests::{shared_keys, turns};
 use crate::thread_tests::{ask, new_ringed};
+use composed_value::Kind;
+use lattice_laws::Items;
 use mail_contract::{GossipRx, Rx, Scramble};
-use mail_rings::{RingRx, rings};
+use mail_rings::{RingRx, RingTx, rings};
 use std::alloc::Global;
 use std::test::Fail;
-use store_msg::{Batch, Request};
-use worker_core::SealedOver;
+use store_msg::{Batch, Reply, Request, WorkerEndsOver};
+use worker_core::{SealedOver, WorkerOver};
+
+/// A worker over rings, whose box of gossip is scrambled.
+type Scrambled = WorkerOver<
+    RingRx<Request>,
+    RingTx<Reply>,
+    RingTx<Batch>,
+    Scramble<Batch, RingRx<Batch>>,
+>;
 
 /// How many keys there are.
 const KEYS: u16 = 4;
@@ -56,12 +67,28 @@ fn counts_heard<Q: Rx<Request>, G: GossipRx<Batch>>(
     Err(Fail::new("more than was told"))
 }
 
+/// Worker 2, whose box a number scrambles.
+fn new_scrambled(alloc: Global, inner: RingRx<Batch>, number: u64) -> Result<Scrambled, Fail>
+    requires { ⟦<RingRx<Batch> as Rx<Batch>>⟧.received inner ≡ [] }
+    ensures { IfOk result (λ worker. IsAtRest worker.state) }
+{
+    let placement = shared_keys(alloc, KEYS)?;
+    let kinds = Items::new(vec![in alloc; Kind::Max; KEYS as usize]?);
+    let (_, requests) = rings(alloc, 1)?;
+    let (gossip_out, _) = rings(alloc, 1)?;
+    let gossip_in = Scramble::new(alloc, inner, number)?;
+    let ends = WorkerEndsOver {
+        requests,
+        replies: Vec::new(alloc),
+        gossip_out,
+        gossip_in,
+    };
+    Ok(WorkerOver::new(2, 1, placement, kinds, ends)?)
+}
+
 /// What worker 2 counts after each batch, where its box is scrambled by a number, once it is sealed.
 fn heard_by(alloc: Global, number: u64) -> Result<Vec<u64>, Fail> {
-    let (_, requests) = rings(alloc, 1)?;
-    let (to_first, _) = rings(alloc, 1)?;
-    let gossip_in = Scramble::new(alloc, told_twelve(alloc)?, number)?;
-    let worker = new_ringed(alloc, 2, KEYS, requests, to_first, gossip_in)?;
+    let worker = new_scrambled(alloc, told_twelve(alloc)?, number)?;
     let mut sealed = worker.seal().0;
     counts_heard(alloc, &mut sealed)
 }

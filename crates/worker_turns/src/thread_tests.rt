@@ -1,6 +1,5 @@
 //! Two workers over rings, on threads of their own and on one.
-ghost use Rattle.std.specs.Prelude.{◌≡◌, ◌≤◌, ℕ, ◌∷◌, [], map, None, IfOk};
-ghost use Rattle.worker_turns.specs.Desks.{IsAtRest};
+ghost use Rattle.std.specs.Prelude.{◌≡◌, ◌≤◌, ◌∷◌, [], map, IfOk};
 ghost use Rattle.worker_turns.specs.Mates.{AreMates};
 ghost use Rattle.worker_core.specs.State.{IsFixed, KeysStay};
 
@@ -47,24 +46,23 @@ fn asked(alloc: Global, session: u16, max: u64) -> Result<RingRx<Request>, Fail>
 }
 
 /// Worker `me` of two, with so many keys of kind max. It makes a round after each request.
-pub(crate) fn new_ringed<G: GossipRx<Batch, From = RingTx<Batch>>>(
+pub(crate) fn new_ringed(
     alloc: Global,
     me: u16,
     keys: u16,
     requests: RingRx<Request>,
     gossip_out: Vec<RingTx<Batch>>,
-    gossip_in: G,
-) -> Result<WorkerOver<RingRx<Request>, RingTx<Reply>, RingTx<Batch>, G>, Fail>
+    gossip_in: RingRx<Batch>,
+) -> Result<Ringed, Fail>
     requires me { (1 ≤ me) × (me ≤ 2) }
     requires keys { keys ≤ 128 }
     requires received { ⟦<RingRx<Request> as Rx<Request>>⟧.received requests ≡ [] }
     requires number { map (⟦<RingTx<Batch> as Tx<Batch>>⟧.number) gossip_out.items ≡ 1 ∷ [] }
     requires told { map (⟦<RingTx<Batch> as Tx<Batch>>⟧.sent) gossip_out.items ≡ [] ∷ [] }
-    requires got { (sender place : ℕ) → G.got gossip_in sender place ≡ None }
+    requires got { ⟦<RingRx<Batch> as Rx<Batch>>⟧.received gossip_in ≡ [] }
     ensures me { IfOk result (λ worker. worker.state.me ≡ me) }
     ensures gossip_out { IfOk result (λ worker. worker.ends.gossip_out ≡ gossip_out) }
     ensures gossip_in { IfOk result (λ worker. worker.ends.gossip_in ≡ gossip_in) }
-    ensures rests { IfOk result (λ worker. IsAtRest worker.state) }
 {
     let placement = shared_keys(alloc, keys)?;
     let kinds = Items::new(vec![in alloc; Kind::Max; keys as usize]?);
