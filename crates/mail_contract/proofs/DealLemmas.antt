@@ -10,7 +10,7 @@ use Rattle.mail_contract.specs.Standing.{About, OfSent, OthersStay, Shown, Stand
 use Rattle.mail_contract.specs.Takes.{AreAllOfSent, IsFront, IsFrontOfSent, from_sender}
 use Rattle.mail_contract.specs.declared.scramble.Held.{Held}
 use Rattle.mail_contract.proofs.ScrambleLemmas.{Stand, all_stand, hidden_here, hidden_there, unstand, veiled_same}
-use Rattle.mail_contract.proofs.WeakLemmas.{front_in, in_front, missing_more, of_sent}
+use Rattle.mail_contract.proofs.WeakLemmas.{front_in, missing_more, of_sent}
 use Rattle.mail_contract.proofs.WovenLemmas.{from_sender_here, from_sender_there, same_or_not}
 
 module _ {M : Type 0} where
@@ -53,10 +53,6 @@ module _ {M : Type 0} where
 
     pub got_of_sent : (complete : Bool) (about : ℕ → About M) (s : ℕ) → IsFrontOfSent complete received about s → weak.IsOfSent complete (got_of_held held received) about s
     got_of_sent complete about s = of_sent complete (about s).standing (IsFront (from_sender s received)) (AreIn (got_of_held held received s)) (got_in s)
-
-    -- where all that was sent was handed out, it was taken
-    pub all_taken : (s : ℕ) (sent : List M) → AreAll (got_of_held held received s) sent → IsFront sent (from_sender s received)
-    all_taken s sent all = in_front sent (from_sender s received) (λ i m is. got_there s i m (all i (slice_get_within sent i m is) ∙ is))
 
     -- no more is left of a sender than was not handed out
     pub missing_held : (s : ℕ) (sent : List M) → length sent - length (from_sender s received) ≤ missing (got_of_held held received s) sent

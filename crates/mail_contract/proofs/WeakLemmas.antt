@@ -54,10 +54,6 @@ module _ {M : Type 0} where
   in_front (x ∷ xs) [] all = let within = slice_get_within {A = M} [] 0 x (all 0 x refl) in absurd (omega (arith, within))
   in_front (x ∷ xs) (y ∷ ys) all = let rest = in_front xs ys (λ i. all (suc i)) in λ j. get_or_from_slice_get (y ∷ ys) 0 x x (all 0 x refl) j ∷ rest j
 
-  -- what was sent is the front of what was handed out where all of it was
-  pub all_front : (sent got : List M) → AreAll (slice_get got) sent → IsFront sent got
-  all_front sent got all = in_front sent got (λ i message here. all i (slice_get_within sent i message here) ∙ here)
-
   -- no more is left than is missing
   missing_from : (got : ℕ → Option M) (n : ℕ) → ((i : ℕ) → n ≤ i → got i ≡ None) → (a k : ℕ) → a + k ≤ max a n + sum_by (λ i. missing_one (got i)) (range_with_len a k)
   missing_from got n none a zero = omega arith

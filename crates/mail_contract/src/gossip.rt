@@ -1,7 +1,7 @@
 //! The weak end of a receiver.
 ghost use Rattle.std.specs.Prelude.{◌≡◌, ℕ, ◌+◌, ◌*◌, ◌≤◌, Bool, IsOk, IsTrue, List, Option, Result};
 ghost use Rattle.lattice_laws.specs.declared.lattice.NoMemory.{NoMemory};
-ghost use Rattle.mail_contract.specs.Got.{HandedOut, AreIn, AreAll, IsOfSent, AreAllOfSent, IsOfShown, StayDue, AreDueHandedOut, missing};
+ghost use Rattle.mail_contract.specs.Got.{HandedOut, AreIn, IsOfSent, AreAllOfSent, IsOfShown, StayDue, AreDueHandedOut, missing};
 ghost use Rattle.mail_contract.specs.Parts.{Parts};
 ghost use Rattle.mail_contract.specs.Standing.{About, Learned, Settled, IsSettled, AllPart, AllStand, AreMet, OthersStay, StillAll, left_of_all};
 ghost use Rattle.mail_contract.specs.Takes.{Answers, OnSome, OnNone, Counted, IsNothingLeft, LeftFalls};
@@ -120,7 +120,7 @@ pub trait GossipRx<M>: Drop {
         ensures roomy { IsTrue keeps.roomy → Self.From.unseen tx.new
             ≤ missing (got self.old (Self.From.number tx.old)) (Self.From.sent tx.old) }
         ensures freed { IsTrue keeps.freed
-            → AreAll (got self.old (Self.From.number tx.old)) (Self.From.sent tx.old)
+            → missing (got self.old (Self.From.number tx.old)) (Self.From.sent tx.old) ≡ 0
             → Self.From.clear tx.new };
 
     /// Nobody is beside the box any longer: no sender is shown. Takes no memory.

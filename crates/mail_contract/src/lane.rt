@@ -62,7 +62,7 @@ pub trait Lane<M>: Drop {
         ensures roomy { IsTrue keeps.roomy → Self.From.unseen tx.new
             ≡ min 64 (length (Self.From.sent tx.old) - length (lane self.old).taken) }
         ensures freed { IsTrue keeps.freed
-            → IsFront (Self.From.sent tx.old) (lane self.old).taken
+            → length (Self.From.sent tx.old) ≤ length (lane self.old).taken
             → Self.From.clear tx.new };
 
     /// Its sender is no longer beside it. Takes no memory.

@@ -94,8 +94,8 @@ pub trait Rx<M>: Drop {
             ≡ min 64 (length (Self.From.sent tx.old)
             - length (from_sender (Self.From.number tx.old) (received self.old))) }
         ensures freed { IsTrue keeps.freed
-            → IsFront (Self.From.sent tx.old)
-            (from_sender (Self.From.number tx.old) (received self.old))
+            → length (Self.From.sent tx.old)
+            ≤ length (from_sender (Self.From.number tx.old) (received self.old))
             → Self.From.clear tx.new };
 
     /// Nobody is beside the box any longer: no sender is shown. Takes no memory.

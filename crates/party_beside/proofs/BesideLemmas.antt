@@ -1,5 +1,5 @@
 -- What a worker and a session know of each other, once they were held beside each other, stays where nothing changes that it speaks of.
-use Rattle.std.specs.Prelude.{◌≡◌, ◌≢◌, ℕ, ◌+◌, ◌-◌, ◌<◌, IsTrue, List, [], length, map, slice_get, slice_index_or, slice_set, Option, Some}
+use Rattle.std.specs.Prelude.{◌≡◌, ◌≢◌, ℕ, ◌+◌, ◌-◌, ◌<◌, ◌≤◌, IsTrue, List, [], length, map, slice_get, slice_index_or, slice_set, Option, Some}
 use Rattle.std.proofs.Common.{◌∙◌, ap, arith, refl, subst, sym}
 use Rattle.mail_contract.specs.Parts.{Parts}
 use Rattle.mail_contract.specs.Standing.{About, Shown}
@@ -55,16 +55,16 @@ module _ {S T O Q G R : Type 0} {asked : S → List Request} {asks_clear : S →
     requests_told = λ complete.
         subst (λ (both : workers.Lists × sessions.Lists). IsFront (from_sender (at + 1) both.0.received) (slice_index_or both.1.sent place []))
         (λ j. (same j, its_same j)) (beside.requests_told complete);
-    asks_freed = λ freed front. still.asks (beside.asks_freed freed
-        (subst (λ (both : workers.Lists × sessions.Lists). IsFront (slice_index_or both.1.sent place []) (from_sender (at + 1) both.0.received))
-        (λ j. (sym same j, sym its_same j)) front));
+    asks_freed = λ freed enough. still.asks (beside.asks_freed freed
+        (subst (λ (both : workers.Lists × sessions.Lists). length (slice_index_or both.1.sent place []) ≤ length (from_sender (at + 1) both.0.received))
+        (λ j. (sym same j, sym its_same j)) enough));
     replies = λ shows. still.replies ∙ beside.replies shows ∙ ap (λ lists. Shown (slice_index_or lists.replied at [])) same;
     replies_told = λ complete.
         subst (λ (both : workers.Lists × sessions.Lists). IsFront (from_sender (place + 1) both.1.received) (slice_index_or both.0.replied at []))
         (λ j. (same j, its_same j)) (beside.replies_told complete);
-    replies_freed = λ freed front. still.reply_senders (beside.replies_freed freed
-        (subst (λ (both : workers.Lists × sessions.Lists). IsFront (slice_index_or both.0.replied at []) (from_sender (place + 1) both.1.received))
-        (λ j. (sym same j, sym its_same j)) front));
+    replies_freed = λ freed enough. still.reply_senders (beside.replies_freed freed
+        (subst (λ (both : workers.Lists × sessions.Lists). length (slice_index_or both.0.replied at []) ≤ length (from_sender (place + 1) both.1.received))
+        (λ j. (sym same j, sym its_same j)) enough));
   }
 
 module _ {S T O Q G R SK TK OK QK GK RK : Type 0} (asks : senders.Ghosts S Request SK) (replies : senders.Ghosts T PlainReply TK) (gossips : senders.Ghosts O Entries OK)

@@ -28,7 +28,7 @@ pub record AreHeld {S T O Q G R SK TK QK RK : Type 0} (asks : senders.Ghosts S R
     (heard : boxes.Ghosts R PlainReply T RK TK) (me place number at session : ℕ) (was is : PlainWorker Q T O G) (proxy_was proxy_is : PlainProxy S R) : Type 0 where
   pub shows : Shows requests.keeps session (sent_at asks.sent proxy_was.ends.requests.items place)
       (box_of requests.received requests.answers requests.about was.ends.requests) (box_of requests.received requests.answers requests.about is.ends.requests)
-  pub freed : IsTrue requests.keeps.freed → IsFront (sent_at asks.sent proxy_was.ends.requests.items place) (from_sender session (requests.received was.ends.requests))
+  pub freed : IsTrue requests.keeps.freed → length (sent_at asks.sent proxy_was.ends.requests.items place) ≤ length (from_sender session (requests.received was.ends.requests))
       → IsClearTo asks.clear proxy_is me
   pub other_workers : (other : ℕ) → 1 ≤ other → other ≢ me → IsClearTo asks.clear proxy_was other → IsClearTo asks.clear proxy_is other
   pub learned : Learned heard.keeps number (sent_at replies.sent was.ends.replies.items at) (heard.about proxy_was.ends.replies) (heard.about proxy_is.ends.replies)
@@ -55,18 +55,18 @@ module _ {S T O Q G R SK TK QK RK : Type 0} {asks : senders.Ghosts S Request SK}
     requests_told = λ complete.
         subst (λ (both : workers.Lists × sessions.Lists). IsFront (from_sender (at + 1) both.0.received) (slice_index_or both.1.sent place []))
         (λ j. (same j, its_same j)) (held.shows.told complete);
-    asks_freed = λ freed front sender there.
-        held.freed freed (subst (λ (both : workers.Lists × sessions.Lists). IsFront (slice_index_or both.1.sent place []) (from_sender (at + 1) both.0.received))
-        (λ j. (sym same j, sym its_same j)) front) sender
+    asks_freed = λ freed enough sender there.
+        held.freed freed (subst (λ (both : workers.Lists × sessions.Lists). length (slice_index_or both.1.sent place []) ≤ length (from_sender (at + 1) both.0.received))
+        (λ j. (sym same j, sym its_same j)) enough) sender
         (subst (λ n. slice_index_or proxy_is.ends.requests.items n sender ≡ sender) (sym (back place))
         (get_or_from_slice_get proxy_is.ends.requests.items place sender sender there));
     replies = λ shows. held.learned.shown shows ∙ ap (λ lists. Shown (slice_index_or lists.replied at [])) same;
     replies_told = λ complete.
         subst (λ (both : workers.Lists × sessions.Lists). IsFront (from_sender (place + 1) both.1.received) (slice_index_or both.0.replied at []))
         (λ j. (same j, its_same j)) (held.told complete);
-    replies_freed = λ freed front sender there.
-        (held.room sender there).freed freed (subst (λ (both : workers.Lists × sessions.Lists). IsFront (slice_index_or both.0.replied at []) (from_sender (place + 1) both.1.received))
-        (λ j. (sym same j, sym its_same j)) front);
+    replies_freed = λ freed enough sender there.
+        (held.room sender there).freed freed (subst (λ (both : workers.Lists × sessions.Lists). length (slice_index_or both.0.replied at []) ≤ length (from_sender (place + 1) both.1.received))
+        (λ j. (sym same j, sym its_same j)) enough);
   }
 
   -- the worker and each other session know of each other what they knew,

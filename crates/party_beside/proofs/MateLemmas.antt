@@ -1,5 +1,5 @@
 -- Two workers that were held beside each other stay what they were, and so do the others; and they have met.
-use Rattle.std.specs.Prelude.{◌≡◌, ◌≢◌, ℕ, ◌+◌, ◌<◌, false, IsTrue, List, length, map, slice_get, Option, Some}
+use Rattle.std.specs.Prelude.{◌≡◌, ◌≢◌, ℕ, ◌+◌, ◌<◌, false, Bool, IsTrue, List, length, map, slice_get, Option, Some}
 use Rattle.std.proofs.Common.{◌∙◌, ap, inl, inr, refl, subst, sym}
 use Rattle.std.proofs.lemmas.Bool.{cases_eq}
 use Rattle.std.proofs.lemmas.Option.{same_Some}
@@ -24,8 +24,8 @@ module _ {Q T O G QK TK OK GK : Type 0} {reply_key : T → TK} {reply_number : T
     {gossip_key : O → OK} {gossip_number : O → ℕ} {told : O → List Entries}
     {requests_key : Q → QK} {requests_senders : QK → ℕ} {requests_received : Q → List (ℕ × Request)} {requests_about : Q → ℕ → About Request}
     {in_key : G → GK} {in_senders : GK → ℕ} {got : G → ℕ → ℕ → Option Entries} {in_about : G → ℕ → About Entries}
-    {clear : O → Type 0} {unseen : O → ℕ} {keeps : Parts} {place other : ℕ} {before now : List (PlainWorker Q T O G)}
-    (shown : AreShown gossip_key gossip_number told clear unseen in_key keeps got in_about place other before now)
+    {due : G → ℕ → Bool} {clear : O → Type 0} {unseen : O → ℕ} {keeps : Parts} {place other : ℕ} {before now : List (PlainWorker Q T O G)}
+    (shown : AreShown gossip_key gossip_number told clear unseen in_key keeps got in_about due place other before now)
     (within : place < length before) (its_within : other < length before) (differs : other ≢ place) where
   -- each worker stays
   pub pair_stays : (many_sessions at : ℕ) (was is : PlainWorker Q T O G) → slice_get before at ≡ Some was → slice_get now at ≡ Some is
@@ -69,8 +69,8 @@ module _ {Q T O G QK TK OK GK : Type 0} {reply_key : T → TK} {reply_number : T
       }
 
 module _ {Q T O G OK GK : Type 0} {gossip_key : O → OK} {gossip_number : O → ℕ} {told : O → List Entries} {in_key : G → GK} {got : G → ℕ → ℕ → Option Entries}
-    {in_about : G → ℕ → About Entries} {clear : O → Type 0} {unseen : O → ℕ} {keeps : Parts} {place other : ℕ} {before now : List (PlainWorker Q T O G)}
-    (shown : AreShown gossip_key gossip_number told clear unseen in_key keeps got in_about place other before now) where
+    {in_about : G → ℕ → About Entries} {due : G → ℕ → Bool} {clear : O → Type 0} {unseen : O → ℕ} {keeps : Parts} {place other : ℕ} {before now : List (PlainWorker Q T O G)}
+    (shown : AreShown gossip_key gossip_number told clear unseen in_key keeps got in_about due place other before now) where
   -- each knows of all sessions what it knew
   pub pair_knows : {S R : Type 0} {asks_clear : S → Type 0} {replies_clear : T → Type 0}
       {requests_about : Q → ℕ → About Request} {replies_about : R → ℕ → About PlainReply} (sessions : List (PlainProxy S R))

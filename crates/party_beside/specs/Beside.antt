@@ -1,5 +1,5 @@
 -- What a worker and a session know of each other once they were held beside each other.
-use Rattle.std.specs.Prelude.{◌≡◌, ℕ, ◌+◌, IsTrue, List, [], map, slice_get, slice_index_or, Option, Some}
+use Rattle.std.specs.Prelude.{◌≡◌, ℕ, ◌+◌, ◌≤◌, IsTrue, List, [], length, map, slice_get, slice_index_or, Option, Some}
 use Rattle.mail_contract.specs.Parts.{Parts}
 use Rattle.mail_contract.specs.Standing.{About, Shown, parted}
 use Rattle.mail_contract.specs.Takes.{IsFront, from_sender}
@@ -16,7 +16,7 @@ sent_at sent senders place = slice_index_or (map sent senders) place []
 -- A sender finds a place for the next message once all that it had sent was taken.
 abbrev pub IsFreed : {T M : Type 0} → Parts → (T → Type 0) → (T → List M) → List T → ℕ → List M → Type 0
 IsFreed {T} keeps clear sent senders place taken =
-    IsTrue keeps.freed → IsFront (sent_at sent senders place) taken → (sender : T) → slice_get senders place ≡ Some sender → clear sender
+    IsTrue keeps.freed → length (sent_at sent senders place) ≤ length taken → (sender : T) → slice_get senders place ≡ Some sender → clear sender
 
 -- A worker and a session, by their places from 0, that were held beside each other, and neither has sent or taken anything since: each box shows what
 -- the other's sender has sent, what was taken is a front of that, and a sender all of whose messages were taken finds a place for the next; and the

@@ -72,8 +72,8 @@ pub trait Meets<Q: Rx<Request>, T: Tx<Reply>> {
             ≡ min 64 (length (asked self.old worker)
             - length (from_sender (number self.old worker) (Q.received requests.old))) }
         ensures freed { IsTrue Q.keeps.freed
-            → IsFront (asked self.old worker)
-            (from_sender (number self.old worker) (Q.received requests.old))
+            → length (asked self.old worker)
+            ≤ length (from_sender (number self.old worker) (Q.received requests.old))
             → clear self.new worker }
         ensures others { (other : ℕ) → 1 ≤ other → other ≢ worker
             → clear self.old other → clear self.new other }
@@ -93,7 +93,8 @@ pub trait Meets<Q: Rx<Request>, T: Tx<Reply>> {
         ensures replies_roomy { IsTrue keeps.roomy → T.unseen replies.new
             ≡ min 64 (length (T.sent replies.old) - length (heard self.old worker)) }
         ensures replies_freed { IsTrue keeps.freed
-            → IsFront (T.sent replies.old) (heard self.old worker) → T.clear replies.new };
+            → length (T.sent replies.old) ≤ length (heard self.old worker)
+            → T.clear replies.new };
 }
 
 /// Holds the ends of a worker, by its number, beside a session's. Takes no memory.
@@ -137,8 +138,8 @@ pub fn meet_ends<T: Tx<Request>, R: Rx<Reply>, Q: Rx<Request, From = T>>(
         - length (from_sender (slice_index_or (map T.number ends.old.requests.items) (worker - 1) 0)
         (Q.received requests.old))) }
     ensures freed { IsTrue Q.keeps.freed
-        → IsFront (slice_index_or (map T.sent ends.old.requests.items) (worker - 1) [])
-        (from_sender (slice_index_or (map T.number ends.old.requests.items) (worker - 1) 0)
+        → length (slice_index_or (map T.sent ends.old.requests.items) (worker - 1) [])
+        ≤ length (from_sender (slice_index_or (map T.number ends.old.requests.items) (worker - 1) 0)
         (Q.received requests.old))
         → (tx : T) → slice_index_or ends.new.requests.items (worker - 1) tx ≡ tx → T.clear tx }
     ensures others { (place : ℕ) (tx : T) → place ≢ worker - 1
@@ -162,7 +163,8 @@ pub fn meet_ends<T: Tx<Request>, R: Rx<Reply>, Q: Rx<Request, From = T>>(
         ≡ min 64 (length (R.From.sent replies.old)
         - length (from_sender worker (R.received ends.old.replies))) }
     ensures replies_freed { IsTrue R.keeps.freed
-        → IsFront (R.From.sent replies.old) (from_sender worker (R.received ends.old.replies))
+        → length (R.From.sent replies.old)
+        ≤ length (from_sender worker (R.received ends.old.replies))
         → R.From.clear replies.new }
 {
     let sender = &mut ends.requests[worker as usize - 1];

@@ -1,9 +1,8 @@
 -- What room a sender has, and what comes back for want of it.
 use Rattle.std.specs.Prelude.{◌≡◌, ◌⊎◌, ℕ, ◌+◌, ◌-◌, ◌≤◌, Bool, true, false, IsTrue, not, List, [], ◌∷◌, length, min, slice_get, Option, Some, IfSome}
 use Rattle.std.specs.List.{list_any}
-use Rattle.mail_contract.specs.Got.{AreAll, missing}
+use Rattle.mail_contract.specs.Got.{missing}
 use Rattle.mail_contract.specs.Parts.{Parts}
-use Rattle.mail_contract.specs.Takes.{IsFront}
 
 -- the first batch came back
 abbrev pub FirstBack : List Bool → Type 0
@@ -29,7 +28,7 @@ RoomAt {O} clear roomy unseen senders place tries = (sender : O) → slice_get s
 -- What a sender learns of its room where it is held beside its box, from what is not handed out of what it sent.
 pub record LearnsRoom {M : Type 0} (clear : Type 0) (unseen : ℕ) (keeps : Parts) (got : ℕ → Option M) (sent : List M) : Type 0 where
   pub roomy : IsTrue keeps.roomy → unseen ≤ missing got sent
-  pub freed : IsTrue keeps.freed → AreAll got sent → clear
+  pub freed : IsTrue keeps.freed → missing got sent ≡ 0 → clear
 
 -- and so the sender at a place
 abbrev pub LearnsRoomAt : {O M : Type 0} → (O → Type 0) → (O → ℕ) → List O → ℕ → Parts → (ℕ → Option M) → List M → Type 0
@@ -38,7 +37,7 @@ LearnsRoomAt {O} {M} clear unseen senders place keeps got sent = (sender : O) �
 -- What a sender learns of its room where it is held beside a box in order, from what was received of what it sent.
 pub record LearnsRoomInOrder {M : Type 0} (clear : Type 0) (unseen : ℕ) (keeps : Parts) (received sent : List M) : Type 0 where
   pub roomy : IsTrue keeps.roomy → unseen ≡ min 64 (length sent - length received)
-  pub freed : IsTrue keeps.freed → IsFront sent received → clear
+  pub freed : IsTrue keeps.freed → length sent ≤ length received → clear
 
 -- and so the sender at a place
 abbrev pub LearnsRoomOf : {T M : Type 0} → (T → Type 0) → (T → ℕ) → List T → ℕ → Parts → List M → List M → Type 0

@@ -36,8 +36,9 @@ pub(crate) fn meet<Q: Rx<Request>, T: Tx<Reply>, S: Meets<Q, T>>(
     ensures roomy { IsTrue Q.keeps.roomy → S.unseen side.new me
         ≡ min 64 (length (S.asked side.old me)
         - length (from_sender (S.number side.old me) (Q.received requests.old))) }
-    ensures freed { IsTrue Q.keeps.freed → IsFront (S.asked side.old me)
-        (from_sender (S.number side.old me) (Q.received requests.old)) → S.clear side.new me }
+    ensures freed { IsTrue Q.keeps.freed → length (S.asked side.old me)
+        ≤ length (from_sender (S.number side.old me) (Q.received requests.old))
+        → S.clear side.new me }
     ensures learned { Learned S.keeps
         (slice_index_or (map T.number replies.old.items) (session - 1) 0)
         (slice_index_or (map T.sent replies.old.items) (session - 1) [])

@@ -563,9 +563,9 @@ impl<Q: Rx<Request>, T: Tx<Reply>, O: Tx<Batch>, G: GossipRx<Batch, From = O>> W
             ≡ min 64 (length (S.asked side.old self.old.state.me)
             - length (from_sender (S.number side.old self.old.state.me)
             (Q.received self.old.ends.requests))) }
-        ensures freed { IsTrue Q.keeps.freed → IsFront (S.asked side.old self.old.state.me)
-            (from_sender (S.number side.old self.old.state.me) (Q.received self.old.ends.requests))
-            → S.clear side.new self.old.state.me }
+        ensures freed { IsTrue Q.keeps.freed → length (S.asked side.old self.old.state.me)
+            ≤ length (from_sender (S.number side.old self.old.state.me)
+            (Q.received self.old.ends.requests)) → S.clear side.new self.old.state.me }
         ensures learned { Learned S.keeps
             (slice_index_or (map T.number self.old.ends.replies.items) (session - 1) 0)
             (slice_index_or (map T.sent self.old.ends.replies.items) (session - 1) [])

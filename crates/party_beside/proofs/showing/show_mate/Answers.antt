@@ -29,10 +29,10 @@ module _ (g : Over) (c : After-show_pair g) where
   abbrev proxies : List (PlainProxy g.row.S.Denot g.row.R.Denot)
   proxies = map proxy_of c.args.parties.now.sessions.items
 
-  are_shown : AreShown g.O.Tx.key g.O.Tx.number g.O.Tx.sent g.O.Tx.clear g.O.Tx.unseen g.G.GossipRx.key g.G.GossipRx.keeps g.G.GossipRx.got g.G.GossipRx.about
+  are_shown : AreShown g.O.Tx.key g.O.Tx.number g.O.Tx.sent g.O.Tx.clear g.O.Tx.unseen g.G.GossipRx.key g.G.GossipRx.keeps g.G.GossipRx.got g.G.GossipRx.about g.G.GossipRx.due
       c.args.place c.args.other workers shown
   are_shown =
-      subst (λ those. AreShown g.O.Tx.key g.O.Tx.number g.O.Tx.sent g.O.Tx.clear g.O.Tx.unseen g.G.GossipRx.key g.G.GossipRx.keeps g.G.GossipRx.got g.G.GossipRx.about
+      subst (λ those. AreShown g.O.Tx.key g.O.Tx.number g.O.Tx.sent g.O.Tx.clear g.O.Tx.unseen g.G.GossipRx.key g.G.GossipRx.keeps g.G.GossipRx.got g.G.GossipRx.about g.G.GossipRx.due
       c.args.place c.args.other those shown) c.deref_mut.ensures.value c.show_pair.ensures.shown
 
   long : length shown ≡ length workers

@@ -1,4 +1,4 @@
-use Rattle.std.proofs.Common.{◌<◌, ◌≤◌, ◌-◌, ◌^◌, ◌∙◌, ap, length, min, sym, subst, length-set}
+use Rattle.std.proofs.Common.{◌<◌, ◌≤◌, ◌-◌, ◌^◌, ◌∙◌, ap, arith, length, min, sym, subst, length-set}
 use Rattle.mail_contract.specs.Lanes.{about_of}
 use Rattle.mail_contract.specs.Takes.{IsFront}
 use Rattle.mail_contract.proofs.BoxesLemmas.{lane_now, others_stay, received_before, still_counted, still_received}
@@ -30,7 +30,7 @@ returns-clause-roomy g c =
 pub returns-clause-freed : goal.returns-clause-freed
 returns-clause-freed g c =
     let is = received_before g.L.Lane.lane g.L.Lane.key _ _ _ _ c.show.new.self c.sender-sender.ensures c.requires.0 c.requires.1 c.index_mut-lane.ensures.value _ c.args.self.now.counted in
-    λ freed all. c.show.ensures.freed freed (subst (IsFront (g.L.From.Tx.sent c.args.tx.now)) is all)
+    λ freed enough. c.show.ensures.freed freed (omega (arith, enough, ap length is))
 
 pub returns-clause-learned : goal.returns-clause-learned
 returns-clause-learned g c = record {

@@ -1,7 +1,7 @@
 use Rattle.std.proofs.Common.{ap, sym, subst, arith}
 use Rattle.mail_contract.specs.Standing.{left_of_all}
 use Rattle.mail_contract.specs.Takes.{IsFrontOfSent}
-use Rattle.mail_contract.proofs.DealLemmas.{all_taken, got_in, missing_held, times_at_most, told_beside}
+use Rattle.mail_contract.proofs.DealLemmas.{got_in, missing_held, times_at_most, told_beside}
 use Rattle.mail_contract.proofs.scramble.ScrambleGossipRx.beside.Goals as goal
 
 pub invariant_of-self-clause-told : goal.invariant_of-self-clause-told
@@ -16,7 +16,7 @@ pub returns-clause-roomy : goal.returns-clause-roomy
 returns-clause-roomy g c = λ roomy. omega (arith, c.beside.ensures.roomy roomy, missing_held c.args.self.now.held.items (g.R.Rx.received c.args.self.now.inner) (g.R.From.Tx.number c.args.tx.now) (g.R.From.Tx.sent c.args.tx.now))
 
 pub returns-clause-freed : goal.returns-clause-freed
-returns-clause-freed g c = λ freed all. c.beside.ensures.freed freed (all_taken c.args.self.now.held.items (g.R.Rx.received c.args.self.now.inner) (g.R.From.Tx.number c.args.tx.now) (g.R.From.Tx.sent c.args.tx.now) all)
+returns-clause-freed g c = λ freed none. c.beside.ensures.freed freed (omega (arith, none, missing_held c.args.self.now.held.items (g.R.Rx.received c.args.self.now.inner) (g.R.From.Tx.number c.args.tx.now) (g.R.From.Tx.sent c.args.tx.now)))
 
 pub returns-clause-most : goal.returns-clause-most
 returns-clause-most g c = λ finite. omega (arith, times_at_most c.args.self.now.held.items, c.args.self.now.few, ap (λ k. left_of_all (g.R.Rx.senders k) (g.R.Rx.about c.beside.new.self)) c.beside.ensures.key)
