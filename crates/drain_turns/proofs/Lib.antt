@@ -1,3 +1,5 @@
+pub mod DueLemmas
+pub mod LeftLemmas
 pub mod MatesLemmas
 pub mod PairLemmas
 pub mod PairListsLemmas
@@ -9,6 +11,7 @@ pub mod PassesTurnLemmas
 pub mod ServesLemmas
 pub mod ShownLemmas
 pub mod StretchLemmas
+pub mod SumsLemmas
 pub mod TurningBoxesLemmas
 pub mod TurningKeysLemmas
 pub mod TurningLemmas

@@ -1,8 +1,8 @@
 -- The places of workers, from 0, and those of a worker's mates among its senders of gossip.
 use Rattle.std.specs.Prelude.{◌≡◌, ◌≢◌, ℕ, ◌+◌, ◌-◌, ◌<◌, ◌≤◌, if◌then◌else◌}
-use Rattle.std.proofs.Common.{ap, arith, inl, inr}
+use Rattle.std.proofs.Common.{◌∙◌, ap, arith, inl, inr}
 use Rattle.std.proofs.lemmas.Bool.{cases_lt, le-ltb, lt-ltb}
-use Rattle.worker_core.specs.State.{place_at}
+use Rattle.worker_core.specs.State.{mate_at, place_at}
 
 -- the place of a mate is its own where that is lower, and else one less
 pub place_low : (place other : ℕ) → other < place → place_at (place + 1) (other + 1) ≡ other
@@ -52,4 +52,18 @@ mate_there workers place at within = elim (cases_lt at place) [
     differs = λ same. omega (arith, same, high);
     is = let is = place_high place (at + 1) (omega (arith, high)) in omega (arith, is);
   }
+]
+
+-- the mate at a place is another one, and that is its place
+pub hearer_at : (place at : ℕ) → (mate_at (place + 1) at - 1 ≢ place) × (place_at (place + 1) (mate_at (place + 1) at - 1 + 1) ≡ at)
+hearer_at place at = elim (cases_lt at place) [
+  | inl low ↦
+      let is : mate_at (place + 1) at ≡ at + 1 = ap (λ t. if t then at + 1 else at + 2) (lt-ltb (at + 1) (place + 1) (omega (arith, low))) in
+      let mate : mate_at (place + 1) at - 1 ≡ at = omega (arith, is) in
+      (λ same. omega (arith, same, mate, low), ap (λ n. place_at (place + 1) (n + 1)) mate ∙ place_low place at low)
+  | inr high ↦
+      let is : mate_at (place + 1) at ≡ at + 2 = ap (λ t. if t then at + 1 else at + 2) (le-ltb (at + 1) (place + 1) (omega (arith, high))) in
+      let mate : mate_at (place + 1) at - 1 ≡ at + 1 = omega (arith, is) in
+      let its = place_high place (at + 1) (omega (arith, high)) in
+      (λ same. omega (arith, same, mate, high), ap (λ n. place_at (place + 1) (n + 1)) mate ∙ its ∙ omega arith)
 ]

@@ -1,18 +1,18 @@
 -- A worker that was shown to its mates is turned.
-use Rattle.std.specs.Prelude.{◌≡◌, ◌≢◌, ℕ, ◌+◌, ◌-◌, ◌≤◌, Bool, true, IsTrue, List, length, slice_get, slice_set, Option, Some}
+use Rattle.std.specs.Prelude.{◌≡◌, ◌≢◌, ◌⊎◌, ℕ, ◌+◌, ◌-◌, ◌≤◌, Bool, IsTrue, List, [], length, option_map, slice_get, slice_set, unwrap_or, Option, Some, None}
 use Rattle.std.proofs.Common.{◌∙◌, refl, sym, ap, arith, inl, inr, subst}
 use Rattle.std.proofs.lemmas.Bool.{cases_eq}
 use Rattle.std.proofs.lemmas.List.{length-set}
 use Rattle.std.proofs.lemmas.Option.{same_Some, slice_get_within}
-use Rattle.mail_contract.specs.Got.{AreAll, AreAllOfSent}
+use Rattle.mail_contract.specs.Got.{missing}
 use Rattle.mail_contract.specs.Parts.{Parts}
-use Rattle.mail_contract.specs.Standing.{About, AllStand, AreMet, OfSent, Shown, Standing}
+use Rattle.mail_contract.specs.Standing.{About, AllStand, AreMet, OnShown}
 use Rattle.mail_contract.proofs.PostsLemmas.{stays_elsewhere}
 use Rattle.store_msg.specs.Reply.{PlainReply}
 use Rattle.store_msg.specs.declared.request.Request.{Request}
 use Rattle.worker_core.specs.State.{Entries, PlainWorker, place_at}
-use Rattle.drain_turns.specs.Ready.{AreReady, FreesPlaces, HasHeard, HaveGoneOn, Knows, MatesHeard, StandsOrIsShown, Steady, steady_of, told_at}
-use Rattle.drain_turns.specs.Turning.{HasGoneOn, SomeBack}
+use Rattle.drain_turns.specs.Ready.{AreReady, FreesPlaces, HaveGoneOn, Hears, Knows, MatesMiss, StandsOrIsShown, Steady, heard_of, missing_to, steady_of, told_at}
+use Rattle.drain_turns.specs.Turning.{HasGoneOn, HearsDue, SomeBack}
 use Rattle.drain_steps.proofs.ItemsLemmas.{there_is}
 use Rattle.drain_steps.proofs.PlacesLemmas.{now_there}
 use Rattle.drain_turns.proofs.PairPlacesLemmas.{mate_there}
@@ -58,10 +58,10 @@ module _ {Q T O G QK TK OK GK : Type 0} {request_key : Q → QK} {reply_key : T 
 
 -- of each mate it is known how many batches are left, and so of each sender
 pub all_met : {Q T O G OK GK : Type 0} {complete : Bool} {senders : Q → ℕ} {received : Q → List (ℕ × Request)} {about : Q → ℕ → About Request} {out_key : O → OK} {number : O → ℕ} {in_key : G → GK}
-    {pairs : GK → OK → ℕ → Type 0} {in_senders : GK → ℕ} {in_about : G → ℕ → About Entries} {clear : O → Type 0} {unseen : O → ℕ} {told : O → List Entries} {keeps : Parts}
+    {pairs : GK → OK → ℕ → Type 0} {in_senders : GK → ℕ} {in_about : G → ℕ → About Entries} {clear : O → Type 0} {unseen : O → ℕ} {told : O → List Entries} {keeps : Parts} {due : G → ℕ → Bool}
     (workers : List (PlainWorker Q T O G)) (steady : List (Steady Q T OK GK)) (place : ℕ) (worker : PlainWorker Q T O G)
     → AreReady complete senders received about out_key number in_key pairs in_senders in_about workers → length steady ≡ length workers → slice_get workers place ≡ Some worker
-    → ((other : ℕ) (mate : Steady Q T OK GK) → other ≢ place → slice_get steady other ≡ Some mate → Knows clear unseen told keeps in_about place other worker mate)
+    → ((other : ℕ) (mate : Steady Q T OK GK) → other ≢ place → slice_get steady other ≡ Some mate → Knows clear unseen told keeps in_about due place other worker mate)
     → AreMet (in_senders (in_key worker.ends.gossip_in)) (in_about worker.ends.gossip_in)
 all_met {in_about = in_about} workers steady place worker ready long there knows = λ sender some few.
     elim (ready.met place worker there sender (some, few)) [
@@ -74,34 +74,58 @@ all_met {in_about = in_about} workers steady place worker ready long there knows
       | inr met ↦ met
     ]
 
-module _ {Q T O G OK GK : Type 0} {clear : O → Type 0} {unseen : O → ℕ} {told : O → List Entries} {keeps : Parts} {about : G → ℕ → About Entries}
+-- how many batches are missing of those that one worker told another, where both are there
+pub missing_is : {Q T OK GK : Type 0} (workers : List (Steady Q T OK GK)) (teller hearer : ℕ) (tells hears : Steady Q T OK GK) → slice_get workers teller ≡ Some tells → slice_get workers hearer ≡ Some hears
+    → missing_to workers teller hearer ≡ missing (hears.got (teller + 1)) (told_at tells.told teller hearer)
+missing_is workers teller hearer tells hears there its_there =
+    λ j. missing (unwrap_or (option_map (λ worker. worker.got (teller + 1)) (its_there j)) (λ place. None)) (told_at (unwrap_or (option_map (λ worker. worker.told) (there j)) []) teller hearer)
+
+-- and none where there is no teller
+pub none_missing_of : {Q T OK GK : Type 0} (workers : List (Steady Q T OK GK)) (teller hearer : ℕ) → slice_get workers teller ≡ None → missing_to workers teller hearer ≡ 0
+none_missing_of workers teller hearer none =
+    λ j. missing (heard_of workers hearer teller) (told_at (unwrap_or (option_map (λ worker. worker.told) (none j)) []) teller hearer)
+
+module _ {Q T O G OK GK : Type 0} {clear : O → Type 0} {unseen : O → ℕ} {told : O → List Entries} {keeps : Parts} {about : G → ℕ → About Entries} {due : G → ℕ → Bool}
     (out_key : O → OK) (number : O → ℕ) (in_key : G → GK) (got : G → ℕ → ℕ → Option Entries) (steady : List (Steady Q T OK GK)) (place : ℕ) (was is : PlainWorker Q T O G)
     (frees : FreesPlaces keeps) (there : slice_get steady place ≡ Some (steady_of out_key number told in_key got was))
-    (knows : (other : ℕ) (mate : Steady Q T OK GK) → other ≢ place → slice_get steady other ≡ Some mate → Knows clear unseen told keeps about place other was mate) where
-  -- where nothing is found in its box, a worker has heard all that its mates told it
-  pub has_heard : AllStand (about was.ends.gossip_in) (about is.ends.gossip_in) → AreAllOfSent keeps.complete (got is.ends.gossip_in) (about is.ends.gossip_in)
-      → (other : ℕ) → other ≢ place → HasHeard other place (slice_set steady place (steady_of out_key number told in_key got is))
-  has_heard stand all other differs tells hears tells_there hears_there =
-      let its_there : slice_get steady other ≡ Some tells = sym (stays_elsewhere steady place other (steady_of out_key number told in_key got is) differs) ∙ tells_there in
-      let known = knows other tells differs its_there in
-      let here : slice_get (slice_set steady place (steady_of out_key number told in_key got is)) place ≡ Some (steady_of out_key number told in_key got is) =
-      now_there steady place (steady_of out_key number told in_key got is) (slice_get_within steady place (steady_of out_key number told in_key got was) there)
-      in
-      let hears_is : steady_of out_key number told in_key got is ≡ hears = same_Some (steady_of out_key number told in_key got is) hears (sym here ∙ hears_there) in
-      let standing : (about is.ends.gossip_in (other + 1)).standing ≡ Shown (told_at tells.told other place) = (stand (other + 1)).0 ∙ known.shown frees.shows in
-      let heard : OfSent true (Shown (told_at tells.told other place)) (AreAll (got is.ends.gossip_in (other + 1))) =
-      subst (λ (both : Bool × Standing Entries). OfSent both.0 both.1 (AreAll (got is.ends.gossip_in (other + 1)))) (λ j. (frees.complete j, standing j)) (all (other + 1))
-      in
-      subst (λ (its : Steady Q T OK GK). AreAll (its.got (other + 1)) (told_at tells.told other place)) hears_is heard
+    (knows : (other : ℕ) (mate : Steady Q T OK GK) → other ≢ place → slice_get steady other ≡ Some mate → Knows clear unseen told keeps about due place other was mate) where
+  abbrev steady_now : List (Steady Q T OK GK)
+  steady_now = slice_set steady place (steady_of out_key number told in_key got is)
 
-  -- where each mate has heard all, no batch comes back
-  pub none_back : {roomy : Bool} (workers : ℕ) → length steady ≡ workers → length was.ends.gossip_out.items + 1 ≡ workers → MatesHeard place steady
-      → SomeBack clear roomy unseen was.ends.gossip_out.items → ⊥
-  none_back workers long mates heard (at, tries, within, room) =
+  -- where each that was due was heard, the worker has heard each of its mates
+  pub hears_mates : HearsDue (got was.ends.gossip_in) (got is.ends.gossip_in) (about was.ends.gossip_in) (due was.ends.gossip_in) → (other : ℕ) → other ≢ place
+      → Hears other place steady steady_now
+  hears_mates heard other differs = by_teller (slice_get steady other) refl
+    where
+      there_now : slice_get steady_now place ≡ Some (steady_of out_key number told in_key got is)
+      there_now = now_there steady place (steady_of out_key number told in_key got is) (slice_get_within steady place (steady_of out_key number told in_key got was) there)
+
+      stays : slice_get steady_now other ≡ slice_get steady other
+      stays = stays_elsewhere steady place other (steady_of out_key number told in_key got is) differs
+
+      by_teller : (teller : Option (Steady Q T OK GK)) → slice_get steady other ≡ teller → Hears other place steady steady_now
+      by_teller None none = inl (none_missing_of steady_now other place (stays ∙ none))
+      by_teller (Some tells) its_there =
+          let known = knows other tells differs its_there in
+          let sent = told_at tells.told other place in
+          let fell = subst (λ standing. OnShown standing (λ sent. (missing (got is.ends.gossip_in (other + 1)) sent ≡ 0) ⊎ (missing (got is.ends.gossip_in (other + 1)) sent + 1 ≤ missing (got was.ends.gossip_in (other + 1)) sent)))
+          (known.shown frees.shows) (heard (other + 1) known.is_due)
+          in
+          let before = missing_is steady other place tells (steady_of out_key number told in_key got was) its_there there in
+          let now = missing_is steady_now other place tells (steady_of out_key number told in_key got is) (stays ∙ its_there) there_now in
+          elim fell [ inl none ↦ inl (now ∙ none) | inr fewer ↦ inr (omega (arith, before, now, fewer)) ]
+
+  -- where a batch came back from a mate, that one misses some
+  pub some_missing : {roomy : Bool} (workers : ℕ) → length steady ≡ workers → length was.ends.gossip_out.items + 1 ≡ workers → SomeBack clear roomy unseen was.ends.gossip_out.items
+      → MatesMiss place steady
+  some_missing workers long mates (at, tries, within, room) =
       let its = mate_there workers place at (omega (arith, mates, within)) in
       let mate = there_is steady its.other (let few = its.within in omega (arith, few, long)) in
       let sender = there_is was.ends.gossip_out.items at (omega (arith, within)) in
       let known = knows its.other mate.0 its.differs mate.1 in
       let sender_there : slice_get was.ends.gossip_out.items (place_at (place + 1) (its.other + 1)) ≡ Some sender.0 = ap (slice_get was.ends.gossip_out.items) its.is ∙ sender.1 in
-      let is_clear : clear sender.0 = (known.room sender.0 sender_there).freed frees.freed (heard its.other its.differs (steady_of out_key number told in_key got was) mate.0 there mate.1) in
-      (room sender.0 sender.1).first refl is_clear
+      let is = missing_is steady place its.other (steady_of out_key number told in_key got was) mate.0 there mate.1 in
+      elim (cases_eq (missing_to steady place its.other) 0) [
+        | inl none ↦ absurd ((room sender.0 sender.1).first refl ((known.room sender.0 sender_there).freed frees.freed (sym is ∙ none)))
+        | inr some ↦ (its.other, (let few = its.within in omega (arith, few, long)), its.differs, omega (arith, some))
+      ]

@@ -98,3 +98,6 @@ on_nothing did.Idle then holds = then holds
 
 pub at_blocked : {X : Type 0} {its : Did} → its ≡ did.Blocked → OnNothing {E = NoMemory} (Ok its) X → X
 at_blocked {X} is holds = subst (λ (its : Did). OnNothing {E = NoMemory} (Ok its) X) is holds
+
+pub at_idle : {X : Type 0} {its : Did} → its ≡ did.Idle → OnNothing {E = NoMemory} (Ok its) X → X
+at_idle {X} is holds = subst (λ (its : Did). OnNothing {E = NoMemory} (Ok its) X) is holds

@@ -25,8 +25,8 @@ of_shown : {M : Type 0} (complete : Bool) (sent : List M) (Holds : List M → Ty
 of_shown true sent Holds holds = holds refl
 of_shown false sent Holds holds = tt
 
-module _ {Q T O G : Type 0} {clear : O → Type 0} {unseen : O → ℕ} {told : O → List Entries} {keeps : Parts} {got : G → ℕ → ℕ → Option Entries} {about_mates : G → ℕ → About Entries}
-    (place other : ℕ) (was now mate : PlainWorker Q T O G) (differs : other ≢ place) (sees : Sees clear unseen told keeps got about_mates place other was now mate) where
+module _ {Q T O G : Type 0} {clear : O → Type 0} {unseen : O → ℕ} {told : O → List Entries} {keeps : Parts} {got : G → ℕ → ℕ → Option Entries} {about_mates : G → ℕ → About Entries} {due : G → ℕ → Bool}
+    (place other : ℕ) (was now mate : PlainWorker Q T O G) (differs : other ≢ place) (sees : Sees clear unseen told keeps got about_mates due place other was now mate) where
   -- its box stands to its other senders as before
   pub seen_stands : (workers : ℕ) → other < workers → StandsOrIsShown workers (place + 1) (about_mates was.ends.gossip_in) (about_mates now.ends.gossip_in)
   seen_stands workers within = λ sender.
@@ -42,9 +42,9 @@ module _ {Q T O G : Type 0} {clear : O → Type 0} {unseen : O → ℕ} {told : 
         | inr apart ↦ let same = sees.learned.others sender apart in inl (ap (λ its. its.standing) same, ap (λ its. its.met) same)
       ]
 
-module _ {Q T O G OK GK : Type 0} {clear : O → Type 0} {unseen : O → ℕ} {told : O → List Entries} {keeps : Parts} {got : G → ℕ → ℕ → Option Entries} {about_mates : G → ℕ → About Entries}
+module _ {Q T O G OK GK : Type 0} {clear : O → Type 0} {unseen : O → ℕ} {told : O → List Entries} {keeps : Parts} {got : G → ℕ → ℕ → Option Entries} {about_mates : G → ℕ → About Entries} {due : G → ℕ → Bool}
     (out_key : O → OK) (number : O → ℕ) (in_key : G → GK) (place other : ℕ) (was now mate : PlainWorker Q T O G) (differs : other ≢ place)
-    (sees : Sees clear unseen told keeps got about_mates place other was now mate)
+    (sees : Sees clear unseen told keeps got about_mates due place other was now mate)
     (steady : steady_of out_key number told in_key got now ≡ steady_of out_key number told in_key got was) where
   -- what went through its ends stays, and what was handed out was sent
   pub seen_goes_on : {QK TK : Type 0} {request_key : Q → QK} {reply_key : T → TK} {reply_number : T → ℕ} {complete : Bool} {senders : QK → ℕ} {received : Q → List (ℕ × Request)}
@@ -104,30 +104,32 @@ module _ {Q T O G OK GK : Type 0} {clear : O → Type 0} {unseen : O → ℕ} {t
       }
 
   -- it knows of the mate
-  pub knows_mate : Knows clear unseen told keeps about_mates place other now (steady_of out_key number told in_key got mate)
+  pub knows_mate : Knows clear unseen told keeps about_mates due place other now (steady_of out_key number told in_key got mate)
   knows_mate = record {
     shown = sees.learned.shown;
     met = sees.learned.met;
+    is_due = sees.is_due;
     room = subst (λ those. LearnsRoomAt clear unseen now.ends.gossip_out.items (place_at (place + 1) (other + 1)) keeps (got mate.ends.gossip_in (place + 1)) (told_at those place other))
         (sym (ap (λ its. its.told) steady)) sees.room;
   }
 
   -- and what it knew of another one
   pub knows_still : (one : ℕ) (its : Steady Q T OK GK) → one ≢ place → one ≢ other
-      → Knows clear unseen told keeps about_mates place one was its → Knows clear unseen told keeps about_mates place one now its
+      → Knows clear unseen told keeps about_mates due place one was its → Knows clear unseen told keeps about_mates due place one now its
   knows_still one its apart apart_mate knows =
       let same : about_mates now.ends.gossip_in (one + 1) ≡ about_mates was.ends.gossip_in (one + 1) = sees.learned.others (one + 1) (λ same. apart_mate (omega (arith, same))) in
       record {
         shown = λ shows. ap (λ its. its.standing) same ∙ knows.shown shows;
         met = subst (λ (its : About Entries). IsTrue its.met) (sym same) knows.met;
+        is_due = sees.still_due (one + 1) knows.is_due;
         room = λ sender there.
             subst (λ those. LearnsRoom (clear sender) (unseen sender) keeps (its.got (place + 1)) (told_at those place one)) (sym (ap (λ its. its.told) steady))
             (knows.room sender (sym (sees.senders (place_at (place + 1) (one + 1)) (λ at. apart_mate (same_place place one other apart differs at))) ∙ there));
       }
 
 module _ {Q T O G OK GK : Type 0} {out_key : O → OK} {number : O → ℕ} {told : O → List Entries} {clear : O → Type 0} {unseen : O → ℕ} {in_key : G → GK} {keeps : Parts}
-    {got : G → ℕ → ℕ → Option Entries} {about_mates : G → ℕ → About Entries} {before now : List (PlainWorker Q T O G)} {place other : ℕ}
-    (shown : AreShown out_key number told clear unseen in_key keeps got about_mates place other before now) (within : place < length before) (its_within : other < length before)
+    {got : G → ℕ → ℕ → Option Entries} {about_mates : G → ℕ → About Entries} {due : G → ℕ → Bool} {before now : List (PlainWorker Q T O G)} {place other : ℕ}
+    (shown : AreShown out_key number told clear unseen in_key keeps got about_mates due place other before now) (within : place < length before) (its_within : other < length before)
     (differs : other ≢ place) where
   -- two workers that are held beside each other go on, and so do the others
   pub pair_goes_on : {QK TK : Type 0} {request_key : Q → QK} {reply_key : T → TK} {reply_number : T → ℕ} {complete : Bool} {senders : QK → ℕ} {received : Q → List (ℕ × Request)}
@@ -177,9 +179,9 @@ module _ {Q T O G OK GK : Type 0} {out_key : O → OK} {number : O → ℕ} {tol
 
   -- the one knows of one mate more
   pub knows_more : ((one : ℕ) (is : PlainWorker Q T O G) (mate : Steady Q T OK GK) → one < other → one ≢ place → slice_get before place ≡ Some is
-      → slice_get (map (steady_of out_key number told in_key got) before) one ≡ Some mate → Knows clear unseen told keeps about_mates place one is mate)
+      → slice_get (map (steady_of out_key number told in_key got) before) one ≡ Some mate → Knows clear unseen told keeps about_mates due place one is mate)
       → (one : ℕ) (is : PlainWorker Q T O G) (mate : Steady Q T OK GK) → one < other + 1 → one ≢ place → slice_get now place ≡ Some is
-      → slice_get (map (steady_of out_key number told in_key got) now) one ≡ Some mate → Knows clear unseen told keeps about_mates place one is mate
+      → slice_get (map (steady_of out_key number told in_key got) now) one ≡ Some mate → Knows clear unseen told keeps about_mates due place one is mate
   knows_more knows one is mate below apart there its_there =
       let was = there_is before place within in
       let other_was = there_is before other its_within in
@@ -193,7 +195,7 @@ module _ {Q T O G OK GK : Type 0} {out_key : O → OK} {number : O → ℕ} {tol
             (ap (option_map (steady_of out_key number told in_key got)) (sym other_was.1) ∙ sym (slice_get-map (steady_of out_key number told in_key got) before other)
             ∙ ap (slice_get (map (steady_of out_key number told in_key got) before)) (sym here) ∙ its_was)
             in
-            subst (λ (both : ℕ × Steady Q T OK GK). Knows clear unseen told keeps about_mates place both.0 is both.1) (λ j. (sym here j, its_is j))
+            subst (λ (both : ℕ × Steady Q T OK GK). Knows clear unseen told keeps about_mates due place both.0 is both.1) (λ j. (sym here j, its_is j))
             (knows_mate out_key number in_key place other was.0 is other_was.0 differs saw steady_at)
         | inr passed ↦
             knows_still out_key number in_key place other was.0 is other_was.0 differs saw steady_at one mate apart passed

@@ -1,6 +1,6 @@
 -- A worker that goes on: one thing that nothing changes, and one step after another.
 use Rattle.std.specs.Prelude.{ℕ, Bool, List, [], ◌++◌, map, Option}
-use Rattle.std.proofs.Common.{refl, sym, ap, subst, ◌∙◌, append_assoc, arith}
+use Rattle.std.proofs.Common.{refl, sym, ap, subst, ◌∙◌, append_assoc, arith, inl}
 use Rattle.std.proofs.lemmas.List.{append-nil}
 use Rattle.mail_contract.specs.Boxes.{MayHandOut, MayTake, box_of, weak_box_of}
 use Rattle.mail_contract.specs.Parts.{Parts}
@@ -10,12 +10,14 @@ use Rattle.mail_contract.proofs.StandsLemmas.{stands_through}
 use Rattle.store_msg.specs.Reply.{PlainReply}
 use Rattle.store_msg.specs.declared.request.Request.{Request}
 use Rattle.worker_core.specs.Serving.{NoneTakenBack}
-use Rattle.worker_core.specs.State.{Entries, IsFixed, KeysStay, PlainWorker, State}
+use Rattle.worker_core.specs.State.{Entries, IsFixed, KeysStay, PlainWorker, State, dirty}
 use Rattle.drain_steps.specs.Hearing.{AreGotInRange}
 use Rattle.drain_steps.proofs.HandedOutLemmas.{hand_out_keeps}
 use Rattle.drain_turns.specs.Stretch.{GoesOn}
 use Rattle.drain_turns.specs.Turning.{AreInRange, HasGoneOn}
+use Rattle.drain_turns.proofs.DueLemmas.{due_through}
 use Rattle.drain_turns.proofs.TurningBoxesLemmas.{take_keeps}
+use Rattle.drain_turns.proofs.TurningKeysLemmas.{owes_still, owes_through}
 
 fixed_through : {before between now : State} → IsFixed before between → IsFixed between now → IsFixed before now
 fixed_through first then = record {
@@ -78,29 +80,34 @@ module _ {Q T O G QK TK OK GK : Type 0} {request_key : Q → QK} {reply_key : T 
       of_sent = λ sender is. then.of_sent sender (first.of_sent sender is);
     }
 
-    pub goes_on_still : (worker : PlainWorker Q T O G)
-        → GoesOn request_key reply_key reply_number gossip_key gossip_number in_key complete senders received about replied all_told mates got about_mates worker worker
-    goes_on_still worker = record {
-      gone_on = gone_on_still worker;
-      gossip_stand = λ sender. (refl, refl);
-      left = omega arith;
-      to_serve = omega arith;
-      changed = λ none. omega arith;
-    }
+    module _ {told : O → List Entries} {due : G → ℕ → Bool} where
+      pub goes_on_still : (worker : PlainWorker Q T O G)
+          → GoesOn request_key reply_key reply_number gossip_key gossip_number in_key complete senders received about replied told all_told mates got about_mates due worker worker
+      goes_on_still worker = record {
+        gone_on = gone_on_still worker;
+        gossip_stand = λ sender. (refl, refl);
+        left = omega arith;
+        to_serve = omega arith;
+        owes = λ none. owes_still (map told worker.ends.gossip_out.items) (map told worker.ends.gossip_out.items) (dirty worker.state) (dirty worker.state) refl refl;
+        stay_due = λ sender is. inl is;
+      }
 
-    pub goes_on_through : {before between now : PlainWorker Q T O G}
-        → GoesOn request_key reply_key reply_number gossip_key gossip_number in_key complete senders received about replied all_told mates got about_mates before between
-        → GoesOn request_key reply_key reply_number gossip_key gossip_number in_key complete senders received about replied all_told mates got about_mates between now
-        → GoesOn request_key reply_key reply_number gossip_key gossip_number in_key complete senders received about replied all_told mates got about_mates before now
-    goes_on_through {before} {between} {now} first then = record {
-      gone_on = gone_on_through first.gone_on then.gone_on;
-      gossip_stand =
-          stands_through (about_mates before.ends.gossip_in) (about_mates between.ends.gossip_in) (about_mates now.ends.gossip_in)
-          first.gossip_stand then.gossip_stand;
-      left = omega (arith, first.left, then.left);
-      to_serve = omega (arith, first.to_serve, then.to_serve);
-      changed = λ none. omega (arith, first.changed none, then.changed (omega (arith, none, first.left)));
-    }
+      pub goes_on_through : {before between now : PlainWorker Q T O G}
+          → GoesOn request_key reply_key reply_number gossip_key gossip_number in_key complete senders received about replied told all_told mates got about_mates due before between
+          → GoesOn request_key reply_key reply_number gossip_key gossip_number in_key complete senders received about replied told all_told mates got about_mates due between now
+          → GoesOn request_key reply_key reply_number gossip_key gossip_number in_key complete senders received about replied told all_told mates got about_mates due before now
+      goes_on_through {before} {between} {now} first then = record {
+        gone_on = gone_on_through first.gone_on then.gone_on;
+        gossip_stand =
+            stands_through (about_mates before.ends.gossip_in) (about_mates between.ends.gossip_in) (about_mates now.ends.gossip_in)
+            first.gossip_stand then.gossip_stand;
+        left = omega (arith, first.left, then.left);
+        to_serve = omega (arith, first.to_serve, then.to_serve);
+        owes = λ none. owes_through (first.owes none) (then.owes (omega (arith, none, first.left)));
+        stay_due =
+            due_through (got before.ends.gossip_in) (got between.ends.gossip_in) (got now.ends.gossip_in) (about_mates before.ends.gossip_in) (about_mates between.ends.gossip_in)
+            (due before.ends.gossip_in) (due between.ends.gossip_in) (due now.ends.gossip_in) first.gossip_stand first.gone_on.got_more then.gone_on.got_more first.stay_due then.stay_due;
+      }
 
   -- What one turn tells is enough; and how its box of gossip stands to the mates stays too.
   pub gone_on_once : {senders : QK → ℕ} {received : Q → List (ℕ × Request)} {about : Q → ℕ → About Request} {replied : T → List PlainReply}

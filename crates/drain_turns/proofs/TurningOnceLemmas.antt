@@ -1,5 +1,5 @@
 -- What one turn leaves to a worker, and what room its senders of gossip have then.
-use Rattle.std.specs.Prelude.{◌≡◌, ◌⊎◌, ℕ, suc, ◌+◌, ◌≤◌, Bool, is_some, List, [], ◌∷◌, ◌++◌, length, map, slice_index_or, Option, Some, None, Result, Ok, Err}
+use Rattle.std.specs.Prelude.{◌≡◌, ◌⊎◌, ℕ, suc, ◌+◌, ◌≤◌, Bool, is_some, List, [], ◌∷◌, ◌++◌, length, map, slice_index_or, sum_by, Option, Some, None, Result, Ok, Err}
 use Rattle.std.proofs.Common.{zero, refl, sym, ap, subst, ◌∙◌, inl, inr, arith}
 use Rattle.std.proofs.lemmas.List.{length-map}
 use Rattle.mail_contract.specs.Boxes.{Box, MayTake, box_of}
@@ -15,9 +15,9 @@ use Rattle.worker_core.specs.declared.did.Did.{Did}
 use Rattle.worker_core.specs.declared.did.Did.TheVariants as did
 use Rattle.worker_core.proofs.ToldLemmas.{some_dirty}
 use Rattle.drain_turns.specs.Stretch.{KeepsRoom, OnBatch, OnBlocked, OnRequest, RoomAfter, held_replies, left_to_serve}
-use Rattle.drain_turns.specs.Turning.{AreKnown, SomeBack, not_taken, requests_left}
+use Rattle.drain_turns.specs.Turning.{AreKnown, Owes, SomeBack, not_taken, requests_left}
 use Rattle.drain_turns.proofs.TurningBoxesLemmas.{Keeps, known_stays, none_taken, one_taken, sender_of_more, take_keeps}
-use Rattle.drain_turns.proofs.TurningKeysLemmas.{gossip_tells, gossip_tells_some}
+use Rattle.drain_turns.proofs.TurningKeysLemmas.{gossip_owes, gossip_tells_some, owes_still}
 
 -- one reply is held at most
 one_held : (held : Option (ℕ × PlainReply)) → held_replies held ≤ 1
@@ -179,27 +179,39 @@ module _ {Q T O G : Type 0} (keeps : Parts) (senders : Q → ℕ) (received : Q 
     turn_joins (Ok did.Idle) count count_now room come come_now turns fewer = tt
     turn_joins (Err error) count count_now room come come_now turns fewer = tt
 
-    -- While no request is left no key becomes changed.
-    pub turn_changes : {E : Type 0} (result : Result Did E) (count count_now : Counts) (room : ℕ → List Bool → Type 0) → Boxes
-        → Turns result at_first at_last count count_now room → left before ≡ 0 → dirty now.state ≤ dirty before.state
-    turn_changes (Ok did.Request) count count_now room boxes (inl (session, request, serves)) none =
-        absurd (omega (arith, none, serves_one boxes session request serves.taken serves.kept))
-    turn_changes (Ok did.Request) count count_now room boxes (inr hands) none = omega (arith, ap (λ (lists : Lists). dirty lists.state) hands.sent)
-    turn_changes (Ok did.Gossip) count count_now room boxes (sender, batch, hears, was) none = omega (arith, ap (λ (lists : Lists). dirty lists.state) hears.rest)
-    turn_changes (Ok did.Round) count count_now room boxes (gossips, some, have, tried, full, anew) none = gossip_tells at_first at_last gossips told_are changed_stay
-    turn_changes (Ok did.Blocked) count count_now room boxes blocked none = omega (arith, ap (λ (lists : Lists). dirty lists.state) blocked.unmoved)
-    turn_changes (Ok did.Idle) count count_now room boxes idle none = omega (arith, ap (λ (lists : Lists). dirty lists.state) idle.unmoved)
-    turn_changes (Err error) count count_now room boxes lacks none = by_kept lacks.kept
-      where
-        told_keys : dirty lacks.told.state ≡ dirty now.state → length lacks.told.state.changed ≡ length now.state.changed → dirty now.state ≤ dirty before.state
-        told_keys same as_many = omega (arith, same, gossip_tells at_first lacks.told lacks.gossips told_are (as_many ∙ changed_stay))
+    told_stay : length at_last.told ≡ length at_first.told
+    told_stay = length-map now.ends.gossip_out.items told ∙ mates.stay ∙ sym (length-map before.ends.gossip_out.items told)
 
-        by_kept : (at_last ≡ lacks.told) ⊎ (KeepsRequest lacks.told at_last ⊎ KeepsBatch lacks.told at_last) → dirty now.state ≤ dirty before.state
-        by_kept (inl same) = told_keys (ap (λ (lists : Lists). dirty lists.state) (sym same)) (ap (λ (lists : Lists). length lists.state.changed) (sym same))
-        by_kept (inr (inl (session, request, empty, is))) =
-            told_keys (ap (λ (lists : Lists). dirty lists.state) (sym is)) (ap (λ (lists : Lists). length lists.state.changed) (sym is))
-        by_kept (inr (inr (sender, batch, empty, added, is))) =
-            told_keys (ap (λ (lists : Lists). dirty lists.state) (sym is)) (ap (λ (lists : Lists). length lists.state.changed) (sym is))
+    abbrev OwesNoMore : Type 0
+    OwesNoMore = Owes at_first.told at_last.told (dirty before.state) (dirty now.state)
+
+    -- where neither what was told nor what is left to tell changes
+    owes_as : (lists : Lists) → at_last ≡ lists → lists.told ≡ at_first.told → dirty lists.state ≡ dirty before.state → OwesNoMore
+    owes_as lists is same as_many =
+        owes_still at_first.told at_last.told (dirty before.state) (dirty now.state) (ap (λ (lists : Lists). lists.told) is ∙ same) (ap (λ (lists : Lists). dirty lists.state) is ∙ as_many)
+
+    -- While no request is left no key becomes changed, and each batch that goes out leaves one less.
+    pub turn_owes : {E : Type 0} (result : Result Did E) (count count_now : Counts) (room : ℕ → List Bool → Type 0) → Boxes
+        → Turns result at_first at_last count count_now room → left before ≡ 0 → OwesNoMore
+    turn_owes (Ok did.Request) count count_now room boxes (inl (session, request, serves)) none =
+        absurd (omega (arith, none, serves_one boxes session request serves.taken serves.kept))
+    turn_owes (Ok did.Request) count count_now room boxes (inr hands) none = owes_as _ hands.sent refl refl
+    turn_owes (Ok did.Gossip) count count_now room boxes (sender, batch, hears, was) none = owes_as _ hears.rest refl refl
+    turn_owes (Ok did.Round) count count_now room boxes (gossips, some, have, tried, full, anew) none = gossip_owes at_first at_last gossips told_are changed_stay told_stay
+    turn_owes (Ok did.Blocked) count count_now room boxes blocked none = owes_as _ blocked.unmoved refl refl
+    turn_owes (Ok did.Idle) count count_now room boxes idle none = owes_as _ idle.unmoved refl refl
+    turn_owes (Err error) count count_now room boxes lacks none = by_kept lacks.kept
+      where
+        told_so : (told_is : at_last.told ≡ lacks.told.told) → now.state.changed ≡ lacks.told.state.changed → OwesNoMore
+        told_so told_is changed_is =
+            let as_many : dirty now.state ≡ dirty lacks.told.state = ap (sum_by length) changed_is in
+            let owes = gossip_owes at_first lacks.told lacks.gossips told_are (ap length (sym changed_is) ∙ changed_stay) (ap length (sym told_is) ∙ told_stay) in
+            subst (λ (both : List (List Entries) × ℕ). Owes at_first.told both.0 (dirty before.state) both.1) (λ j. (sym told_is j, sym as_many j)) owes
+
+        by_kept : (at_last ≡ lacks.told) ⊎ (KeepsRequest lacks.told at_last ⊎ KeepsBatch lacks.told at_last) → OwesNoMore
+        by_kept (inl same) = told_so (ap (λ (lists : Lists). lists.told) same) (ap (λ (lists : Lists). lists.state.changed) same)
+        by_kept (inr (inl (session, request, empty, is))) = told_so (ap (λ (lists : Lists). lists.told) is) (ap (λ (lists : Lists). lists.state.changed) is)
+        by_kept (inr (inr (sender, batch, empty, added, is))) = told_so (ap (λ (lists : Lists). lists.told) is) (ap (λ (lists : Lists). lists.state.changed) is)
 
     module _ (clear : O → Type 0) (roomy : Bool) (unseen : O → ℕ) where
       -- to some mate the first batch came back, by the state before the turn or after it

@@ -1,14 +1,15 @@
 -- The workers of a run, whose sessions have ended, as they take their turns one after another.
-use Rattle.std.specs.Prelude.{◌≡◌, ◌≢◌, ◌⊎◌, ℕ, ◌+◌, ◌-◌, ◌<◌, ◌≤◌, ◌^◌, Bool, IsTrue, List, [], All, flat_map, length, map, slice_get, slice_index_or, sum_by, Option, Some}
-use Rattle.mail_contract.specs.Got.{AreAll, AreIn}
+use Rattle.std.specs.Prelude.{◌≡◌, ◌≢◌, ◌⊎◌, ℕ, ◌+◌, ◌-◌, ◌*◌, ◌<◌, ◌≤◌, ◌^◌, Bool, IsTrue, List, [], All, flat_map, length, map, option_map, slice_get, slice_index_or, sum_by, unwrap_or, Option, Some, None}
+use Rattle.std.specs.List.{range_with_len}
+use Rattle.mail_contract.specs.Got.{AreIn, missing}
 use Rattle.mail_contract.specs.Parts.{Parts}
-use Rattle.mail_contract.specs.Standing.{About, IsSettled, Learned, Shown}
+use Rattle.mail_contract.specs.Standing.{About, IsSettled, Learned, Shown, StillAll}
 use Rattle.placement.specs.Config.{IsOneOf}
 use Rattle.store_msg.specs.Reply.{PlainReply}
 use Rattle.store_msg.specs.declared.request.Request.{Request}
 use Rattle.worker_core.specs.Room.{LearnsRoomAt}
 use Rattle.worker_core.specs.Share.{asked_by}
-use Rattle.worker_core.specs.State.{Entries, PlainWorker, State, dirty, kept_request, place_at}
+use Rattle.worker_core.specs.State.{Entries, PlainWorker, State, dirty, kept_request, mate_at, place_at}
 use Rattle.drain_turns.specs.Turning.{AreKnown, HasGoneOn, known_sent, not_taken}
 
 -- a mate of a worker: another one of so many
@@ -46,13 +47,13 @@ AreReplied about sent worker =
 abbrev pub NeverFull : (T O : Type 0) → (T → ℕ) → (O → ℕ) → Type 0
 NeverFull T O fulls gossip_fulls = ((sender : T) → fulls sender ≡ 0) × ((sender : O) → gossip_fulls sender ≡ 0)
 
--- where a box shows its senders it tells all that they had sent, and a sender whose messages were all handed out finds a place
+-- a box that shows its senders hands out a message of each of which some are missing, and a sender of which none is finds a place
 pub record FreesPlaces (keeps : Parts) : Type 0 where
   pub shows : IsTrue keeps.shows
-  pub complete : IsTrue keeps.complete
+  pub advances : IsTrue keeps.advances
   pub freed : IsTrue keeps.freed
 
--- Where senders may want for a place, they find one once all was heard; and no reply is wanting.
+-- Where senders may want for a place, they find one in the end; and no reply is wanting.
 pub record FindPlaces {Q T O G : Type 0} (keeps : Parts) (about : Q → ℕ → About Request) (sent : T → List PlainReply) (senders : Q → ℕ) (workers : List (PlainWorker Q T O G)) : Type 0 where
   pub frees : FreesPlaces keeps
   pub replied : (place : ℕ) (worker : PlainWorker Q T O G) → slice_get workers place ≡ Some worker → AreReplied about sent worker
@@ -109,8 +110,10 @@ told_at told teller hearer = slice_index_or told (place_at (teller + 1) (hearer 
 
 -- What a worker learns where it is held beside a mate, by the places of both; of other mates it learns nothing.
 pub record Sees {Q T O G : Type 0} (clear : O → Type 0) (unseen : O → ℕ) (told : O → List Entries) (keeps : Parts) (got : G → ℕ → ℕ → Option Entries) (about : G → ℕ → About Entries)
-    (place other : ℕ) (before now mate : PlainWorker Q T O G) : Type 0 where
+    (due : G → ℕ → Bool) (place other : ℕ) (before now mate : PlainWorker Q T O G) : Type 0 where
   pub learned : Learned keeps (other + 1) (told_at (map told mate.ends.gossip_out.items) other place) (about before.ends.gossip_in) (about now.ends.gossip_in)
+  pub is_due : IsTrue (due now.ends.gossip_in (other + 1))
+  pub still_due : StillAll (due before.ends.gossip_in) (due now.ends.gossip_in)
   pub were_sent : IsTrue keeps.complete → AreIn (got before.ends.gossip_in (other + 1)) (told_at (map told mate.ends.gossip_out.items) other place)
   pub room : LearnsRoomAt clear unseen now.ends.gossip_out.items (place_at (place + 1) (other + 1)) keeps (got mate.ends.gossip_in (place + 1))
       (told_at (map told before.ends.gossip_out.items) place other)
@@ -118,44 +121,64 @@ pub record Sees {Q T O G : Type 0} (clear : O → Type 0) (unseen : O → ℕ) (
 
 -- The workers at two places were held beside each other.
 pub record AreShown {Q T O G OK GK : Type 0} (out_key : O → OK) (number : O → ℕ) (told : O → List Entries) (clear : O → Type 0) (unseen : O → ℕ) (in_key : G → GK) (keeps : Parts)
-    (got : G → ℕ → ℕ → Option Entries) (about : G → ℕ → About Entries) (place other : ℕ) (before now : List (PlainWorker Q T O G)) : Type 0 where
+    (got : G → ℕ → ℕ → Option Entries) (about : G → ℕ → About Entries) (due : G → ℕ → Bool) (place other : ℕ) (before now : List (PlainWorker Q T O G)) : Type 0 where
   pub steady : steadies out_key number told in_key got now ≡ steadies out_key number told in_key got before
   pub elsewhere : (at : ℕ) → at ≢ place → at ≢ other → slice_get now at ≡ slice_get before at
   pub sees : (was is mate : PlainWorker Q T O G) → slice_get before place ≡ Some was → slice_get now place ≡ Some is → slice_get before other ≡ Some mate
-      → Sees clear unseen told keeps got about place other was is mate
+      → Sees clear unseen told keeps got about due place other was is mate
   pub seen : (was is mate : PlainWorker Q T O G) → slice_get before other ≡ Some was → slice_get now other ≡ Some is → slice_get before place ≡ Some mate
-      → Sees clear unseen told keeps got about other place was is mate
+      → Sees clear unseen told keeps got about due other place was is mate
 
 -- What a worker knows of a mate since it was last held beside it, by the places of both, and of what the mate keeps.
 pub record Knows {Q T O G OK GK : Type 0} (clear : O → Type 0) (unseen : O → ℕ) (told : O → List Entries) (keeps : Parts) (about : G → ℕ → About Entries)
-    (place other : ℕ) (now : PlainWorker Q T O G) (mate : Steady Q T OK GK) : Type 0 where
+    (due : G → ℕ → Bool) (place other : ℕ) (now : PlainWorker Q T O G) (mate : Steady Q T OK GK) : Type 0 where
   pub shown : IsTrue keeps.shows → (about now.ends.gossip_in (other + 1)).standing ≡ Shown (told_at mate.told other place)
   pub met : IsTrue (about now.ends.gossip_in (other + 1)).met
+  pub is_due : IsTrue (due now.ends.gossip_in (other + 1))
   pub room : LearnsRoomAt clear unseen now.ends.gossip_out.items (place_at (place + 1) (other + 1)) keeps (mate.got (place + 1))
       (told_at (map told now.ends.gossip_out.items) place other)
-
--- One worker has heard all that another one told it, by the places of both.
-abbrev pub HasHeard : {Q T OK GK : Type 0} → ℕ → ℕ → List (Steady Q T OK GK) → Type 0
-HasHeard {Q} {T} {OK} {GK} teller hearer workers =
-    (tells hears : Steady Q T OK GK) → slice_get workers teller ≡ Some tells → slice_get workers hearer ≡ Some hears → AreAll (hears.got (teller + 1)) (told_at tells.told teller hearer)
-
--- each mate of a worker has heard all that the worker told it
-abbrev pub MatesHeard : {Q T OK GK : Type 0} → ℕ → List (Steady Q T OK GK) → Type 0
-MatesHeard place workers = (other : ℕ) → other ≢ place → HasHeard place other workers
 
 -- the requests that are left to a worker, by what stays of it while it is held beside its mates
 abbrev pub left_to : {Q T OK GK : Type 0} → (Q → ℕ) → (Q → List (ℕ × Request)) → (Q → ℕ → About Request) → Steady Q T OK GK → ℕ
 left_to senders received about worker = not_taken (senders worker.requests) (received worker.requests) (about worker.requests) + length (kept_request worker.state.kept)
-
--- each worker has heard all that those before it told it
-abbrev pub HaveHeard : {Q T OK GK : Type 0} → List (Steady Q T OK GK) → Type 0
-HaveHeard workers = (teller hearer : ℕ) → teller < hearer → HasHeard teller hearer workers
 
 -- no request is left to any worker
 abbrev pub HaveNoneLeft : {Q T OK GK : Type 0} → (Q → ℕ) → (Q → List (ℕ × Request)) → (Q → ℕ → About Request) → List (Steady Q T OK GK) → Type 0
 HaveNoneLeft {Q} {T} {OK} {GK} senders received about workers =
     (place : ℕ) (worker : Steady Q T OK GK) → slice_get workers place ≡ Some worker → left_to senders received about worker ≡ 0
 
--- how many pairs of a key and a mate the changesets of all workers have
-abbrev pub keys_left : {Q T OK GK : Type 0} → List (Steady Q T OK GK) → ℕ
-keys_left workers = sum_by (λ worker. dirty worker.state) workers
+-- how many keys a worker has to tell, by its place
+abbrev pub keys_of : {Q T OK GK : Type 0} → List (Steady Q T OK GK) → ℕ → ℕ
+keys_of workers place = unwrap_or (option_map (λ worker. dirty worker.state) (slice_get workers place)) 0
+
+-- what it told each mate
+abbrev pub told_by : {Q T OK GK : Type 0} → List (Steady Q T OK GK) → ℕ → List (List Entries)
+told_by workers place = unwrap_or (option_map (λ worker. worker.told) (slice_get workers place)) []
+
+-- and what was handed out to it of what another one told it, by the places of both
+abbrev pub heard_of : {Q T OK GK : Type 0} → List (Steady Q T OK GK) → ℕ → ℕ → ℕ → Option Entries
+heard_of workers hearer teller = unwrap_or (option_map (λ worker. worker.got (teller + 1)) (slice_get workers hearer)) (λ place. None)
+
+-- how many batches are missing of those that a worker told a mate, by its own place and the mate's among its senders, and by the places of both
+abbrev pub missing_at : {Q T OK GK : Type 0} → List (Steady Q T OK GK) → ℕ → ℕ → ℕ
+missing_at workers teller at = missing (heard_of workers (mate_at (teller + 1) at - 1) teller) (slice_index_or (told_by workers teller) at [])
+
+abbrev pub missing_to : {Q T OK GK : Type 0} → List (Steady Q T OK GK) → ℕ → ℕ → ℕ
+missing_to workers teller hearer = missing (heard_of workers hearer teller) (told_at (told_by workers teller) teller hearer)
+
+-- A worker hears another one, by the places of both: nothing is missing any longer of what that one told it, or less is than before.
+abbrev pub Hears : {Q T OK GK : Type 0} → ℕ → ℕ → List (Steady Q T OK GK) → List (Steady Q T OK GK) → Type 0
+Hears teller hearer before now = (missing_to now teller hearer ≡ 0) ⊎ (missing_to now teller hearer + 1 ≤ missing_to before teller hearer)
+
+-- some mate misses a batch that a worker told it
+abbrev pub MatesMiss : {Q T OK GK : Type 0} → ℕ → List (Steady Q T OK GK) → Type 0
+MatesMiss place workers = (other : ℕ) × (other < length workers) × (other ≢ place) × (1 ≤ missing_to workers place other)
+
+-- How much of the telling of a worker is left: the batches that are missing, and each key that is left to tell twice, since telling it may make
+-- a batch that is missing.
+abbrev pub left_to_tell : {Q T OK GK : Type 0} → List (Steady Q T OK GK) → ℕ → ℕ
+left_to_tell workers place = 2 * keys_of workers place + sum_by (missing_at workers place) (range_with_len 0 (length (told_by workers place)))
+
+-- and of all workers
+abbrev pub left_to_all : {Q T OK GK : Type 0} → List (Steady Q T OK GK) → ℕ
+left_to_all workers = sum_by (left_to_tell workers) (range_with_len 0 (length workers))

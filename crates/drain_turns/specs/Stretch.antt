@@ -1,12 +1,13 @@
 -- What a worker does in one turn or several: what stays or falls, and what room its senders of gossip have while no request is left.
-use Rattle.std.specs.Prelude.{◌≡◌, ◌⊎◌, ℕ, ◌+◌, ◌*◌, ◌≤◌, Bool, IsTrue, is_some, List, Option, Some, None, Result, Ok, ⊤}
+use Rattle.std.specs.Prelude.{◌≡◌, ◌⊎◌, ℕ, ◌+◌, ◌*◌, ◌≤◌, Bool, IsTrue, is_some, List, map, Option, Some, None, Result, Ok, ⊤}
+use Rattle.mail_contract.specs.Got.{StayDue}
 use Rattle.mail_contract.specs.Standing.{About, AllStand}
 use Rattle.store_msg.specs.Reply.{PlainReply}
 use Rattle.store_msg.specs.declared.request.Request.{Request}
 use Rattle.worker_core.specs.State.{Entries, PlainWorker, dirty}
 use Rattle.worker_core.specs.declared.did.Did.{Did}
 use Rattle.worker_core.specs.declared.did.Did.TheVariants as did
-use Rattle.drain_turns.specs.Turning.{HasGoneOn, SomeBack, requests_left}
+use Rattle.drain_turns.specs.Turning.{HasGoneOn, Owes, SomeBack, requests_left}
 
 -- how many replies are held
 abbrev pub held_replies : Option (ℕ × PlainReply) → ℕ
@@ -18,17 +19,20 @@ held_replies (Some held) = 1
 abbrev pub left_to_serve : {Q T O G : Type 0} → (Q → ℕ) → (Q → List (ℕ × Request)) → (Q → ℕ → About Request) → PlainWorker Q T O G → ℕ
 left_to_serve senders received about worker = 2 * requests_left senders received about worker + held_replies worker.state.held
 
--- A worker goes on: no more is left to it, and no key becomes changed where no request is left.
+-- A worker goes on: no more is left to it, and where no request is left no key becomes changed; and those stay due that are.
 pub record GoesOn {Q T O G QK TK OK GK : Type 0} (request_key : Q → QK) (reply_key : T → TK) (reply_number : T → ℕ)
     (gossip_key : O → OK) (gossip_number : O → ℕ) (in_key : G → GK)
     (complete : Bool) (senders : QK → ℕ) (received : Q → List (ℕ × Request)) (about : Q → ℕ → About Request) (replied : T → List PlainReply)
-    (all_told : Bool) (mates : GK → ℕ) (got : G → ℕ → ℕ → Option Entries) (about_mates : G → ℕ → About Entries) (before now : PlainWorker Q T O G) : Type 0 where
+    (told : O → List Entries) (all_told : Bool) (mates : GK → ℕ) (got : G → ℕ → ℕ → Option Entries) (about_mates : G → ℕ → About Entries) (due : G → ℕ → Bool)
+    (before now : PlainWorker Q T O G) : Type 0 where
   pub gone_on : HasGoneOn request_key reply_key reply_number gossip_key gossip_number in_key complete senders received about replied
       all_told mates got about_mates before now
   pub gossip_stand : AllStand (about_mates before.ends.gossip_in) (about_mates now.ends.gossip_in)
   pub left : requests_left (λ its. senders (request_key its)) received about now ≤ requests_left (λ its. senders (request_key its)) received about before
   pub to_serve : left_to_serve (λ its. senders (request_key its)) received about now ≤ left_to_serve (λ its. senders (request_key its)) received about before
-  pub changed : requests_left (λ its. senders (request_key its)) received about before ≡ 0 → dirty now.state ≤ dirty before.state
+  pub owes : requests_left (λ its. senders (request_key its)) received about before ≡ 0
+      → Owes (map told before.ends.gossip_out.items) (map told now.ends.gossip_out.items) (dirty before.state) (dirty now.state)
+  pub stay_due : StayDue (got before.ends.gossip_in) (got now.ends.gossip_in) (about_mates before.ends.gossip_in) (due before.ends.gossip_in) (due now.ends.gossip_in)
 
 -- by the answer: where a request was worked on,
 abbrev pub OnRequest : {E : Type 0} → Result Did E → Type 0 → Type 0

@@ -1,10 +1,10 @@
 -- What it changes of a worker to be turned until nothing is left to do.
-use Rattle.std.specs.Prelude.{◌≡◌, ℕ, ◌+◌, ◌-◌, ◌≤◌, Bool, false, IsTrue, List, [], ◌∷◌, ◌++◌, All, length, map, slice_get, sum_by, Option, Some, None, IfSome, ⊤}
+use Rattle.std.specs.Prelude.{◌≡◌, ◌⊎◌, ℕ, ◌+◌, ◌-◌, ◌≤◌, Bool, false, IsTrue, List, [], ◌∷◌, ◌++◌, All, length, map, slice_get, slice_index_or, sum_by, Option, Some, None, IfSome, ⊤}
 use Rattle.std.specs.List.{range_with_len}
 use Rattle.mail_contract.specs.Boxes.{Box, FindsNothing}
-use Rattle.mail_contract.specs.Got.{IsOfSent}
+use Rattle.mail_contract.specs.Got.{IsOfSent, missing}
 use Rattle.mail_contract.specs.Parts.{Parts}
-use Rattle.mail_contract.specs.Standing.{About, AllStand, Apart, Settled, Shown, Standing}
+use Rattle.mail_contract.specs.Standing.{About, AllStand, Apart, OnShown, Settled, Shown, Standing}
 use Rattle.mail_contract.specs.Takes.{IsFrontOfSent, from_sender}
 use Rattle.placement.specs.Config.{IsOneOf}
 use Rattle.store_msg.specs.Reply.{PlainReply}
@@ -43,6 +43,18 @@ FrontsStay complete received about received_now about_now =
 -- what was received is of so many senders
 abbrev pub AreInRange : {M : Type 0} → ℕ → List (ℕ × M) → Type 0
 AreInRange senders received = All (λ message. IsOneOf senders message.0) received
+
+-- Of what a worker told its mates and has to tell them: it takes nothing back, and each batch that went out left a key less to tell.
+pub record Owes (told told_now : List (List Entries)) (keys keys_now : ℕ) : Type 0 where
+  pub long : length told_now ≡ length told
+  pub more : (place : ℕ) → length (slice_index_or told place []) ≤ length (slice_index_or told_now place [])
+  pub at_most : keys_now + sum_by length told_now ≤ keys + sum_by length told
+
+-- Of each sender that was shown and due, no message is missing any longer, or fewer are.
+abbrev pub HearsDue : (got got_now : ℕ → ℕ → Option Entries) → (ℕ → About Entries) → (ℕ → Bool) → Type 0
+HearsDue got got_now about due =
+    (sender : ℕ) → IsTrue (due sender)
+    → OnShown (about sender).standing (λ sent. (missing (got_now sender) sent ≡ 0) ⊎ (missing (got_now sender) sent + 1 ≤ missing (got sender) sent))
 
 -- What a worker keeps while it takes turns, and while it is shown to its mates between them: what never changes, what it received and
 -- replied, and what its boxes told of their senders.

@@ -1,7 +1,7 @@
 //! The workers take their turns, one after another, until nothing is left to do.
 ghost use Rattle.std.specs.Prelude.{◌≡◌, ◌≢◌, ◌⊎◌, ◌<◌, ◌≤◌, ◌+◌, ℕ, false, if◌then◌else◌, length, slice_get, IfOk, IsFalse, IsTrue, OnOk, Some};
-ghost use Rattle.drain_turns.specs.Ready.{AreMates, AreReady, AreShown, FindPlaces, FreesPlaces, HasHeard, HaveGoneOn, HaveHeard, HaveNoneLeft, Knows, MatesHeard, NeverFull, StandsOrIsShown, Steady, keys_left, left_to, steadies};
-ghost use Rattle.drain_turns.specs.Turning.{HasGoneOn, IsDone};
+ghost use Rattle.drain_turns.specs.Ready.{AreMates, AreReady, AreShown, FindPlaces, FreesPlaces, HaveGoneOn, HaveNoneLeft, Hears, Knows, MatesMiss, NeverFull, StandsOrIsShown, Steady, left_to, left_to_all, steadies};
+ghost use Rattle.drain_turns.specs.Turning.{HasGoneOn, IsDone, Owes};
 ghost use Rattle.mail_contract.specs.Boxes.{box_of};
 ghost use Rattle.worker_core.specs.State.{PlainWorker, dirty};
 
@@ -98,15 +98,12 @@ pub(crate) fn pass<
     ensures rests { FindPlaces G.keeps Q.about T.sent (λ its. Q.senders (Q.key its)) workers.old
         → OnOk result (HaveNoneLeft (λ its. Q.senders (Q.key its)) Q.received Q.about
         (steadies O.key O.number O.sent G.key G.got workers.new)) }
-    ensures hears { FreesPlaces G.keeps → OnOk result (HaveHeard
-        (steadies O.key O.number O.sent G.key G.got workers.new)) }
     ensures fell { FindPlaces G.keeps Q.about T.sent (λ its. Q.senders (Q.key its)) workers.old
-        → HaveHeard (steadies O.key O.number O.sent G.key G.got workers.old)
         → HaveNoneLeft (λ its. Q.senders (Q.key its)) Q.received Q.about
         (steadies O.key O.number O.sent G.key G.got workers.old)
-        → IfOk result (λ idle. keys_left (steadies O.key O.number O.sent G.key G.got workers.new)
+        → IfOk result (λ idle. left_to_all (steadies O.key O.number O.sent G.key G.got workers.new)
         + (if idle then 0 else 1)
-        ≤ keys_left (steadies O.key O.number O.sent G.key G.got workers.old)) }
+        ≤ left_to_all (steadies O.key O.number O.sent G.key G.got workers.old)) }
     ensures never_full { NeverFull T O T.fulls O.fulls → IfOk result IsTrue }
 {
     let mut idle = true;
@@ -136,11 +133,11 @@ fn turn_at<
     ensures others { (at : ℕ) → at ≢ place
         → slice_get (steadies O.key O.number O.sent G.key G.got workers.new) at
         ≡ slice_get (steadies O.key O.number O.sent G.key G.got workers.old) at }
-    ensures changed { (was now : Steady Q T O.Key G.Key)
+    ensures owes { (was now : Steady Q T O.Key G.Key)
         → slice_get (steadies O.key O.number O.sent G.key G.got workers.old) place ≡ Some was
         → slice_get (steadies O.key O.number O.sent G.key G.got workers.new) place ≡ Some now
         → left_to (λ its. Q.senders (Q.key its)) Q.received Q.about was ≡ 0
-        → dirty now.state ≤ dirty was.state }
+        → Owes was.told now.told (dirty was.state) (dirty now.state) }
     ensures idle { IfOk result (λ idle. IsTrue idle → (now : PlainWorker Q T O G)
         → slice_get workers.new place ≡ Some now
         → IsDone Q.keeps (box_of Q.received Q.answers Q.about) now) }
@@ -149,14 +146,15 @@ fn turn_at<
         → slice_get (steadies O.key O.number O.sent G.key G.got workers.new) place ≡ Some now
         → left_to (λ its. Q.senders (Q.key its)) Q.received Q.about now ≡ 0) }
     ensures hears { FreesPlaces G.keeps → OnOk result ((other : ℕ) → other ≢ place
-        → HasHeard other place (steadies O.key O.number O.sent G.key G.got workers.new)) }
-    ensures fell { FindPlaces G.keeps Q.about T.sent (λ its. Q.senders (Q.key its)) workers.old
-        → MatesHeard place (steadies O.key O.number O.sent G.key G.got workers.old)
+        → Hears other place (steadies O.key O.number O.sent G.key G.got workers.old)
+        (steadies O.key O.number O.sent G.key G.got workers.new)) }
+    ensures busy { FindPlaces G.keeps Q.about T.sent (λ its. Q.senders (Q.key its)) workers.old
         → IfOk result (λ idle. idle ≡ false → (was now : Steady Q T O.Key G.Key)
         → slice_get (steadies O.key O.number O.sent G.key G.got workers.old) place ≡ Some was
         → slice_get (steadies O.key O.number O.sent G.key G.got workers.new) place ≡ Some now
         → left_to (λ its. Q.senders (Q.key its)) Q.received Q.about was ≡ 0
-        → dirty now.state + 1 ≤ dirty was.state) }
+        → (dirty now.state + 1 ≤ dirty was.state)
+        ⊎ MatesMiss place (steadies O.key O.number O.sent G.key G.got workers.old)) }
     ensures never_full { NeverFull T O T.fulls O.fulls → IfOk result IsTrue }
 {
     show_to_all(workers, place);
@@ -182,7 +180,7 @@ fn show_to_all<T: Tx<Reply>, O: Tx<Batch>, Q: Rx<Request>, G: GossipRx<Batch, Fr
     ensures knows { (other : ℕ) (now : PlainWorker Q T O G) (mate : Steady Q T O.Key G.Key)
         → other ≢ place → slice_get workers.new place ≡ Some now
         → slice_get (steadies O.key O.number O.sent G.key G.got workers.new) other ≡ Some mate
-        → Knows O.clear O.unseen O.sent G.keeps G.about place other now mate }
+        → Knows O.clear O.unseen O.sent G.keeps G.about G.due place other now mate }
 {
     for other in 0..workers.len() {
         if other != place {
@@ -202,7 +200,7 @@ pub fn show_pair<T: Tx<Reply>, O: Tx<Batch>, Q: Rx<Request>, G: GossipRx<Batch, 
     requires differ { other ≢ place }
     requires mates { AreMates O.key O.number G.key G.pairs workers.old }
     ensures shown { AreShown O.key O.number O.sent O.clear O.unseen G.key G.keeps G.got G.about
-        place other workers.old workers.new }
+        G.due place other workers.old workers.new }
 {
     let low = place.min(other);
     let high = place.max(other);

@@ -1,7 +1,7 @@
 //! A worker is turned until nothing is left to do.
-ghost use Rattle.std.specs.Prelude.{◌≡◌, ◌⊎◌, ◌+◌, ◌≤◌, false, is_some, IfOk, IsFalse, IsTrue, None, OnOk};
+ghost use Rattle.std.specs.Prelude.{◌≡◌, ◌⊎◌, ◌+◌, ◌≤◌, false, is_some, IfOk, IsFalse, IsTrue, map, None, OnOk};
 ghost use Rattle.drain_turns.specs.Stretch.{GoesOn, OnBatch, OnBlocked, OnIdle, OnRequest, RoomAfter, left_to_serve};
-ghost use Rattle.drain_turns.specs.Turning.{AreKnown, HasGoneOn, HasSentSince, SomeBack, requests_left};
+ghost use Rattle.drain_turns.specs.Turning.{AreKnown, HasGoneOn, HasSentSince, HearsDue, Owes, SomeBack, requests_left};
 ghost use Rattle.mail_contract.specs.Boxes.{FindsNothing, FindsNothingWeak, box_of, weak_box_of};
 ghost use Rattle.mail_contract.specs.Standing.{AllStand, AreMet};
 ghost use Rattle.run_measure.specs.Steps.{HasServed};
@@ -38,18 +38,24 @@ pub trait TurnsOut<
             (lists_of Q.received T.sent O.sent G.got worker.old)
             (lists_of Q.received T.sent O.sent G.got worker.new)) }
 
-        // What is left to do becomes no more, and no key becomes changed where no request is left.
+        // What is left to do becomes no more; where no request is left no key becomes changed, and each batch that
+        // goes out leaves one less.
         ensures left { requests_left (λ its. Q.senders (Q.key its)) Q.received Q.about worker.new
             ≤ requests_left (λ its. Q.senders (Q.key its)) Q.received Q.about worker.old }
-        ensures changed { requests_left (λ its. Q.senders (Q.key its)) Q.received Q.about worker.old ≡ 0
-            → dirty worker.new.state ≤ dirty worker.old.state }
+        ensures owes { requests_left (λ its. Q.senders (Q.key its)) Q.received Q.about worker.old ≡ 0
+            → Owes (map O.sent worker.old.ends.gossip_out.items)
+            (map O.sent worker.new.ends.gossip_out.items)
+            (dirty worker.old.state) (dirty worker.new.state) }
 
-        // What is known where it rests.
+        // What is known where it rests; and that it heard a batch of each mate that was due, where one was missing.
         ensures none_kept { OnOk result (worker.new.state.kept ≡ None) }
         ensures no_request { OnOk result (IsTrue (is_some worker.new.state.held)
             ⊎ FindsNothing Q.keeps (box_of Q.received Q.answers Q.about worker.new.ends.requests)) }
         ensures no_gossip { OnOk result (FindsNothingWeak G.keeps
             (weak_box_of G.got G.answers G.about G.due G.most worker.new.ends.gossip_in)) }
+        ensures hears { IsTrue G.keeps.advances → OnOk result (HearsDue
+            (G.got worker.old.ends.gossip_in) (G.got worker.new.ends.gossip_in)
+            (G.about worker.old.ends.gossip_in) (G.due worker.old.ends.gossip_in)) }
         ensures idle { IfOk result (λ idle. IsTrue idle
             → (dirty worker.new.state ≡ 0) × (worker.new.state.held ≡ None)) }
         ensures wants_place { OnOk result (HasSentSince T.clear T.sent
@@ -89,7 +95,7 @@ fn turn_on<T: Tx<Reply>, O: Tx<Batch>, Q: Rx<Request>, G: GossipRx<Batch, From =
         (G.about worker.old.ends.gossip_in) }
     ensures goes_on { GoesOn Q.key T.key T.number O.key O.number G.key
         Q.keeps.complete Q.senders Q.received Q.about T.sent
-        G.keeps.complete G.senders G.got G.about worker.old worker.new }
+        O.sent G.keeps.complete G.senders G.got G.about G.due worker.old worker.new }
     ensures served { worker.old.state.kept ≡ None → OnOk result (HasServed
         (lists_of Q.received T.sent O.sent G.got worker.old)
         (lists_of Q.received T.sent O.sent G.got worker.new)) }
@@ -131,7 +137,7 @@ pub(crate) fn turn_once<T: Tx<Reply>, O: Tx<Batch>, Q: Rx<Request>, G: GossipRx<
         (G.about worker.old.ends.gossip_in) }
     ensures goes_on { GoesOn Q.key T.key T.number O.key O.number G.key
         Q.keeps.complete Q.senders Q.received Q.about T.sent
-        G.keeps.complete G.senders G.got G.about worker.old worker.new }
+        O.sent G.keeps.complete G.senders G.got G.about G.due worker.old worker.new }
     ensures served { worker.old.state.kept ≡ None → OnOk result (HasServed
         (lists_of Q.received T.sent O.sent G.got worker.old)
         (lists_of Q.received T.sent O.sent G.got worker.new)) }

@@ -44,7 +44,7 @@ module _ {M : Type 0} where
   of_shown false standing sent holds is shown told = absurd (false≢true is)
 
   -- the whole is a front of itself
-  pub whole_front : (whole : List M) → IsFront whole whole
+  whole_front : (whole : List M) → IsFront whole whole
   whole_front whole = take_all (length whole) whole (omega arith)
 
   -- a front that is as long as the whole is the whole
@@ -112,7 +112,8 @@ module _ {S T O Q G R : Type 0} {asked : S → List Request} {asks_clear : S →
         subst (λ n. length (sent_at replied is.ends.replies.items n) ≤ length heard) (omega arith) few
         in
         let whole : heard ≡ at_first = front_whole heard at_first (its.replies_told free.1.complete) (omega (arith, rested.replied_more at, few_so)) in
-        let clear = its.replies_freed free.1.freed (subst (IsFront at_first) (sym whole) (whole_front at_first)) sender.0 sender.1 in
+        let as_long = ap length whole in
+        let clear = its.replies_freed free.1.freed (omega (arith, as_long)) sender.0 sender.1 in
         let wants = subst (HasSentSince replies_clear replied was.ends.replies.items is.ends.replies.items) held rested.wants_place in
         let place_is : at ≡ at + 1 - 1 = omega arith in
         let sent = wants sender.0 sender_now.0 (subst (λ n. slice_get was.ends.replies.items n ≡ Some sender.0) place_is sender.1)

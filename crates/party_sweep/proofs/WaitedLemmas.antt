@@ -20,7 +20,7 @@ use Rattle.drain_steps.proofs.ItemsLemmas.{of_mapped, there_is}
 use Rattle.party_beside.specs.Beside.{IsBeside, sent_at}
 use Rattle.party_steps.specs.Polling.{HasWaited}
 use Rattle.party_sweep.specs.Sweeping.{FreeBoth, HasServedAll}
-use Rattle.party_sweep.proofs.ServedLemmas.{of_shown, whole_front}
+use Rattle.party_sweep.proofs.ServedLemmas.{of_shown}
 
 module _ {S T O Q G R : Type 0} {asked : S → List Request} {asks_clear : S → Type 0} {replied : T → List PlainReply} {replies_clear : T → Type 0}
     {told : O → List Entries} {got : G → ℕ → ℕ → Option Entries} {keeps : Parts} {requests_received : Q → List (ℕ × Request)} {requests_about : Q → ℕ → About Request}
@@ -42,7 +42,8 @@ module _ {S T O Q G R : Type 0} {asked : S → List Request} {asks_clear : S →
       let taken : from_sender (at + 1) (requests_received worker.0.ends.requests) ≡ sent_at asked proxy.ends.requests.items place =
       served.requests ∙ ap (λ n. sent_at asked proxy.ends.requests.items n) place_is
       in
-      beside_it.asks_freed free.0.freed (subst (IsFront (sent_at asked proxy.ends.requests.items place)) (sym taken) (whole_front (sent_at asked proxy.ends.requests.items place))) sender there
+      let long = ap length taken in
+      beside_it.asks_freed free.0.freed (omega (arith, long)) sender there
 
   module _ {roomy : Bool} {unseen : S → ℕ} {replies_answers : R → Answers} (waited : HasWaited asked asks_clear roomy unseen replies_received replies_answers replies_about replies_keep proxy)
       (nothing : FindsNothing replies_keep (box_of replies_received replies_answers replies_about waited.now.ends.replies)) where

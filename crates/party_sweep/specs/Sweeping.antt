@@ -1,17 +1,22 @@
 -- What is known of the parties of a run in a sweep.
-use Rattle.std.specs.Prelude.{◌≡◌, ◌⊎◌, ℕ, ◌+◌, ◌-◌, ◌≤◌, Bool, false, List, [], All, length, slice_get, slice_index_or, Option, Some, None}
+use Rattle.std.specs.Prelude.{◌≡◌, ◌⊎◌, ℕ, ◌+◌, ◌-◌, ◌≤◌, Bool, false, IsTrue, List, [], All, length, slice_get, slice_index_or, Option, Some, None}
 use Rattle.mail_contract.specs.Parts.{Parts}
 use Rattle.mail_contract.specs.Takes.{from_sender}
 use Rattle.session_proxy.specs.State as sessions
 use Rattle.worker_core.specs.State as workers
 use Rattle.run_measure.specs.Steps.{done}
 use Rattle.run_waiting.specs.Waiting.{AreSigned, AreToAsks, AwaitsMissing}
-use Rattle.drain_turns.specs.Ready.{FreesPlaces}
 use Rattle.party_steps.specs.declared.stepping.Polled.{Polled}
 
--- Boxes of requests and of replies show their senders and tell all that they had sent, and a sender whose messages were all taken finds a place.
+-- A box shows its senders and tells all that they had sent, and a sender whose messages were all taken finds a place;
+pub record ShowsAll (keeps : Parts) : Type 0 where
+  pub shows : IsTrue keeps.shows
+  pub complete : IsTrue keeps.complete
+  pub freed : IsTrue keeps.freed
+
+-- and so do the boxes of requests and of replies.
 abbrev pub FreeBoth : Parts → Parts → Type 0
-FreeBoth requests replies = FreesPlaces requests × FreesPlaces replies
+FreeBoth requests replies = ShowsAll requests × ShowsAll replies
 
 -- A worker took all that a session had sent to it and holds no reply, by the numbers of both.
 pub record HasServedAll (session : ℕ) (its : sessions.Lists) (number : ℕ) (worker : workers.Lists) : Type 0 where

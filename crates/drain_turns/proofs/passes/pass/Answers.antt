@@ -1,15 +1,29 @@
-use Rattle.std.proofs.Common.{◌≡◌, ◌∙◌, ◌+◌, ◌<◌, ◌&&◌, ap, arith, inl, length, refl, subst, sym}
+use Rattle.std.proofs.Common.{◌≡◌, ◌∙◌, ◌+◌, ◌<◌, ◌&&◌, ℕ, [], List, Option, ap, arith, length, option_map, refl, subst, sym, unwrap_or}
 use Rattle.std.proofs.lemmas.Bool.{and_from, and_parts}
 use Rattle.std.proofs.lemmas.List.{length-map}
 use Rattle.std.proofs.lemmas.Option.{slice_get_within}
 use Rattle.mail_contract.specs.Boxes.{box_of}
-use Rattle.drain_turns.specs.Ready.{steady_of}
-use Rattle.drain_steps.proofs.ItemsLemmas.{there_is}
+use Rattle.drain_turns.specs.Ready.{AreMates, steady_of, told_by}
+use Rattle.drain_steps.proofs.ItemsLemmas.{mapped, there_is}
+use Rattle.drain_turns.proofs.LeftLemmas.{farther_all, farther_more, farther_still}
 use Rattle.drain_turns.proofs.PassesGoingOn.{all_stay, all_through, places_stay, ready_stays}
-use Rattle.drain_turns.proofs.PassesLemmas.{done_more, fewer_keys, first_left, heard_more, mates_heard, rested_more, unturned_less}
+use Rattle.drain_turns.proofs.PassesLemmas.{done_more, first_left, rested_more, unturned_less}
+use Rattle.drain_turns.proofs.passes.pass.Given.{Over}
 use Rattle.drain_turns.proofs.passes.pass.Goals as goal
 use Rattle.drain_turns.proofs.passes.pass.Goals.{else-idle, then-idle}
-use Rattle.drain_turns.proofs.passes.pass.Invariants.{AreTurned, all_steady, its_left}
+use Rattle.drain_turns.proofs.passes.pass.Invariants.{AreTurned, ItsSteady, Worker, all_steady, its_left}
+
+-- each worker told as many mates as there are others
+told_to_mates : (g : Over) (workers : List (Worker g)) → AreMates g.O.Tx.key g.O.Tx.number g.G.GossipRx.key g.G.GossipRx.pairs workers
+    → (at : ℕ) → at < length (all_steady g workers) → length (told_by (all_steady g workers) at) + 1 ≡ length (all_steady g workers)
+told_to_mates g workers are_mates at within =
+    let many = length-map workers (steady_of g.O.Tx.key g.O.Tx.number g.O.Tx.sent g.G.GossipRx.key g.G.GossipRx.got) in
+    let its = there_is workers at (omega (arith, within, many)) in
+    let there = mapped (steady_of g.O.Tx.key g.O.Tx.number g.O.Tx.sent g.G.GossipRx.key g.G.GossipRx.got) workers at its.0 its.1 in
+    let told = ap (λ (one : Option (ItsSteady g)). length (unwrap_or (option_map (λ worker. worker.told) one) [])) there in
+    let as_many = length-map its.0.ends.gossip_out.items g.O.Tx.sent in
+    let mates = are_mates.mates at its.0 its.1 in
+    omega (arith, told, as_many, mates, many)
 
 pub loop-place-init : goal.loop-place-init
 loop-place-init g c = record {
@@ -17,8 +31,7 @@ loop-place-init g c = record {
   unturned = λ at past. refl;
   done = λ idle at its below. absurd (omega (arith, below));
   rested = λ finds at its below. absurd (omega (arith, below));
-  heard = λ frees teller hearer below. absurd (omega (arith, below));
-  fell = λ finds heard none. omega arith;
+  farther = λ finds none. farther_still (all_steady g c.args.workers.now);
   never_full = λ full. refl;
 }
 
@@ -58,13 +71,12 @@ loop-place-preserved g c =
           turned.gone_on.long others (invariant.done both.0) (turned.idle both.1);
       rested = λ finds.
           rested_more (all_steady g before) (all_steady g now) place others (its_left g) (invariant.rested finds) (turned.rests (places_stay first before invariant.gone_on finds));
-      heard = λ frees. heard_more (all_steady g before) (all_steady g now) place others (invariant.heard frees) (turned.hears frees);
-      fell = λ finds heard none.
-          let mates = mates_heard (all_steady g before) (all_steady g now) place others (all_steady g first) invariant.unturned heard (invariant.heard finds.frees) in
+      farther = λ finds none.
+          let find = places_stay first before invariant.gone_on finds in
           let none_left = first_left (all_steady g before) (all_steady g now) place others (all_steady g first) invariant.unturned (its_left g) was.0 none was.1 in
-          fewer_keys (all_steady g before) (all_steady g now) place others (all_steady g first) invariant.unturned c.loop-place.idle its was.0 is.0 was.1 is.1
-          (turned.changed was.0 is.0 was.1 is.1 none_left)
-          (λ busy. turned.fell (places_stay first before invariant.gone_on finds) mates busy was.0 is.0 was.1 is.1 none_left) (invariant.fell finds heard none);
+          farther_more (all_steady g before) (all_steady g now) place others (omega (arith, long, long_now, turned.gone_on.long)) was.0 is.0 was.1 is.1
+          (turned.owes was.0 is.0 was.1 is.1 none_left) (turned.hears find.frees) (told_to_mates g before (ready_stays first before invariant.gone_on c.requires.ready).are_mates)
+          c.loop-place.idle its (all_steady g first) (λ busy. turned.busy find busy was.0 is.0 was.1 is.1 none_left) (invariant.farther finds none);
       never_full = λ full. and_from c.loop-place.idle its (invariant.never_full full) (turned.never_full full);
     })
 
@@ -77,8 +89,7 @@ returns-clause-rests g c = λ finds place its there.
     let many = length-map c.loop-place.workers (steady_of g.O.Tx.key g.O.Tx.number g.O.Tx.sent g.G.GossipRx.key g.G.GossipRx.got) in
     c.loop-place.invariant.rested finds place its (omega (arith, within, many)) there
 
-pub returns-clause-hears : goal.returns-clause-hears
-returns-clause-hears g c = λ frees teller hearer low tells hears there its_there.
-    let within = slice_get_within (all_steady g c.loop-place.workers) hearer hears its_there in
+pub returns-clause-fell : goal.returns-clause-fell
+returns-clause-fell g c = λ finds none.
     let many = length-map c.loop-place.workers (steady_of g.O.Tx.key g.O.Tx.number g.O.Tx.sent g.G.GossipRx.key g.G.GossipRx.got) in
-    c.loop-place.invariant.heard frees teller hearer (omega (arith, within, many)) (inl low) tells hears there its_there
+    farther_all c.loop-place.place c.loop-place.idle (all_steady g c.args.workers.now) (all_steady g c.loop-place.workers) (omega (arith, many)) (c.loop-place.invariant.farther finds none)

@@ -1,8 +1,9 @@
-use Rattle.std.proofs.Common.{◌≡◌, ◌⊎◌, ◌+◌, ◌<◌, ◌≤◌, ℕ, Bool, if◌then◌else◌, IsTrue, List, slice_get, Some}
+use Rattle.std.proofs.Common.{◌≡◌, ◌<◌, ◌≤◌, ℕ, Bool, IsTrue, List, slice_get, Some}
 use Rattle.mail_contract.specs.Boxes.{box_of}
 use Rattle.worker_core.specs.State.{PlainWorker}
-use Rattle.drain_turns.specs.Ready.{FindPlaces, FreesPlaces, HasHeard, HaveGoneOn, HaveHeard, HaveNoneLeft, NeverFull, Steady, keys_left, left_to, steadies}
+use Rattle.drain_turns.specs.Ready.{FindPlaces, HaveGoneOn, HaveNoneLeft, NeverFull, Steady, left_to, steadies}
 use Rattle.drain_turns.specs.Turning.{IsDone}
+use Rattle.drain_turns.proofs.LeftLemmas.{Farther}
 use Rattle.drain_turns.proofs.passes.pass.Given.{Over}
 use Rattle.drain_turns.proofs.passes.pass.Given as goal
 
@@ -30,9 +31,8 @@ module _ (g : Over) where
     unturned : (at : ℕ) → turned ≤ at → slice_get (all_steady now) at ≡ slice_get (all_steady before) at;
     done : IsTrue idle → (at : ℕ) (its : Worker) → at < turned → slice_get now at ≡ Some its → IsDone g.Q.Rx.keeps (box_of g.Q.Rx.received g.Q.Rx.answers g.Q.Rx.about) its;
     rested : Finds before → (at : ℕ) (its : ItsSteady) → at < turned → slice_get (all_steady now) at ≡ Some its → its_left its ≡ 0;
-    heard : FreesPlaces g.G.GossipRx.keeps → (teller hearer : ℕ) → hearer < turned → (teller < hearer) ⊎ (turned ≤ teller) → HasHeard teller hearer (all_steady now);
-    fell : Finds before → HaveHeard (all_steady before) → HaveNoneLeft (λ its. g.Q.Rx.senders (g.Q.Rx.key its)) g.Q.Rx.received g.Q.Rx.about (all_steady before)
-        → keys_left (all_steady now) + (if idle then 0 else 1) ≤ keys_left (all_steady before);
+    farther : Finds before → HaveNoneLeft (λ its. g.Q.Rx.senders (g.Q.Rx.key its)) g.Q.Rx.received g.Q.Rx.about (all_steady before)
+        → Farther turned idle (all_steady before) (all_steady now);
     never_full : NeverFull g.row.T.Denot g.row.O.Denot g.T.Tx.fulls g.O.Tx.fulls → IsTrue idle;
   }
 

@@ -17,10 +17,10 @@ module _ (g : Over) where
   steady = steady_of g.O.Tx.key g.O.Tx.number g.O.Tx.sent g.G.GossipRx.key g.G.GossipRx.got
 
   abbrev SeesMate : ℕ → ℕ → Worker → Worker → Worker → Type 0
-  SeesMate = Sees g.O.Tx.clear g.O.Tx.unseen g.O.Tx.sent g.G.GossipRx.keeps g.G.GossipRx.got g.G.GossipRx.about
+  SeesMate = Sees g.O.Tx.clear g.O.Tx.unseen g.O.Tx.sent g.G.GossipRx.keeps g.G.GossipRx.got g.G.GossipRx.about g.G.GossipRx.due
 
   abbrev Shown : ℕ → ℕ → List Worker → List Worker → Type 0
-  Shown = AreShown g.O.Tx.key g.O.Tx.number g.O.Tx.sent g.O.Tx.clear g.O.Tx.unseen g.G.GossipRx.key g.G.GossipRx.keeps g.G.GossipRx.got g.G.GossipRx.about
+  Shown = AreShown g.O.Tx.key g.O.Tx.number g.O.Tx.sent g.O.Tx.clear g.O.Tx.unseen g.G.GossipRx.key g.G.GossipRx.keeps g.G.GossipRx.got g.G.GossipRx.about g.G.GossipRx.due
 
   -- the two before they are held beside each other
   module _ (c : After-index-back-0 g) where
@@ -75,13 +75,14 @@ module _ (g : Over) where
       sees : SeesMate c.min-low.result c.max-high.result low c.beside_mate.new.self high
       sees =
           let is = c.beside_mate.ensures in
-          sees_mate c.requires.mates c.min-low.result c.max-high.result low c.beside_mate.new.self high low_there high_there differs is.gossip.learned is.gossip.told is.room is.others
+          sees_mate c.requires.mates c.min-low.result c.max-high.result low c.beside_mate.new.self high low_there high_there differs is.gossip.learned is.gossip.told is.room is.others is.gossip.due
+          is.gossip.still_due
 
       seen : SeesMate c.max-high.result c.min-low.result high c.beside_mate.new.mate low
       seen =
           let is = c.beside_mate.ensures in
           sees_mate c.requires.mates c.max-high.result c.min-low.result high c.beside_mate.new.mate low high_there low_there (λ same. differs (sym same)) is.mate_gossip.learned
-          is.mate_gossip.told is.mate_room is.mate_others
+          is.mate_gossip.told is.mate_room is.mate_others is.mate_gossip.due is.mate_gossip.still_due
 
       shown : Shown c.min-low.result c.max-high.result c.args.workers.now
           (slice_set c.split_at_mut-front.result.0.now c.min-low.result c.beside_mate.new.self ++ slice_set c.split_at_mut-front.result.1.now 0 c.beside_mate.new.mate)

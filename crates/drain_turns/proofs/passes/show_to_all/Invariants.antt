@@ -21,7 +21,7 @@ module _ (g : Over) where
         g.G.GossipRx.keeps.complete g.G.GossipRx.senders g.G.GossipRx.got g.G.GossipRx.about before now;
     steady : all_steady now ≡ all_steady before;
     knows : (other : ℕ) (is : Worker) (mate : ItsSteady) → other < mates → other ≢ place → slice_get now place ≡ Some is → slice_get (all_steady now) other ≡ Some mate
-        → Knows g.O.Tx.clear g.O.Tx.unseen g.O.Tx.sent g.G.GossipRx.keeps g.G.GossipRx.about place other is mate;
+        → Knows g.O.Tx.clear g.O.Tx.unseen g.O.Tx.sent g.G.GossipRx.keeps g.G.GossipRx.about g.G.GossipRx.due place other is mate;
   }
 
 abbrev pub invariant-loop-other : goal.invariant-loop-other

@@ -7,12 +7,12 @@ use Rattle.placement.specs.Config.{IsOneOf}
 use Rattle.mail_contract.specs.Boxes.{FindsNothing, box_of}
 use Rattle.worker_core.specs.Share.{Share}
 use Rattle.worker_core.specs.State.{PlainWorker, dirty, kept_request, lists_of}
-use Rattle.drain_turns.specs.Ready.{AreReady, FindPlaces, FreesPlaces, HasHeard, HaveGoneOn, Knows, MatesHeard, Steady, left_to, steadies, steady_of}
-use Rattle.drain_turns.specs.Turning.{IsDone, SomeBack}
+use Rattle.drain_turns.specs.Ready.{AreReady, FindPlaces, FreesPlaces, HaveGoneOn, Hears, Knows, MatesMiss, Steady, left_to, steadies, steady_of}
+use Rattle.drain_turns.specs.Turning.{IsDone, Owes, SomeBack}
 use Rattle.drain_steps.proofs.PlacesLemmas.{now_there}
 use Rattle.drain_turns.proofs.PassesGoingOn.{all_through, places_stay, ready_stays}
 use Rattle.drain_turns.proofs.PassesHeldLemmas.{no_reply_held, none_to_take}
-use Rattle.drain_turns.proofs.PassesTurnLemmas.{all_met, has_heard, none_back, one_goes_on}
+use Rattle.drain_turns.proofs.PassesTurnLemmas.{all_met, hears_mates, one_goes_on, some_missing}
 use Rattle.drain_turns.proofs.passes.turn_at.Given.{Over}
 use Rattle.drain_turns.proofs.passes.turn_at.Goals as goal
 use Rattle.drain_turns.proofs.passes.turn_at.Goals.{After-index-workers-place, After-turn_out}
@@ -88,7 +88,7 @@ module _ (g : Over) where
 
     -- it knows of each mate
     knows : (other : ℕ) (mate : ItsSteady) → other ≢ c.args.place → slice_get (all_steady c.args.workers.now) other ≡ Some mate
-        → Knows g.O.Tx.clear g.O.Tx.unseen g.O.Tx.sent g.G.GossipRx.keeps g.G.GossipRx.about c.args.place other was mate
+        → Knows g.O.Tx.clear g.O.Tx.unseen g.O.Tx.sent g.G.GossipRx.keeps g.G.GossipRx.about g.G.GossipRx.due c.args.place other was mate
     knows other mate apart its_there =
         c.show_to_all.ensures.knows other was mate apart was_there
         (subst (λ those. slice_get those other ≡ Some mate) {x = all_steady c.args.workers.now} {y = all_steady c.show_to_all.new.workers} (sym c.show_to_all.ensures.steady) its_there)
@@ -96,11 +96,12 @@ module _ (g : Over) where
     others : (at : ℕ) → at ≢ c.args.place → slice_get (all_steady now) at ≡ slice_get (all_steady c.args.workers.now) at
     others at apart = ap (λ those. slice_get those at) steady_now ∙ stays_elsewhere (all_steady c.args.workers.now) c.args.place at (steady is) apart
 
-    changed : (before after : ItsSteady) → slice_get (all_steady c.args.workers.now) c.args.place ≡ Some before → slice_get (all_steady now) c.args.place ≡ Some after
-        → left_to (λ its. g.Q.Rx.senders (g.Q.Rx.key its)) g.Q.Rx.received g.Q.Rx.about before ≡ 0 → dirty after.state ≤ dirty before.state
-    changed before after before_there after_there =
-        subst (λ (both : ItsSteady × ItsSteady). left_to (λ its. g.Q.Rx.senders (g.Q.Rx.key its)) g.Q.Rx.received g.Q.Rx.about both.0 ≡ 0 → dirty both.1.state ≤ dirty both.0.state)
-        (λ j. (same_Some (steady was) before (sym steady_was ∙ before_there) j, same_Some (steady is) after (sym steady_is ∙ after_there) j)) c.turn_out.ensures.changed
+    owes : (before after : ItsSteady) → slice_get (all_steady c.args.workers.now) c.args.place ≡ Some before → slice_get (all_steady now) c.args.place ≡ Some after
+        → left_to (λ its. g.Q.Rx.senders (g.Q.Rx.key its)) g.Q.Rx.received g.Q.Rx.about before ≡ 0 → Owes before.told after.told (dirty before.state) (dirty after.state)
+    owes before after before_there after_there =
+        subst (λ (both : ItsSteady × ItsSteady). left_to (λ its. g.Q.Rx.senders (g.Q.Rx.key its)) g.Q.Rx.received g.Q.Rx.about both.0 ≡ 0
+        → Owes both.0.told both.1.told (dirty both.0.state) (dirty both.1.state))
+        (λ j. (same_Some (steady was) before (sym steady_was ∙ before_there) j, same_Some (steady is) after (sym steady_is ∙ after_there) j)) c.turn_out.ensures.owes
 
     abbrev Finds : Type 0
     Finds = FindPlaces g.G.GossipRx.keeps g.Q.Rx.about g.T.Tx.sent (λ its. g.Q.Rx.senders (g.Q.Rx.key its)) c.args.workers.now
@@ -129,19 +130,19 @@ module _ (g : Over) where
     mates : length was.ends.gossip_out.items + 1 ≡ length c.args.workers.now
     mates = (ready_stays c.args.workers.now c.show_to_all.new.workers c.show_to_all.ensures.gone_on c.requires.ready).are_mates.mates c.args.place was was_there ∙ c.show_to_all.ensures.gone_on.long
 
-    -- where it was Blocked, fewer keys are left to tell
-    fewer : is.state.held ≡ None → FreesPlaces g.G.GossipRx.keeps → MatesHeard c.args.place (all_steady c.args.workers.now)
+    -- where it was Blocked, fewer keys are left to tell, or some mate misses a batch
+    busy : is.state.held ≡ None → FreesPlaces g.G.GossipRx.keeps
         → IsTrue (is_some is.state.held) ⊎ ((dirty is.state + 1 ≤ dirty was.state) ⊎ SomeBack g.O.Tx.clear g.O.Tx.roomy g.O.Tx.unseen was.ends.gossip_out.items)
-        → dirty is.state + 1 ≤ dirty was.state
-    fewer not_held frees heard blocked =
+        → (dirty is.state + 1 ≤ dirty was.state) ⊎ MatesMiss c.args.place (all_steady c.args.workers.now)
+    busy not_held frees blocked =
         elim blocked [
           | inl held ↦ absurd (false≢true (sym (ap is_some not_held) ∙ held))
           | inr rest ↦
               elim rest [
-                | inl fell ↦ fell
+                | inl fell ↦ inl fell
                 | inr back ↦
-                    absurd (none_back g.O.Tx.key g.O.Tx.number g.G.GossipRx.key g.G.GossipRx.got (all_steady c.args.workers.now) c.args.place was is frees steady_was
-                    knows (length c.args.workers.now) (length-map c.args.workers.now steady) mates heard back)
+                    inr (some_missing g.O.Tx.key g.O.Tx.number g.G.GossipRx.key g.G.GossipRx.got (all_steady c.args.workers.now) c.args.place was is frees steady_was
+                    knows (length c.args.workers.now) (length-map c.args.workers.now steady) mates back)
               ]
         ]
 
@@ -162,8 +163,8 @@ returns-in_err-idle-clause-gone_on g c = gone_on g (goal.at.returns-in_err-idle-
 pub returns-in_err-idle-clause-others : goal.returns-in_err-idle-clause-others
 returns-in_err-idle-clause-others g c = others g (goal.at.returns-in_err-idle-clause-others g c).After-turn_out
 
-pub returns-in_err-idle-clause-changed : goal.returns-in_err-idle-clause-changed
-returns-in_err-idle-clause-changed g c = changed g (goal.at.returns-in_err-idle-clause-changed g c).After-turn_out
+pub returns-in_err-idle-clause-owes : goal.returns-in_err-idle-clause-owes
+returns-in_err-idle-clause-owes g c = owes g (goal.at.returns-in_err-idle-clause-owes g c).After-turn_out
 
 pub returns-clause-gone_on : goal.returns-clause-gone_on
 returns-clause-gone_on g c = gone_on g (goal.at.returns-clause-gone_on g c).After-turn_out
@@ -171,8 +172,8 @@ returns-clause-gone_on g c = gone_on g (goal.at.returns-clause-gone_on g c).Afte
 pub returns-clause-others : goal.returns-clause-others
 returns-clause-others g c = others g (goal.at.returns-clause-others g c).After-turn_out
 
-pub returns-clause-changed : goal.returns-clause-changed
-returns-clause-changed g c = changed g (goal.at.returns-clause-changed g c).After-turn_out
+pub returns-clause-owes : goal.returns-clause-owes
+returns-clause-owes g c = owes g (goal.at.returns-clause-owes g c).After-turn_out
 
 pub returns-clause-idle : goal.returns-clause-idle
 returns-clause-idle g c = λ idle now there.
@@ -195,15 +196,15 @@ returns-clause-rests g c = λ finds now there.
 pub returns-clause-hears : goal.returns-clause-hears
 returns-clause-hears g c = λ frees other apart.
     let here = (goal.at.returns-clause-hears g c).After-turn_out in
-    subst (HasHeard other c.args.place) (sym (steady_now g here))
-    (has_heard g.O.Tx.key g.O.Tx.number g.G.GossipRx.key g.G.GossipRx.got (all_steady g c.args.workers.now) c.args.place (was g here) (is g here) frees (steady_was g here)
-    (knows g here) c.turn_out.ensures.gossip_stand c.in_ok-idle.ensures.no_gossip.none other apart)
+    subst (Hears other c.args.place (all_steady g c.args.workers.now)) (sym (steady_now g here))
+    (hears_mates g.O.Tx.key g.O.Tx.number g.G.GossipRx.key g.G.GossipRx.got (all_steady g c.args.workers.now) c.args.place (was g here) (is g here) frees (steady_was g here)
+    (knows g here) (c.in_ok-idle.ensures.hears frees.advances) other apart)
 
-pub returns-clause-fell : goal.returns-clause-fell
-returns-clause-fell g c = λ finds heard busy before after before_there after_there none_left.
-    let here = (goal.at.returns-clause-fell g c).After-turn_out in
+pub returns-clause-busy : goal.returns-clause-busy
+returns-clause-busy g c = λ finds busy_is before after before_there after_there none_left.
+    let here = (goal.at.returns-clause-busy g c).After-turn_out in
     let before_is = same_Some (steady g (was g here)) before (sym (steady_was g here) ∙ before_there) in
     let after_is = same_Some (steady g (is g here)) after (sym (steady_is g here) ∙ after_there) in
-    subst (λ (both : ItsSteady g × ItsSteady g). dirty both.1.state + 1 ≤ dirty both.0.state) (λ j. (before_is j, after_is j))
-    (fewer g here (none_held g here c.attest.ensures.share finds) finds.frees heard
-    (c.in_ok-idle.ensures.blocked busy (subst (λ its. left_to (λ its. g.Q.Rx.senders (g.Q.Rx.key its)) g.Q.Rx.received g.Q.Rx.about its ≡ 0) (sym before_is) none_left)))
+    subst (λ (both : ItsSteady g × ItsSteady g). (dirty both.1.state + 1 ≤ dirty both.0.state) ⊎ MatesMiss c.args.place (all_steady g c.args.workers.now)) (λ j. (before_is j, after_is j))
+    (busy g here (none_held g here c.attest.ensures.share finds) finds.frees
+    (c.in_ok-idle.ensures.blocked busy_is (subst (λ its. left_to (λ its. g.Q.Rx.senders (g.Q.Rx.key its)) g.Q.Rx.received g.Q.Rx.about its ≡ 0) (sym before_is) none_left)))

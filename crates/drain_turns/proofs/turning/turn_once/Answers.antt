@@ -3,8 +3,9 @@ use Rattle.worker_core.specs.Room.{RoomAt}
 use Rattle.worker_core.specs.State.{PlainWorker}
 use Rattle.run_measure.proofs.ServedLemmas.{served_if}
 use Rattle.drain_steps.proofs.ItemsLemmas.{long_alike}
+use Rattle.drain_turns.proofs.DueLemmas.{due_once}
 use Rattle.drain_turns.proofs.TurningLemmas.{gone_on_once}
-use Rattle.drain_turns.proofs.TurningOnceLemmas.{Boxes, Mates, turn_changes, turn_joins, turn_leaves, turn_never_blocked, turn_rooms, turn_serves}
+use Rattle.drain_turns.proofs.TurningOnceLemmas.{Boxes, Mates, turn_joins, turn_leaves, turn_never_blocked, turn_owes, turn_rooms, turn_serves}
 use Rattle.drain_turns.proofs.turning.turn_once.Given.{Over}
 use Rattle.drain_turns.proofs.turning.turn_once.Goals as goal
 use Rattle.drain_turns.proofs.turning.turn_once.Goals.{After-attest-2}
@@ -44,7 +45,8 @@ returns-clause-goes_on g c =
       gossip_stand = once.1;
       left = leaves.0;
       to_serve = leaves.1;
-      changed = turn_changes _ _ _ _ _ _ _ _ _ _ (mates g c) c.turn-did.result _ _ _ (boxes g c) ensures.did;
+      owes = turn_owes _ _ _ _ _ _ _ _ _ _ (mates g c) c.turn-did.result _ _ _ (boxes g c) ensures.did;
+      stay_due = due_once _ _ _ _ ensures.gossip;
     }
 
 pub returns-clause-served : goal.returns-clause-served

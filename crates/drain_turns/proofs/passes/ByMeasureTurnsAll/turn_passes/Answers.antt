@@ -7,11 +7,10 @@ pub loop-idle-init : goal.loop-idle-init
 loop-idle-init g c = record {
   gone_on = c.pass.ensures.gone_on;
   done = c.in_ok-idle.ensures.done;
-  heard = elim (c.requires.room refl) [
+  rested = elim (c.requires.room refl) [
     | inl full ↦ inl (c.in_ok-idle.ensures.never_full full)
     | inr finds ↦ inr (record {
       finds = places_stay c.args.workers.now c.pass.new.workers c.pass.ensures.gone_on finds;
-      heard = c.in_ok-idle.ensures.hears finds.frees;
       none_left = c.in_ok-idle.ensures.rests finds;
     })
   ];
@@ -30,20 +29,19 @@ smaller true after before busy fell = absurd (false≢true (sym busy))
 smaller false after before busy fell = omega (arith, fell)
 
 pub loop-idle-smaller : goal.loop-idle-smaller
-loop-idle-smaller g c = elim c.loop-idle.invariant.heard [
+loop-idle-smaller g c = elim c.loop-idle.invariant.rested [
   | inl idle ↦ absurd (false≢true (sym c.loop-idle-test.true ∙ idle))
-  | inr are ↦ smaller c.loop-idle.idle _ _ c.loop-idle-test.true (c.in_ok-idle-2.ensures.fell are.finds are.heard are.none_left)
+  | inr are ↦ smaller c.loop-idle.idle _ _ c.loop-idle-test.true (c.in_ok-idle-2.ensures.fell are.finds are.none_left)
 ]
 
 pub loop-idle-preserved : goal.loop-idle-preserved
 loop-idle-preserved g c = record {
   gone_on = all_through c.args.workers.now c.loop-idle.workers c.pass-in-loop-idle.new.workers c.loop-idle.invariant.gone_on c.pass-in-loop-idle.ensures.gone_on;
   done = c.in_ok-idle-2.ensures.done;
-  heard = elim c.loop-idle.invariant.heard [
+  rested = elim c.loop-idle.invariant.rested [
     | inl idle ↦ absurd (false≢true (sym c.loop-idle-test.true ∙ idle))
     | inr are ↦ inr (record {
       finds = places_stay c.loop-idle.workers c.pass-in-loop-idle.new.workers c.pass-in-loop-idle.ensures.gone_on are.finds;
-      heard = c.in_ok-idle-2.ensures.hears are.finds.frees;
       none_left = c.in_ok-idle-2.ensures.rests are.finds;
     })
   ];
