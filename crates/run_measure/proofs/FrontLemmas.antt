@@ -1,5 +1,5 @@
 -- Lists that go on: one is the front of the next.
-use Rattle.std.specs.Prelude.{◌≡◌, ℕ, ◌≤◌, List, ◌++◌, drop, length, take}
+use Rattle.std.specs.Prelude.{◌≡◌, ◌≤◌, List, ◌++◌, drop, length, take}
 use Rattle.std.proofs.Common.{◌∙◌, ap, arith, length-append, subst, sym}
 use Rattle.std.proofs.Math.Seq.{take-append_seam, take-length}
 use Rattle.std.proofs.lemmas.List.{take-append-drop, take-append-le}
