@@ -5,7 +5,7 @@ use Rattle.std.proofs.lemmas.List.{length-map}
 use Rattle.mail_contract.specs.Boxes.{FindsNothing, box_of}
 use Rattle.mail_contract.specs.Parts.{Parts}
 use Rattle.mail_contract.specs.Standing.{About}
-use Rattle.mail_contract.specs.Takes.{Answers, IsFront, from_sender}
+use Rattle.mail_contract.specs.Takes.{Answers, from_sender}
 use Rattle.placement.specs.Config.{IsOneOf}
 use Rattle.session_proxy.specs.State as sessions
 use Rattle.store_msg.specs.Reply.{PlainReply}

@@ -1,4 +1,4 @@
-use Rattle.std.proofs.Common.{◌≡◌, ◌∙◌, ◌≤◌, false, IsTrue, None, arith, inl, inr, length, lit≤, map, subst, sym}
+use Rattle.std.proofs.Common.{◌≡◌, ◌∙◌, false, IsTrue, None, arith, inl, inr, length, lit≤, map, subst, sym}
 use Rattle.std.proofs.lemmas.Bool.{cases_Bool, false≢true}
 use Rattle.std.proofs.lemmas.List.{length-map}
 use Rattle.std.proofs.lemmas.Option.{slice_get_within}
