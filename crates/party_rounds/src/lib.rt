@@ -8,11 +8,14 @@
 //!
 //! The crate has no definitions of its own: what a run is while it goes on is `party_run`'s, how far it is
 //! `party_steps`', what is known of it between rounds `party_sweep`'s, and what it is once it is drained
-//! `drain_ledger`'s.
+//! `drain_ledger`'s. It passes on what whoever serves a script has to name: kinds of mail, gates and waiting.
 #![tactic(auto)]
 
 mod driver;
 mod waiting;
 
+pub use drain_steps::Waiting;
 pub use driver::{round, run_rounds, serve_with};
+pub use party_ends::{QueueMaker, RingMaker};
+pub use party_epochs::{FreeGate, Gate};
 pub use waiting::serve_waiting;

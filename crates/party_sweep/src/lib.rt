@@ -7,7 +7,8 @@
 //! nor wants for a place.
 //!
 //! `specs/Sweeping.antt` says what is known of the parties on the way. The crate stands on `party_beside` and
-//! `party_steps`, and on `run_waiting` for why no session waits in vain.
+//! `party_steps`, and on `run_waiting` for why no session waits in vain. It passes on what parts the parties before the
+//! epoch.
 #![tactic(auto)]
 
 mod polling;
@@ -15,5 +16,6 @@ mod showing;
 mod sweeping;
 mod turning;
 
+pub use party_beside::part_all;
 pub use showing::show_told;
 pub use sweeping::sweep;

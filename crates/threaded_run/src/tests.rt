@@ -5,11 +5,8 @@ ghost use Rattle.session_known.specs.Script.{IsValidScript};
 
 use super::*;
 use anna_check::{Verdict, check};
-use drain_steps::Waiting;
 use lattice_laws::NoMemory;
-use party_ends::QueueMaker;
-use party_epochs::FreeGate;
-use party_rounds::serve_waiting;
+use party_rounds::{FreeGate, QueueMaker, Waiting, serve_waiting};
 use script_reader::read_script;
 use session_known::Script;
 use std::alloc::Global;
