@@ -44,7 +44,8 @@ FrontsStay complete received about received_now about_now =
 abbrev pub AreInRange : {M : Type 0} → ℕ → List (ℕ × M) → Type 0
 AreInRange senders received = All (λ message. IsOneOf senders message.0) received
 
--- Of what a worker told its mates and has to tell them: it takes nothing back, and each batch that went out left a key less to tell.
+-- Of how many batches a worker told its mates, and how many keys it has to tell them: each was told no fewer, and each batch that went out left a key
+-- less to tell at least.
 pub record Owes (told told_now : List (List Entries)) (keys keys_now : ℕ) : Type 0 where
   pub long : length told_now ≡ length told
   pub more : (place : ℕ) → length (slice_index_or told place []) ≤ length (slice_index_or told_now place [])

@@ -12,7 +12,7 @@ pub record Parts : Type 0 where
   pub finite : Bool
   -- where a message is left that a shown sender had sent when it was last beside the box, one is taken before nothing is found; a box that hands out in order does so where it is complete
   pub advances : Bool
-  -- a sender whose messages were all taken when it was last beside its box finds a place for the next
+  -- a sender of whose messages none was missing when it was last beside its box finds a place for the next
   pub freed : Bool
   -- before nothing is found, all is taken that a shown sender had sent when it was last beside the box; and then it is told that what was taken was sent by it
   pub complete : Bool
