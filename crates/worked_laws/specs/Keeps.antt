@@ -44,17 +44,6 @@ rings = record {
   sure = false;
 }
 
--- a scramble over rings
+-- a scramble over rings: a held message may come later, and the draw says whose comes
 abbrev pub scramble : Parts
-scramble = record {
-  shows = true;
-  bounded = false;
-  roomy = true;
-  finite = true;
-  advances = true;
-  freed = true;
-  complete = true;
-  exact = true;
-  turns = false;
-  sure = false;
-}
+scramble = record rings { bounded = false; turns = false }
