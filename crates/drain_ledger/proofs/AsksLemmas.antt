@@ -3,6 +3,7 @@ use Rattle.std.specs.Prelude.{◌≡◌, ℕ, zero, suc, ◌+◌, ◌-◌, ◌<�
 use Rattle.std.proofs.Common.{◌∙◌, refl, sym, ap, subst, arith}
 use Rattle.std.proofs.lemmas.List.{length-map}
 use Rattle.std.proofs.lemmas.Option.{get_or_from_slice_get, slice_get_within}
+use Rattle.mail_contract.proofs.FrontLemmas.{front_short}
 use Rattle.mail_contract.specs.Parts.{Parts}
 use Rattle.mail_contract.specs.Standing.{About, Settled}
 use Rattle.mail_contract.specs.Takes.{IsFront, from_sender}
@@ -19,12 +20,11 @@ use Rattle.store_msg.specs.declared.ends.SessionEndsOver.{SessionEndsOver}
 use Rattle.store_msg.specs.declared.request.Request.{Request}
 use Rattle.worker_core.specs.Share.{Share}
 use Rattle.worker_core.specs.State.{Entries, PlainWorker, lists_of}
+use Rattle.run_ledger.proofs.MessagesLemmas.{each_from}
 use Rattle.run_ledger.specs.Parties.{HasEnded, HaveEnded}
 use Rattle.run_ledger.proofs.EndedSessionsLemmas.{none_sent}
 use Rattle.run_ledger.proofs.GetsLemmas.{gets_in, gets_to}
 use Rattle.run_ledger.proofs.HeldLemmas.{own_taken}
-use Rattle.run_ledger.proofs.MessagesLemmas.{each_from}
-pub use Rattle.run_ledger.proofs.MessagesLemmas.{front_few}
 use Rattle.run_ledger.proofs.SessionsLemmas.{by_number}
 use Rattle.run_ledger.proofs.UnheardLemmas.{few_unheard}
 use Rattle.drain_turns.specs.Ready.{AreReplied, FindPlaces, FreesPlaces}
@@ -145,7 +145,7 @@ module _ {S T O Q G R SK TK OK QK GK RK : Type 0}
         (own session it.its it.its_is within) (place + 1) (omega arith, omega (arith, inside, as_many))
         in
         let few =
-        front_few (from_sender (place + 1) (replies_received it.its.1.replies)) (replied_to replied worker session) (fronts place session worker it.its is it.its_is)
+        front_short (from_sender (place + 1) (replies_received it.its.1.replies)) (replied_to replied worker session) (fronts place session worker it.its is it.its_is)
         in
         record {
           its = it.its;

@@ -5,6 +5,7 @@ use Rattle.std.proofs.lemmas.Bool.{false≢true}
 use Rattle.std.proofs.lemmas.List.{append-nil, length-append, same_from_push}
 use Rattle.std.proofs.lemmas.List.Elements.{All-push}
 use Rattle.lattice_laws.specs.declared.lattice.NoMemory.{NoMemory}
+use Rattle.mail_contract.proofs.FrontLemmas.{front_short}
 use Rattle.mail_contract.specs.Boxes.{Box, MayTake, Takes}
 use Rattle.mail_contract.specs.Parts.{Parts}
 use Rattle.mail_contract.specs.Standing.{About, AllStand, Apart, OfSent, Settled, Shown, Standing}
@@ -12,7 +13,6 @@ use Rattle.mail_contract.specs.Takes.{IsFront, IsFrontOfSent, from_sender}
 use Rattle.mail_contract.proofs.WeakLemmas.{none_less, one_less}
 use Rattle.mail_contract.proofs.WovenLemmas.{from_sender_more, from_sender_same}
 use Rattle.placement.specs.Config.{IsOneOf}
-use Rattle.run_ledger.proofs.MessagesLemmas.{front_few}
 use Rattle.drain_turns.specs.Turning.{AreInRange, AreKnown, FrontsStay, IsKnown, known_sent, not_taken}
 
 -- what stays of a box
@@ -125,6 +125,6 @@ module _ {M : Type 0} where
 
       short : length (from_sender message.0 received_now) ≤ length (known_sent (about_now message.0).standing)
       short =
-          front_few (from_sender message.0 received_now) (known_sent (about_now message.0).standing)
+          front_short (from_sender message.0 received_now) (known_sent (about_now message.0).standing)
           (of_known complete (about_now message.0).standing (λ sent. IsFront (from_sender message.0 received_now) sent)
           (known message.0 one_of).0 (known message.0 one_of).1)

@@ -1,6 +1,7 @@
 pub mod BoxesLemmas
 pub mod CountsLemmas
 pub mod DealLemmas
+pub mod FrontLemmas
 pub mod LanesLemmas
 pub mod MapsLemmas
 pub mod PlainLemmas

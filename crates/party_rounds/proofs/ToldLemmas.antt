@@ -1,6 +1,7 @@
 -- What is told of the parties of a run that were held beside each other.
 use Rattle.std.specs.Prelude.{◌≡◌, ℕ, suc, ◌+◌, ◌-◌, List, [], ◌∷◌, length, map, slice_index_or, Option}
 use Rattle.std.proofs.Common.{◌∙◌, ap, arith, length-append, subst}
+use Rattle.mail_contract.proofs.FrontLemmas.{front_short}
 use Rattle.mail_contract.specs.Takes.{IsFront, from_sender}
 use Rattle.session_proxy.specs.State as sessions
 use Rattle.store_msg.specs.Reply.{PlainReply}
@@ -10,7 +11,6 @@ use Rattle.worker_core.specs.State as workers
 use Rattle.drain_ledger.specs.Handed.{AreFrontsOfSent}
 use Rattle.drain_steps.proofs.ItemsLemmas.{mapped, of_mapped}
 use Rattle.party_steps.specs.Polling.{left_by}
-use Rattle.run_ledger.proofs.MessagesLemmas.{front_few}
 use Rattle.run_measure.specs.Measure.{AreAllCounted, replied}
 use Rattle.run_waiting.specs.Told.{AreAllTold}
 
@@ -30,9 +30,9 @@ pub all_counted : (all : List workers.Lists) (those : List sessions.Lists) → A
 all_counted all those told place at worker its there here =
     let is = told place at worker its there here in
     record {
-      requests = front_few _ _ is.requests;
+      requests = front_short _ _ is.requests;
       replies =
-          let few = front_few _ _ is.replies in
+          let few = front_short _ _ is.replies in
           let sent = ap (λ session. length (slice_index_or worker.replied session [])) (place_of at) in
           omega (arith, few, sent, with_held at worker);
     }

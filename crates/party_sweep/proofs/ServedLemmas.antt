@@ -1,9 +1,10 @@
 -- What a worker that is held beside all sessions knows of them, and that it has served them all once it rests.
-use Rattle.std.specs.Prelude.{◌≡◌, ◌≢◌, ℕ, ◌+◌, ◌-◌, ◌<◌, ◌≤◌, Bool, true, false, IsTrue, is_some, List, [], length, map, slice_get, take, Option, Some, None}
+use Rattle.std.specs.Prelude.{◌≡◌, ◌≢◌, ℕ, ◌+◌, ◌-◌, ◌<◌, ◌≤◌, Bool, true, false, IsTrue, is_some, List, [], length, map, slice_get, Option, Some, None}
 use Rattle.std.proofs.Common.{◌∙◌, refl, sym, ap, subst, inl, inr, arith}
 use Rattle.std.proofs.lemmas.Bool.{false≢true}
-use Rattle.std.proofs.lemmas.List.{length-map, take_all}
+use Rattle.std.proofs.lemmas.List.{length-map}
 use Rattle.std.proofs.lemmas.Option.{get_or_from_slice_get}
+use Rattle.mail_contract.proofs.FrontLemmas.{front_full}
 use Rattle.mail_contract.specs.Boxes.{FindsNothing, box_of}
 use Rattle.mail_contract.specs.Parts.{Parts}
 use Rattle.mail_contract.specs.Standing.{About, AreMet, OfSent, Settled, Shown, Standing}
@@ -15,7 +16,6 @@ use Rattle.store_msg.specs.Reply.{PlainReply}
 use Rattle.store_msg.specs.declared.request.Request.{Request}
 use Rattle.worker_core.specs.Share.{IsHeldFor, Share}
 use Rattle.worker_core.specs.State.{Entries, PlainWorker, lists_of}
-use Rattle.run_ledger.proofs.MessagesLemmas.{front_few}
 use Rattle.run_waiting.proofs.HeldLemmas.{held_find_places}
 use Rattle.run_waiting.specs.Waiting.{AreSigned}
 use Rattle.drain_steps.proofs.ItemsLemmas.{mapped, there_is}
@@ -42,16 +42,6 @@ module _ {M : Type 0} where
   pub of_shown : (complete : Bool) (standing : Standing M) (sent : List M) (holds : List M → Type 0) → IsTrue complete → standing ≡ Shown sent → OfSent complete standing holds → holds sent
   of_shown true standing sent holds is shown told = subst (λ its. OfSent true its holds) shown told
   of_shown false standing sent holds is shown told = absurd (false≢true is)
-
-  -- the whole is a front of itself
-  whole_front : (whole : List M) → IsFront whole whole
-  whole_front whole = take_all (length whole) whole (omega arith)
-
-  -- a front that is as long as the whole is the whole
-  pub front_whole : (front whole : List M) → IsFront front whole → length whole ≤ length front → front ≡ whole
-  front_whole front whole is long =
-      let same : length front ≡ length whole = omega (arith, long, front_few front whole is) in
-      sym is ∙ ap (λ n. take n whole) same ∙ whole_front whole
 
 module _ {S T O Q G R : Type 0} {asked : S → List Request} {asks_clear : S → Type 0} {replied : T → List PlainReply} {replies_clear : T → Type 0}
     {told : O → List Entries} {got : G → ℕ → ℕ → Option Entries} {keeps : Parts} {requests_received : Q → List (ℕ × Request)} {requests_about : Q → ℕ → About Request}
@@ -111,7 +101,7 @@ module _ {S T O Q G R : Type 0} {asked : S → List Request} {asks_clear : S →
         let few_so : length (sent_at replied is.ends.replies.items at) ≤ length heard =
         subst (λ n. length (sent_at replied is.ends.replies.items n) ≤ length heard) (omega arith) few
         in
-        let whole : heard ≡ at_first = front_whole heard at_first (its.replies_told free.1.complete) (omega (arith, rested.replied_more at, few_so)) in
+        let whole : heard ≡ at_first = front_full heard at_first (its.replies_told free.1.complete) (omega (arith, rested.replied_more at, few_so)) in
         let as_long = ap length whole in
         let clear = its.replies_freed free.1.freed (omega (arith, as_long)) sender.0 sender.1 in
         let wants = subst (HasSentSince replies_clear replied was.ends.replies.items is.ends.replies.items) held rested.wants_place in

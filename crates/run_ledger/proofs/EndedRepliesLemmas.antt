@@ -4,6 +4,7 @@ use Rattle.std.proofs.Common.{◌∙◌, refl, sym, ap, subst, arith}
 use Rattle.std.proofs.lemmas.List.{take_all}
 use Rattle.std.proofs.lemmas.List.Elements.{All-head, All-map, All-tail}
 use Rattle.std.proofs.lemmas.Slice.Zip.{AllZip-long}
+use Rattle.mail_contract.proofs.FrontLemmas.{front_short}
 use Rattle.mail_contract.specs.Takes.{IsFront, from_sender}
 use Rattle.mail_contract.proofs.WovenLemmas.{from_sender_here}
 use Rattle.session_known.specs.Requests.{requests_of}
@@ -15,11 +16,11 @@ use Rattle.session_proxy.specs.Share.{to_worker}
 use Rattle.session_proxy.specs.State as sessions
 use Rattle.store_msg.specs.Reply.{PlainReply}
 use Rattle.worker_core.specs.Share.{IsReplyBy, gets_after}
+use Rattle.run_ledger.proofs.MessagesLemmas.{each_from}
 use Rattle.run_ledger.specs.Parties.{AreDrained, HasEnded, IsSealed, Parties, SealedWorker, sealed_at, session_at}
 use Rattle.run_ledger.proofs.EndedSessionsLemmas.{answered, its_replies, part_taken, sent_to}
 use Rattle.run_ledger.proofs.GetsLemmas.{as_many_gets, by_worker, from_worker, gets_in, lines_as_many}
 use Rattle.run_ledger.proofs.HeldLemmas.{own_taken}
-use Rattle.run_ledger.proofs.MessagesLemmas.{each_from, front_few}
 use Rattle.run_ledger.proofs.MomentsLemmas.{in_all}
 use Rattle.run_ledger.proofs.PartiesLemmas.{ended, me_is, of_session, sealed}
 use Rattle.run_ledger.proofs.RepliesLemmas.{all_by_worker}
@@ -102,7 +103,7 @@ module _ (script : Script) (table : List (List ℕ)) (report : Report) (parties 
 
     -- so no more was heard of it than the replies to such asks
     few_heard : length (from_sender worker of_it.received) ≤ length (from_worker worker (in_all replies_to))
-    few_heard = omega (arith, front_few (from_sender worker of_it.received) (replied_to of_worker session) front, as_many_sent)
+    few_heard = omega (arith, front_short (from_sender worker of_it.received) (replied_to of_worker session) front, as_many_sent)
 
     -- and they are of its number
     of_its_worker : All (λ reply. reply.worker ≡ worker) (from_sender worker of_it.received)

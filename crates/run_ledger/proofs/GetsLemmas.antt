@@ -9,6 +9,7 @@ use Rattle.std.proofs.lemmas.List.Concat.{flat_map-append}
 use Rattle.std.proofs.lemmas.List.Elements.{All-append, All-cons, All-nil, All-weaker}
 use Rattle.std.proofs.lemmas.List.Sums.{sum_by-cons, sum_by-le}
 use Rattle.lattice_laws.proofs.MembersLemmas.{contains_first, contains_later}
+use Rattle.mail_contract.proofs.FrontLemmas.{front_splits}
 use Rattle.mail_contract.specs.Takes.{IsFront, from_sender}
 use Rattle.mail_contract.proofs.WovenLemmas.{from_sender-append, from_sender_here, from_sender_there}
 use Rattle.composed_value.specs.declared.put.Put.{Put}
@@ -31,7 +32,6 @@ use Rattle.store_msg.specs.declared.request.Request.{Request}
 use Rattle.store_msg.specs.declared.request.Request.TheVariants as requests
 use Rattle.worker_core.specs.Share.{Asked, asked_by, gets_after}
 use Rattle.worker_core.proofs.RepliesLemmas.{gets_after-append}
-use Rattle.run_ledger.proofs.MessagesLemmas.{front_splits}
 use Rattle.run_ledger.proofs.MomentsLemmas.{in_all}
 use Rattle.run_ledger.proofs.OpenAsksLemmas.{ArePuts, puts_are}
 

@@ -6,6 +6,7 @@ use Rattle.std.proofs.lemmas.Bool.{eq-eqb}
 use Rattle.std.proofs.lemmas.List.Elements.{All-weaker, Contains-append_left}
 use Rattle.std.proofs.lemmas.Slice.Zip.{AllZip-long}
 use Rattle.lattice_laws.proofs.ListLemmas.{All-front}
+use Rattle.mail_contract.proofs.FrontLemmas.{front_all}
 use Rattle.mail_contract.specs.Takes.{IsFront, from_sender}
 use Rattle.mail_contract.proofs.WovenLemmas.{from_sender-append}
 use Rattle.composed_value.specs.declared.kind.Kind.{Kind}
@@ -16,7 +17,6 @@ use Rattle.store_msg.specs.declared.request.Request.TheVariants as requests
 use Rattle.worker_core.specs.Share.{HoldsReceived, IsHeldFor, IsReplyTo, IsSession, Share, gets_after, held_for, replies_to}
 use Rattle.worker_core.specs.State.{Entries, Lists, kept_request}
 use Rattle.run_ledger.proofs.GetsLemmas.{as_many_gets, get_of, gets_came, gets_in, gets_of_both}
-use Rattle.run_ledger.proofs.MessagesLemmas.{front_all}
 use Rattle.run_ledger.proofs.RepliesLemmas.{zip_over}
 use Rattle.run_ledger.proofs.SessionsLemmas.{from_first}
 

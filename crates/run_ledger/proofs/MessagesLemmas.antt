@@ -1,26 +1,12 @@
--- Messages of several senders: what holds of those of each sender and of all; and what a front of a list has of the whole.
-use Rattle.std.specs.Prelude.{◌≡◌, ℕ, ◌≤◌, ◌==◌, true, false, if◌then◌else◌, List, [], ◌∷◌, ◌++◌, All, drop, length}
-use Rattle.std.proofs.Common.{◌∙◌, refl, sym, ap, subst, length-append, arith}
+-- Messages of several senders: what holds of those of each sender and of all.
+use Rattle.std.specs.Prelude.{ℕ, ◌==◌, true, false, if◌then◌else◌, List, [], ◌∷◌, All}
+use Rattle.std.proofs.Common.{refl, subst}
 use Rattle.std.proofs.lemmas.Bool.{eq-eqb}
-use Rattle.std.proofs.lemmas.List.{take-append-drop}
-use Rattle.std.proofs.lemmas.List.Elements.{All-cons, All-head, All-map, All-nil, All-tail, All-take}
-use Rattle.mail_contract.specs.Takes.{IsFront, from_sender}
+use Rattle.std.proofs.lemmas.List.Elements.{All-cons, All-head, All-map, All-nil, All-tail}
+use Rattle.mail_contract.specs.Takes.{from_sender}
 use Rattle.session_known.specs.Requests.{Sent}
 use Rattle.session_proxy.specs.Share.{request_of, to_worker}
 use Rattle.store_msg.specs.declared.request.Request.{Request}
-
-module _ {M : Type 0} (front whole : List M) (is : IsFront front whole) where
-  -- after a front of a list its rest follows
-  pub front_splits : whole ≡ front ++ drop (length front) whole
-  front_splits = sym (take-append-drop (length front) whole) ∙ ap (λ those. those ++ drop (length front) whole) is
-
-  -- so the front is no longer than the whole
-  pub front_few : length front ≤ length whole
-  front_few = let long = ap length front_splits ∙ length-append front (drop (length front) whole) in omega (arith, long)
-
-  -- and what holds of each of the whole holds of each of the front
-  pub front_all : (Holds : M → Type 0) → All Holds whole → All Holds front
-  front_all Holds all = subst (All Holds) is (All-take Holds (length front) whole all)
 
 -- what holds of what came of each sender holds of each message
 pub each_from : {M : Type 0} (Holds : ℕ → M → Type 0) (InRange : ℕ → Type 0) (received : List (ℕ × M))

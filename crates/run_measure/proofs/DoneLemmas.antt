@@ -5,8 +5,8 @@ use Rattle.std.proofs.Common.{◌∙◌, refl, sym, subst, arith}
 use Rattle.std.proofs.lemmas.List.Sums.{sum_by-cons}
 use Rattle.mail_contract.proofs.CountsLemmas.{no_fewer}
 use Rattle.placement.specs.Config.{IsOneOf}
+use Rattle.mail_contract.proofs.FrontLemmas.{front_short, front_through, front_whole}
 use Rattle.session_proxy.specs.State.{Lists}
-use Rattle.run_measure.proofs.FrontLemmas.{front_short, front_through, front_whole}
 use Rattle.run_measure.proofs.MeasureLemmas.{asked_all, asked_of}
 use Rattle.run_measure.specs.Laws.{DoneRises, SessionsGoOnTwice, SessionsStay}
 use Rattle.run_measure.specs.Measure.{asked, asked_to, heard_from}

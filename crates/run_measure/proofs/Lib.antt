@@ -1,5 +1,4 @@
 pub mod DoneLemmas
-pub mod FrontLemmas
 pub mod MeasureLemmas
 pub mod PaceLemmas
 pub mod PlacedLemmas

@@ -4,6 +4,7 @@ use Rattle.std.specs.List.{range_with_len}
 use Rattle.std.proofs.Common.{refl, sym, ap, subst, arith}
 use Rattle.std.proofs.lemmas.List.Sums.{sum_by-cons}
 use Rattle.std.proofs.lemmas.Option.{none-some, same_Some, slice_get_within}
+use Rattle.mail_contract.proofs.FrontLemmas.{front_short}
 use Rattle.session_proxy.proofs.FewLemmas.{has_sent_few}
 use Rattle.session_proxy.specs.Lines.{most_of_line}
 use Rattle.session_proxy.specs.Share.{most_in_all}
@@ -12,7 +13,6 @@ use Rattle.worker_core.specs.State as workers
 use Rattle.mail_contract.proofs.CountsLemmas.{from_all, lists_counted}
 use Rattle.run_measure.specs.Laws.{HearsWorkers, PollsLowerTheMeasure, TurnsLowerTheMeasure}
 use Rattle.worker_core.specs.Share.{replies_to}
-use Rattle.run_measure.proofs.FrontLemmas.{front_short}
 use Rattle.run_measure.specs.Measure.{asked, asked_to, between, between_all, heard, heard_from, replied, taken, taken_of}
 
 -- where one worker is another, what is on its way between a session and all workers changes by what is between it and that one

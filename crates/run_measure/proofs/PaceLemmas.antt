@@ -3,6 +3,7 @@ use Rattle.std.specs.Prelude.{◌≡◌, ℕ, zero, suc, ◌+◌, ◌-◌, ◌<�
 use Rattle.std.proofs.Common.{◌∙◌, ap, arith, inl, inr, length-append, refl, subst, sym}
 use Rattle.std.proofs.lemmas.Bool.{cases_lt}
 use Rattle.std.proofs.lemmas.Option.{none-some, same_Some, slice_get_within}
+use Rattle.mail_contract.proofs.FrontLemmas.{front_short, front_splits}
 use Rattle.mail_contract.specs.Takes.{IsFront}
 use Rattle.placement.specs.Asked.{home_at}
 use Rattle.composed_value.specs.declared.put.Put.{Put}
@@ -24,7 +25,6 @@ use Rattle.session_proxy.specs.Share.{AreLacking, IsAsked, IsAwaited, Share, lac
 use Rattle.session_proxy.specs.State.{Course, Lists, open_line, state_now}
 use Rattle.session_proxy.specs.declared.progress.Progress.{Progress}
 use Rattle.session_proxy.specs.declared.progress.Progress.TheVariants as progress
-use Rattle.run_measure.proofs.FrontLemmas.{front_short, front_splits}
 use Rattle.run_measure.specs.Pace.{IsPaced, SaysAsks, asks_back, back_of, rests_by}
 
 -- what stands in a list that was made of another was made of an item there

@@ -4,6 +4,7 @@ use Rattle.std.proofs.Common.{◌∙◌, sym, ap, subst, inl, inr, length-append
 use Rattle.std.proofs.lemmas.Bool.{cases_eq, cases_lt, false≢true}
 use Rattle.std.proofs.lemmas.List.{get_or-set_other, get_or-set_same, set_past}
 use Rattle.std.proofs.lemmas.List.Sums.{sum_by-set}
+use Rattle.mail_contract.proofs.FrontLemmas.{front_more, front_same, front_short}
 use Rattle.mail_contract.proofs.WovenLemmas.{from_sender-append}
 use Rattle.mail_contract.specs.Takes.{IsFront, from_sender}
 use Rattle.store_msg.specs.Reply.{PlainReply, is_found}
@@ -13,7 +14,6 @@ use Rattle.session_proxy.specs.State.{Course, IsFixed, Lists}
 use Rattle.session_proxy.specs.declared.progress.Progress.{Progress}
 use Rattle.session_proxy.specs.declared.progress.Progress.TheVariants as progress
 use Rattle.run_measure.proofs.DoneLemmas.{sent_more, took_more}
-use Rattle.run_measure.proofs.FrontLemmas.{front_more, front_same, front_short}
 use Rattle.run_measure.proofs.PlacedLemmas.{goes_to_worker}
 use Rattle.run_measure.specs.Laws.{HasPolled}
 use Rattle.run_measure.specs.Measure.{asked_to, heard_from}

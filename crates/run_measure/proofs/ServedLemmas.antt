@@ -2,11 +2,11 @@
 use Rattle.std.specs.Prelude.{◌≡◌, ℕ, Bool, List, length, None, Result, Ok, Err, OnOk}
 use Rattle.std.proofs.Common.{arith, refl, subst}
 use Rattle.lattice_laws.specs.declared.lattice.NoMemory.{NoMemory}
+use Rattle.mail_contract.proofs.FrontLemmas.{front_through, front_whole}
 use Rattle.worker_core.specs.Share.{Share, replies_to}
 use Rattle.worker_core.specs.State.{Lists}
 use Rattle.worker_core.specs.Turns.{Counts, Turns}
 use Rattle.worker_core.specs.declared.did.Did.{Did}
-use Rattle.run_measure.proofs.FrontLemmas.{front_through, front_whole}
 use Rattle.run_measure.proofs.TurningLemmas.{turned}
 use Rattle.run_measure.specs.Measure.{taken_of}
 use Rattle.run_measure.specs.Steps.{HasServed, RepliesAsTaken}

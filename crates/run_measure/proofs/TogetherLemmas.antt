@@ -4,13 +4,13 @@ use Rattle.std.specs.List.{range_with_len}
 use Rattle.std.proofs.Common.{refl, ap, subst, arith}
 use Rattle.std.proofs.lemmas.List.Sums.{sum_by-cons}
 use Rattle.std.proofs.lemmas.Option.{slice_get_within}
+use Rattle.mail_contract.proofs.FrontLemmas.{front_short}
 use Rattle.session_proxy.proofs.FewLemmas.{has_sent_few}
 use Rattle.session_proxy.specs.Lines.{most_of_line}
 use Rattle.session_proxy.specs.Share.{most_in_all}
 use Rattle.session_proxy.specs.State as sessions
 use Rattle.worker_core.specs.State as workers
 use Rattle.run_measure.specs.Laws.{IsOfWorkers, TogetherLowerTheMeasure}
-use Rattle.run_measure.proofs.FrontLemmas.{front_short}
 use Rattle.run_measure.specs.Measure.{asked, asked_to, between_all, heard, heard_from, measure, measure_of_all, replied, taken, taken_of}
 use Rattle.run_measure.specs.Steps.{HasDone, done}
 use Rattle.run_measure.proofs.MeasureLemmas.{asked_all, asked_of, heard_all, heard_of}

@@ -4,6 +4,7 @@ use Rattle.std.proofs.Common.{refl, sym, ap, ◌∙◌, inl, inr, length-append,
 use Rattle.std.proofs.lemmas.Bool.Decides.{eqb_tells}
 use Rattle.std.proofs.lemmas.Option.{none-some}
 use Rattle.lattice_laws.specs.declared.lattice.NoMemory.{NoMemory}
+use Rattle.mail_contract.proofs.FrontLemmas.{front_more, front_same}
 use Rattle.mail_contract.proofs.WovenLemmas.{from_sender_more, from_sender_same}
 use Rattle.mail_contract.specs.Takes.{IsFront, from_sender}
 use Rattle.placement.specs.Config.{IsOneOf}
@@ -16,7 +17,6 @@ use Rattle.worker_core.specs.Turns.{Counts, HandsOver, Serves, Turns, reply_to}
 use Rattle.worker_core.specs.declared.did.Did.{Did}
 use Rattle.worker_core.specs.declared.did.Did.TheVariants as did
 use Rattle.run_measure.specs.Laws.{HasTurned}
-use Rattle.run_measure.proofs.FrontLemmas.{front_more, front_same}
 use Rattle.run_measure.specs.Measure.{replied, taken, taken_of}
 use Rattle.run_measure.specs.Steps.{RepliesAsTaken}
 

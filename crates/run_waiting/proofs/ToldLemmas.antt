@@ -2,6 +2,7 @@
 use Rattle.std.specs.Prelude.{◌≡◌, ℕ, ◌-◌, List, [], All, Contains, drop, length, slice_index_or}
 use Rattle.std.proofs.Common.{◌∙◌, sym, subst}
 use Rattle.std.proofs.lemmas.List.Elements.{All-weaker, Contains-append_left}
+use Rattle.mail_contract.proofs.FrontLemmas.{front_all, front_splits}
 use Rattle.mail_contract.specs.Takes.{from_sender}
 use Rattle.placement.specs.Config.{IsOneOf}
 use Rattle.session_proxy.specs.State as sessions
@@ -10,7 +11,7 @@ use Rattle.store_msg.specs.declared.request.Request.{Request}
 use Rattle.store_msg.specs.declared.request.Request.TheVariants as requests
 use Rattle.worker_core.specs.State as workers
 use Rattle.run_ledger.proofs.HeldLemmas.{IsToOne, sent_to_gets}
-use Rattle.run_ledger.proofs.MessagesLemmas.{each_from, front_all, front_splits}
+use Rattle.run_ledger.proofs.MessagesLemmas.{each_from}
 use Rattle.run_ledger.proofs.SessionsLemmas.{by_number}
 use Rattle.run_waiting.specs.Laws.{IsWorkerOf, ToldRepliesAreToAsks}
 use Rattle.run_waiting.specs.Told.{IsTold}
