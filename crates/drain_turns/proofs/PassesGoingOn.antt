@@ -4,6 +4,7 @@ use Rattle.std.proofs.Common.{◌∙◌, refl, sym, ap, arith, inl, inr, subst}
 use Rattle.std.proofs.lemmas.List.{get_or-map, length-map}
 use Rattle.std.proofs.lemmas.List.Elements.{All-map}
 use Rattle.std.proofs.lemmas.Option.{same_Some}
+use Rattle.mail_contract.proofs.FrontLemmas.{front_short}
 use Rattle.mail_contract.specs.Parts.{Parts}
 use Rattle.mail_contract.specs.Standing.{About, IsSettled}
 use Rattle.placement.specs.Config.{IsOneOf}
@@ -170,7 +171,7 @@ module _ {Q T O G QK TK OK GK : Type 0} {request_key : Q → QK} {reply_key : T 
         let was = who_was place is there in
         let goes = goes_on.gone_on place was.0 is was.1 there in
         let enough = finds.replied place was.0 was.1 session (subst (λ n. IsOneOf n session) (as_many_items reply_key was.0.ends.replies.items is.ends.replies.items goes.keys.replies_keys) one_of) in
-        let more = goes.replied_more (session - 1) in
+        let more = front_short _ _ (goes.replied_more (session - 1)) in
         let same = ap (λ those. length (flat_map (asked_by []) (known_sent those))) (goes.stand session).0 in
         omega (arith, enough, more, same);
     senders_are = λ place is there session one_of.

@@ -4,8 +4,11 @@ use Rattle.std.proofs.Common.{◌∙◌, arith, inl, inr, refl, sym, ap, subst}
 use Rattle.std.proofs.lemmas.List.{length-map}
 use Rattle.std.proofs.lemmas.Option.{get_or_from_slice_get, same_Some}
 use Rattle.lattice_laws.specs.declared.lattice.NoMemory.{NoMemory}
+use Rattle.mail_contract.proofs.FrontLemmas.{front_short}
+use Rattle.mail_contract.specs.Takes.{IsFront}
 use Rattle.store_msg.specs.Reply.{PlainReply}
 use Rattle.store_msg.specs.declared.request.Request.{Request}
+use Rattle.worker_core.proofs.ServingLemmas.{none_back_still, none_back_through}
 use Rattle.worker_core.specs.Room.{StayClear, WantsPlace}
 use Rattle.worker_core.specs.Serving.{NoneTakenBack}
 use Rattle.worker_core.specs.State.{Entries, Lists, PlainWorker, lists_of}
@@ -18,12 +21,12 @@ use Rattle.drain_steps.proofs.ItemsLemmas.{mapped, there_too}
 use Rattle.drain_turns.specs.Turning.{HasSentSince}
 
 -- a sender that takes nothing back has sent no less
-module _ {T M : Type 0} (sent : T → List M) (before now : List T) (none_back : (place : ℕ) → length (slice_index_or (map sent before) place []) ≤ length (slice_index_or (map sent now) place [])) where
+module _ {T M : Type 0} (sent : T → List M) (before now : List T) (none_back : (place : ℕ) → IsFront (slice_index_or (map sent before) place []) (slice_index_or (map sent now) place [])) where
   no_less : (place : ℕ) (was is : T) → slice_get before place ≡ Some was → slice_get now place ≡ Some is → length (sent was) ≤ length (sent is)
   no_less place was is there here =
       let at_first = ap length (get_or_from_slice_get (map sent before) place (sent was) [] (mapped sent before place was there)) in
       let at_last = ap length (get_or_from_slice_get (map sent now) place (sent is) [] (mapped sent now place is here)) in
-      omega (arith, none_back place, at_first, at_last)
+      omega (arith, front_short (slice_index_or (map sent before) place []) (slice_index_or (map sent now) place []) (none_back place), at_first, at_last)
 
 module _ {Q T O G : Type 0} (received : Q → List (ℕ × Request)) (replied : T → List PlainReply) (told : O → List Entries) (got : G → ℕ → ℕ → Option Entries) (clear : T → Type 0) where
   abbrev lists : PlainWorker Q T O G → Lists
@@ -42,7 +45,7 @@ module _ {Q T O G : Type 0} (received : Q → List (ℕ × Request)) (replied : 
   serves_still worker = record {
     as_many = refl;
     served = λ none_kept. served_still (lists worker) none_kept;
-    none_back = λ place. omega arith;
+    none_back = none_back_still (map replied worker.ends.replies.items);
     stays = λ place was is there here is_clear. inl (subst clear (same_Some was is (sym there ∙ here)) is_clear);
   }
 
@@ -56,7 +59,8 @@ module _ {Q T O G : Type 0} (received : Q → List (ℕ × Request)) (replied : 
           let first = so_far.served none_kept in
           let long = length-map between.ends.replies.items replied ∙ so_far.as_many ∙ sym (length-map before.ends.replies.items replied) in
           served_through (lists before) (lists between) (lists now) long first (served first.kept);
-      none_back = λ place. omega (arith, so_far.none_back place, none_back place);
+      none_back =
+          none_back_through (map replied before.ends.replies.items) (map replied between.ends.replies.items) (map replied now.ends.replies.items) so_far.none_back none_back;
       stays = λ place was is there here is_clear.
           let mid = there_too between.ends.replies.items now.ends.replies.items place is as_many here in
           elim (so_far.stays place was mid.0 there mid.1 is_clear) [

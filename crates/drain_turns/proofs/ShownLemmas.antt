@@ -1,5 +1,5 @@
 -- A worker that is held beside its mates goes on, and knows more of them.
-use Rattle.std.specs.Prelude.{◌≡◌, ◌≢◌, ℕ, ◌+◌, ◌<◌, Bool, true, false, IsTrue, List, [], length, map, option_map, slice_get, slice_index_or, Option, Some}
+use Rattle.std.specs.Prelude.{◌≡◌, ◌≢◌, ℕ, ◌+◌, ◌<◌, Bool, true, false, IsTrue, List, [], length, map, option_map, slice_get, Option, Some}
 use Rattle.std.proofs.Common.{◌∙◌, refl, sym, ap, append-nil, arith, inl, inr, subst}
 use Rattle.std.proofs.lemmas.Bool.{cases_Bool, cases_eq}
 use Rattle.std.proofs.lemmas.List.{length-map}
@@ -10,6 +10,7 @@ use Rattle.mail_contract.specs.Standing.{About, IsSettled, OfSent, Shown}
 use Rattle.mail_contract.specs.Takes.{IsFrontOfSent}
 use Rattle.store_msg.specs.Reply.{PlainReply}
 use Rattle.store_msg.specs.declared.request.Request.{Request}
+use Rattle.worker_core.proofs.ServingLemmas.{none_back_same}
 use Rattle.worker_core.specs.Room.{LearnsRoom, LearnsRoomAt}
 use Rattle.worker_core.specs.State.{Entries, PlainWorker, place_at}
 use Rattle.drain_turns.specs.Ready.{AreShown, HaveGoneOn, Knows, Sees, StandsOrIsShown, Steady, steady_of, told_at}
@@ -70,7 +71,7 @@ module _ {Q T O G OK GK : Type 0} {clear : O → Type 0} {unseen : O → ℕ} {t
           gossip_out_numbers = ap (λ its. its.numbers) steady;
           gossip_in_key = keys;
         };
-        replied_more = λ at. let same = ap (λ those. length (slice_index_or (map replied those) at [])) replies in omega (arith, same);
+        replied_more = none_back_same (ap (map replied) replies);
         more = [];
         received_is = ap received requests ∙ sym (append-nil (received was.ends.requests));
         in_range =

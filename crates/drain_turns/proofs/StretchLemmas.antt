@@ -2,13 +2,15 @@
 use Rattle.std.specs.Prelude.{◌≡◌, ℕ, Bool, List, Option, Ok}
 use Rattle.std.proofs.Common.{refl, subst, inr, arith}
 use Rattle.lattice_laws.specs.declared.lattice.NoMemory.{NoMemory}
+use Rattle.mail_contract.specs.Got.{AreDueHandedOut}
 use Rattle.mail_contract.specs.Standing.{About}
 use Rattle.store_msg.specs.Reply.{PlainReply}
 use Rattle.store_msg.specs.declared.request.Request.{Request}
 use Rattle.worker_core.specs.State.{Entries, PlainWorker}
 use Rattle.worker_core.specs.declared.did.Did.{Did}
 use Rattle.drain_turns.specs.Stretch.{GoesOn, KeepsRoom, RoomAfter}
-use Rattle.drain_turns.specs.Turning.{requests_left}
+use Rattle.drain_turns.specs.Turning.{HearsDue, requests_left}
+use Rattle.drain_turns.proofs.DueLemmas.{heard_due}
 use Rattle.drain_turns.proofs.TurningKeysLemmas.{no_more_keys}
 use Rattle.drain_turns.proofs.TurningLemmas.{goes_on_still, goes_on_through}
 use Rattle.drain_turns.proofs.TurningRoomLemmas.{room_after_through, room_through}
@@ -55,3 +57,11 @@ module _ {Q T O G QK TK OK GK : Type 0} {request_key : Q → QK} {reply_key : T 
     room_at_last {its} is room none =
         subst (λ that. RoomAfter {E = NoMemory} clear roomy unseen (Ok that) start now) is
         (room_after_through clear roomy unseen start before now (no_more_keys (further.owes (none_left none))) (Ok its) (so_far.room none) (room (none_left none)))
+
+    -- and it has heard what was due at first, where no more of that is found
+    pub hears_at_last : AreDueHandedOut (got now.ends.gossip_in) (about_mates now.ends.gossip_in) (due now.ends.gossip_in)
+        → HearsDue (got start.ends.gossip_in) (got now.ends.gossip_in) (about_mates start.ends.gossip_in) (due start.ends.gossip_in)
+    hears_at_last handed_out =
+        let goes = goes_on_through so_far.on further in
+        heard_due (got start.ends.gossip_in) (got now.ends.gossip_in) (about_mates start.ends.gossip_in) (about_mates now.ends.gossip_in) (due start.ends.gossip_in)
+        (due now.ends.gossip_in) goes.gossip_stand goes.stay_due handed_out

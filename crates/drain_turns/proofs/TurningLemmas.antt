@@ -9,6 +9,7 @@ use Rattle.mail_contract.specs.Takes.{Answers}
 use Rattle.mail_contract.proofs.StandsLemmas.{stands_through}
 use Rattle.store_msg.specs.Reply.{PlainReply}
 use Rattle.store_msg.specs.declared.request.Request.{Request}
+use Rattle.worker_core.proofs.ServingLemmas.{none_back_still, none_back_through}
 use Rattle.worker_core.specs.Serving.{NoneTakenBack}
 use Rattle.worker_core.specs.State.{Entries, IsFixed, KeysStay, PlainWorker, State, dirty}
 use Rattle.drain_steps.specs.Hearing.{AreGotInRange}
@@ -50,7 +51,7 @@ module _ {Q T O G QK TK OK GK : Type 0} {request_key : Q → QK} {reply_key : T 
     gone_on_still worker = record {
       fixed = record { me = refl; round = refl; placement = refl; kinds = refl };
       keys = record { requests_key = refl; replies_keys = refl; replies_numbers = refl; gossip_out_keys = refl; gossip_out_numbers = refl; gossip_in_key = refl };
-      replied_more = λ place. omega arith;
+      replied_more = none_back_still (map replied worker.ends.replies.items);
       more = [];
       received_is = sym (append-nil (received worker.ends.requests));
       in_range = λ are. are;
@@ -69,7 +70,9 @@ module _ {Q T O G QK TK OK GK : Type 0} {request_key : Q → QK} {reply_key : T 
     gone_on_through {before} {between} {now} first then = record {
       fixed = fixed_through first.fixed then.fixed;
       keys = keys_through first.keys then.keys;
-      replied_more = λ place. omega (arith, first.replied_more place, then.replied_more place);
+      replied_more =
+          none_back_through (map replied before.ends.replies.items) (map replied between.ends.replies.items) (map replied now.ends.replies.items) first.replied_more
+          then.replied_more;
       more = first.more ++ then.more;
       received_is = then.received_is ∙ ap (λ those. those ++ then.more) first.received_is ∙ append_assoc (received before.ends.requests) first.more then.more;
       in_range = λ are. then.in_range (first.in_range are);

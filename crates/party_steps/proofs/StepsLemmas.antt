@@ -16,7 +16,7 @@ use Rattle.run_measure.specs.Measure.{AreAllCounted, measure_of_all}
 use Rattle.run_measure.specs.Steps.{done}
 use Rattle.run_measure.proofs.TogetherLemmas.{together_lower}
 use Rattle.party_steps.specs.Progress.{NoneKept, StepsOn}
-use Rattle.party_steps.proofs.TogetherLemmas.{all_still, all_through, done_no_less}
+use Rattle.party_steps.proofs.TogetherLemmas.{all_still, all_through, done_no_less, shown_still, shown_through}
 
 module _ {S T O Q G R SK TK OK QK GK RK : Type 0}
     {request_key : S → SK} {request_number : S → ℕ} {asked : S → List Request}
@@ -31,7 +31,11 @@ module _ {S T O Q G R SK TK OK QK GK RK : Type 0}
       replies_key replies_pairs replies_senders replies_received replies_about those those proxies proxies
   steps_still those proxies = record {
     goes_on = record { workers_long = refl; sessions_long = refl; gossip_keys = refl; ends = λ have. have; running = λ script run. run };
-    gone_on = λ script run none. (none, all_still (map (workers.lists_of requests_received replied told got) those) (map (sessions.lists_of asked replies_received) proxies));
+    gone_on = λ script run none. (
+      none,
+      all_still (map (workers.lists_of requests_received replied told got) those) (map (sessions.lists_of asked replies_received) proxies),
+      shown_still (map (workers.lists_of requests_received replied told got) those),
+    );
   }
 
   -- or some and then others;
@@ -51,6 +55,8 @@ module _ {S T O Q G R SK TK OK QK GK RK : Type 0}
           later.0,
           all_through (map (workers.lists_of requests_received replied told got) those) (map (workers.lists_of requests_received replied told got) those_then) (map (workers.lists_of requests_received replied told got) those_now) (map (sessions.lists_of asked replies_received) proxies) (map (sessions.lists_of asked replies_received) proxies_then) (map (sessions.lists_of asked replies_received) proxies_now)
               earlier.1 later.1,
+          shown_through (map (workers.lists_of requests_received replied told got) those) (map (workers.lists_of requests_received replied told got) those_then)
+              (map (workers.lists_of requests_received replied told got) those_now) later.1.workers_long earlier.2 later.2,
         );
   }
 

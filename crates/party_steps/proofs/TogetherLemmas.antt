@@ -7,10 +7,12 @@ use Rattle.std.proofs.lemmas.Option.{none-some, same_Some}
 use Rattle.session_proxy.specs.State as sessions
 use Rattle.store_msg.specs.Reply.{PlainReply}
 use Rattle.store_msg.specs.declared.request.Request.{Request}
+use Rattle.worker_core.proofs.ShowingLemmas.{shows_still, shows_through}
+use Rattle.worker_core.specs.Showing.{ShowsMore}
 use Rattle.worker_core.specs.State as workers
 use Rattle.drain_steps.proofs.ItemsLemmas.{all_there, at_its_place, of_mapped, there_too}
 use Rattle.run_measure.proofs.DoneLemmas.{done_rises, goes_still, goes_through}
-use Rattle.run_measure.specs.Steps.{HasDone, HasServed, HaveAllGoneOn, RepliesAsTaken, done}
+use Rattle.run_measure.specs.Steps.{HasDone, HasServed, HaveAllGoneOn, HaveAllShown, RepliesAsTaken, done}
 use Rattle.party_steps.specs.Progress.{NoneKept}
 use Rattle.run_measure.proofs.ServedLemmas.{takes_still, takes_through}
 
@@ -37,6 +39,17 @@ all_through all all_then all_now those those_then those_now first then = record 
       let between = there_too those_then those_now at now then.sessions_long also in
       goes_through before between.0 now (first.done_more at before between.0 there between.1) (then.done_more at between.0 now between.1 also);
 }
+
+-- workers that stay as they are show as much,
+pub shown_still : (all : List workers.Lists) → HaveAllShown all all
+shown_still all place before now there also = subst (ShowsMore before) (same_Some before now (sym there ∙ also)) (shows_still before)
+
+-- and those that go on twice show no less
+pub shown_through : (all all_then all_now : List workers.Lists) → length all_now ≡ length all_then → HaveAllShown all all_then → HaveAllShown all_then all_now
+    → HaveAllShown all all_now
+shown_through all all_then all_now long first then place before now there also =
+    let between = there_too all_then all_now place now long also in
+    shows_through before between.0 now (first place before between.0 there between.1) (then place between.0 now between.1 also)
 
 -- Sessions that each go on have together done no less,
 pub done_no_less : (those those_now : List sessions.Lists) → length those_now ≡ length those
@@ -95,6 +108,7 @@ module _ {S T O Q G R : Type 0} (asked : S → List Request) (replied : T → Li
       → NoneKept those → NoneKept those_now × HaveAllGoneOn
       (map (workers.lists_of received replied told got) those) (map (workers.lists_of received replied told got) those_now)
       (map (sessions.lists_of asked heard) proxies) (map (sessions.lists_of asked heard) proxies_now)
+      × HaveAllShown (map (workers.lists_of received replied told got) those) (map (workers.lists_of received replied told got) those_now)
   all_stepped those those_now proxies proxies_now long as_long replies serves goes none = (
     all_there (λ worker. worker.state.kept ≡ None) those_now (λ place is there.
         let was = there_too those those_now place is long there in (one place was.0 is was.1 there).kept),
@@ -110,6 +124,10 @@ module _ {S T O Q G R : Type 0} (asked : S → List Request) (replied : T → Li
           (subst (λ now. RepliesAsTaken (length (map session_lists proxies)) (worker_lists was.0) now) is.2 took);
       done_more = each_goes proxies proxies_now goes;
     },
+    λ place before now there also.
+        let was = of_mapped worker_lists those place before there in
+        let is = of_mapped worker_lists those_now place now also in
+        subst (λ before. ShowsMore before now) was.2 (subst (ShowsMore (worker_lists was.0)) is.2 (one place was.0 is.0 was.1 is.1).shows),
   )
     where
       one : (place : ℕ) (was is : workers.PlainWorker Q T O G) → slice_get those place ≡ Some was → slice_get those_now place ≡ Some is

@@ -9,7 +9,7 @@ use Rattle.worker_core.specs.State as workers
 use Rattle.party_run.specs.Running.{AreRunning, GoesOn}
 use Rattle.party_steps.specs.declared.stepping.Polled.{Polled}
 use Rattle.run_measure.specs.Pace.{IsPaced}
-use Rattle.run_measure.specs.Steps.{HasDone, HaveAllGoneOn, done}
+use Rattle.run_measure.specs.Steps.{HasDone, HaveAllGoneOn, HaveAllShown, done}
 use Rattle.run_waiting.specs.Waiting.{AreToAsks, AwaitsMissing}
 
 -- A session has gone on: it has answered no fewer lines, sent no fewer requests and taken no fewer replies; and where it moved it has done one of
@@ -27,7 +27,8 @@ pub record HasMovedOn (polled : Polled) (before now : sessions.Lists) : Type 0 w
 abbrev pub NoneKept : {Q T O G : Type 0} → List (workers.PlainWorker Q T O G) → Type 0
 NoneKept those = All (λ worker. worker.state.kept ≡ None) those
 
--- The parties of a run took steps, in whatever order: the run goes on, and where no worker kept a message none does, and all have gone on.
+-- The parties of a run took steps, in whatever order: the run goes on, and where no worker kept a message none does, all have gone on, and each worker
+-- shows no less.
 pub record StepsOn {S T O Q G R SK TK OK QK GK RK : Type 0}
     (request_key : S → SK) (request_number : S → ℕ) (asked : S → List Request)
     (reply_key : T → TK) (reply_number : T → ℕ) (replied : T → List PlainReply)
@@ -45,3 +46,4 @@ pub record StepsOn {S T O Q G R SK TK OK QK GK RK : Type 0}
       → NoneKept those → NoneKept those_now × HaveAllGoneOn
       (map (workers.lists_of requests_received replied told got) those) (map (workers.lists_of requests_received replied told got) those_now)
       (map (sessions.lists_of asked replies_received) proxies) (map (sessions.lists_of asked replies_received) proxies_now)
+      × HaveAllShown (map (workers.lists_of requests_received replied told got) those) (map (workers.lists_of requests_received replied told got) those_now)

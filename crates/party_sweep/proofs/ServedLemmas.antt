@@ -4,7 +4,7 @@ use Rattle.std.proofs.Common.{◌∙◌, refl, sym, ap, subst, inl, inr, arith}
 use Rattle.std.proofs.lemmas.Bool.{false≢true}
 use Rattle.std.proofs.lemmas.List.{length-map}
 use Rattle.std.proofs.lemmas.Option.{get_or_from_slice_get}
-use Rattle.mail_contract.proofs.FrontLemmas.{front_full}
+use Rattle.mail_contract.proofs.FrontLemmas.{front_full, front_short}
 use Rattle.mail_contract.specs.Boxes.{FindsNothing, box_of}
 use Rattle.mail_contract.specs.Parts.{Parts}
 use Rattle.mail_contract.specs.Standing.{About, AreMet, OfSent, Settled, Shown, Standing}
@@ -101,7 +101,7 @@ module _ {S T O Q G R : Type 0} {asked : S → List Request} {asks_clear : S →
         let few_so : length (sent_at replied is.ends.replies.items at) ≤ length heard =
         subst (λ n. length (sent_at replied is.ends.replies.items n) ≤ length heard) (omega arith) few
         in
-        let whole : heard ≡ at_first = front_full heard at_first (its.replies_told free.1.complete) (omega (arith, rested.replied_more at, few_so)) in
+        let whole : heard ≡ at_first = front_full heard at_first (its.replies_told free.1.complete) (omega (arith, front_short at_first (sent_at replied is.ends.replies.items at) (rested.replied_more at), few_so)) in
         let as_long = ap length whole in
         let clear = its.replies_freed free.1.freed (omega (arith, as_long)) sender.0 sender.1 in
         let wants = subst (HasSentSince replies_clear replied was.ends.replies.items is.ends.replies.items) held rested.wants_place in

@@ -9,8 +9,8 @@ use Rattle.worker_core.specs.State as workers
 use Rattle.drain_steps.proofs.ItemsLemmas.{all_there, also_there, at_its_place}
 use Rattle.party_beside.specs.Staying.{AllStay}
 use Rattle.party_steps.specs.Progress.{StepsOn}
-use Rattle.party_steps.proofs.TogetherLemmas.{all_still}
-use Rattle.run_measure.specs.Steps.{HaveAllGoneOn}
+use Rattle.party_steps.proofs.TogetherLemmas.{all_still, shown_still}
+use Rattle.run_measure.specs.Steps.{HaveAllGoneOn, HaveAllShown}
 
 module _ {S T O Q G R SK TK OK QK GK RK : Type 0}
     {request_key : S → SK} {request_number : S → ℕ} {asked : S → List Request}
@@ -35,6 +35,7 @@ module _ {S T O Q G R SK TK OK QK GK RK : Type 0}
       subst (λ all. HaveAllGoneOn (map of_worker those) all (map of_session proxies) (map of_session proxies_now)) (sym stay.workers_told)
           (subst (λ all. HaveAllGoneOn (map of_worker those) (map of_worker those) (map of_session proxies) all) (sym stay.sessions_told)
           (all_still (map of_worker those) (map of_session proxies))),
+      subst (HaveAllShown (map of_worker those)) (sym stay.workers_told) (shown_still (map of_worker those)),
     );
   }
     where

@@ -3,7 +3,9 @@ use Rattle.std.specs.Prelude.{◌≡◌, ℕ, Bool, List, length, None, Result, 
 use Rattle.std.proofs.Common.{arith, refl, subst}
 use Rattle.lattice_laws.specs.declared.lattice.NoMemory.{NoMemory}
 use Rattle.mail_contract.proofs.FrontLemmas.{front_through, front_whole}
+use Rattle.worker_core.proofs.ShowingLemmas.{shows_still, shows_through}
 use Rattle.worker_core.specs.Share.{Share, replies_to}
+use Rattle.worker_core.specs.Showing.{ShowsMore}
 use Rattle.worker_core.specs.State.{Lists}
 use Rattle.worker_core.specs.Turns.{Counts, Turns}
 use Rattle.worker_core.specs.declared.did.Did.{Did}
@@ -31,25 +33,27 @@ takes_through many before between now first then = record {
 
 -- at first it took no turn
 pub served_still : (lists : Lists) → lists.state.kept ≡ None → HasServed lists lists
-served_still lists none_kept = record { replies = takes_still (length lists.replied) lists; kept = none_kept }
+served_still lists none_kept = record { replies = takes_still (length lists.replied) lists; shows = shows_still lists; kept = none_kept }
 
 -- one turn that had memory,
 pub served_once : (its : Did) (result : Result Did NoMemory) (before now : Lists) (count count_now : Counts) (room : ℕ → List Bool → Type 0) → result ≡ Ok its
-    → Turns result before now count count_now room → Share before → before.state.kept ≡ None → HasServed before now
-served_once its result before now count count_now room is turns share none_kept =
+    → Turns result before now count count_now room → ShowsMore before now → Share before → before.state.kept ≡ None → HasServed before now
+served_once its result before now count count_now room is turns shows share none_kept =
     let turns_so = subst (λ result. Turns result before now count count_now room) is turns in
     let one = turned its before now count count_now room turns_so none_kept share.replies.held in
-    record { replies = one.replies; kept = one.kept }
+    record { replies = one.replies; shows = shows; kept = one.kept }
 
 -- whatever it answers,
 pub served_if : (result : Result Did NoMemory) (before now : Lists) (count count_now : Counts) (room : ℕ → List Bool → Type 0)
-    → Turns result before now count count_now room → Share before → before.state.kept ≡ None → OnOk result (HasServed before now)
-served_if (Ok its) before now count count_now room turns share none_kept = served_once its (Ok its) before now count count_now room refl turns share none_kept
-served_if (Err error) before now count count_now room turns share none_kept = tt
+    → Turns result before now count count_now room → ShowsMore before now → Share before → before.state.kept ≡ None → OnOk result (HasServed before now)
+served_if (Ok its) before now count count_now room turns shows share none_kept =
+    served_once its (Ok its) before now count count_now room refl turns shows share none_kept
+served_if (Err error) before now count count_now room turns shows share none_kept = tt
 
 -- and one after another
 pub served_through : (before between now : Lists) → length between.replied ≡ length before.replied → HasServed before between → HasServed between now → HasServed before now
 served_through before between now as_many first then = record {
   replies = takes_through (length before.replied) before between now first.replies (subst (λ many. RepliesAsTaken many between now) as_many then.replies);
+  shows = shows_through before between now first.shows then.shows;
   kept = then.kept;
 }

@@ -4,6 +4,7 @@ use Rattle.mail_contract.specs.Takes.{IsFront}
 use Rattle.placement.specs.Config.{IsOneOf}
 use Rattle.session_proxy.specs.State as sessions
 use Rattle.worker_core.specs.Share.{replies_to}
+use Rattle.worker_core.specs.Showing.{ShowsMore}
 use Rattle.worker_core.specs.State as workers
 use Rattle.run_measure.specs.Measure.{asked_to, heard_from, replied, taken, taken_of}
 
@@ -14,9 +15,10 @@ pub record RepliesAsTaken (sessions : ℕ) (before now : workers.Lists) : Type 0
   pub replied_more : (session : ℕ) → IsOneOf sessions session → IsFront (replies_to before session) (replies_to now session)
   pub as_taken : (session : ℕ) → IsOneOf sessions session → replied session now + taken session before ≤ replied session before + taken session now
 
--- A worker has served: it replied to each session no more than it took of it, took nothing back, and keeps no message.
+-- A worker has served: it replied to each session no more than it took of it, took nothing back, shows no less, and keeps no message.
 pub record HasServed (before now : workers.Lists) : Type 0 where
   pub replies : RepliesAsTaken (length before.replied) before now
+  pub shows : ShowsMore before now
   pub kept : now.state.kept ≡ None
 
 -- how much a session has done: lines answered, requests sent, and replies taken
@@ -39,3 +41,8 @@ pub record HaveAllGoneOn (all all_now : List workers.Lists) (those those_now : L
   pub sessions_long : length those_now ≡ length those
   pub served : (place : ℕ) (before now : workers.Lists) → slice_get all place ≡ Some before → slice_get all_now place ≡ Some now → RepliesAsTaken (length those) before now
   pub done_more : (at : ℕ) (before now : sessions.Lists) → slice_get those at ≡ Some before → slice_get those_now at ≡ Some now → HasDone before now
+
+-- Each worker of a run has told its mates more or as much, and shows no less.
+abbrev pub HaveAllShown : List workers.Lists → List workers.Lists → Type 0
+HaveAllShown all all_now =
+    (place : ℕ) (before now : workers.Lists) → slice_get all place ≡ Some before → slice_get all_now place ≡ Some now → ShowsMore before now

@@ -1,2 +1,3 @@
 mod ListsLemmas
 mod PutsLemmas
+mod ShowsLemmas

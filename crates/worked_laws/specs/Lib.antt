@@ -1,3 +1,4 @@
 pub mod Keeps
 pub mod Lists
 pub mod Puts
+pub mod Shows

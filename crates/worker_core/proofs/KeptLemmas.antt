@@ -5,10 +5,11 @@ use Rattle.std.proofs.Common.{refl, sym, ap, subst, ◌∙◌, inl, inr, append-
 use Rattle.std.proofs.lemmas.Bool.{cases_eq, cases_lt, false≢true}
 use Rattle.std.proofs.lemmas.List.{get_or-replicate, get_or_past, length-replicate}
 use Rattle.std.proofs.lemmas.List.Concat.{flat_map-append}
-use Rattle.std.proofs.lemmas.List.Elements.{All-append, All-contains, All-nil, All-push, All-weaker, Contains-append_left, Contains-push, Contains-push_cases}
+use Rattle.std.proofs.lemmas.List.Elements.{All-append, All-cons, All-contains, All-nil, All-push, All-weaker, Contains-append_left, Contains-push, Contains-push_cases}
 use Rattle.std.proofs.lemmas.Option.{none-some, same_Some}
-use Rattle.lattice_laws.proofs.ListLemmas.{All-front}
+use Rattle.lattice_laws.proofs.ListLemmas.{All-back, All-front}
 use Rattle.lattice_laws.proofs.MembersLemmas.{contains_none}
+use Rattle.clock_lattice.specs.Clock.{covers}
 use Rattle.composed_value.specs.Cell.{IsCell, PlainCell}
 use Rattle.composed_value.specs.Keyed.{kind_at}
 use Rattle.composed_value.specs.declared.kind.Kind.{Kind}
@@ -99,6 +100,13 @@ free_none None = tt
 free_none (Some (popped.Request session request)) = refl
 free_none (Some (popped.Batch sender batch)) = tt
 
+-- the entries of each batch among some are ones that there can be
+each_batch : (batches : List (ℕ × Entries)) → AreEntries (entries_in batches) → All (λ batch. AreEntries batch.1) batches
+each_batch [] all = All-nil (λ (batch : ℕ × Entries). AreEntries batch.1)
+each_batch (batch ∷ batches) all =
+    All-cons (λ (batch : ℕ × Entries). AreEntries batch.1) batch batches (All-front IsEntry batch.1 (entries_in batches) all)
+    (each_batch batches (All-back IsEntry batch.1 (entries_in batches) all))
+
 -- Some steps of a worker.
 module _ (before : Lists) (keeps : IsKept before) where
   abbrev worked : List (ℕ × Request)
@@ -128,6 +136,36 @@ module _ (before : Lists) (keeps : IsKept before) where
 
   got_by : (kept : Option Popped) → before.state.kept ≡ kept → AreThoseOf before.got (joined ++ kept_batch kept)
   got_by kept is = subst (λ kept. AreThoseOf before.got (joined ++ kept_batch kept)) is keeps.share.cells.got_are
+
+  -- a request that is kept is one that there can be,
+  pub request_is : (session : ℕ) (request : Request) → before.state.kept ≡ Some (popped.Request session request) → IsRequest request
+  request_is session request was_kept =
+      All-contains IsMessage before.received (session, request) keeps.requests
+      (subst (λ all. Contains all (session, request)) (sym (received_by (Some (popped.Request session request)) was_kept))
+      (Contains-push worked (session, request)))
+
+  -- and so are the entries of a batch that is kept,
+  pub entries_are : (sender : ℕ) (batch : Entries) → before.state.kept ≡ Some (popped.Batch sender batch) → AreEntries batch
+  entries_are sender batch was_kept =
+      subst AreEntries (append-nil batch) (subst (λ kept. AreEntries (entries_in (kept_batch kept))) was_kept keeps.kept)
+
+  -- and of one that was joined
+  pub entries_joined : (sender place : ℕ) (batch : Entries) → before.state.kept ≡ None → before.got sender place ≡ Some batch → AreEntries batch
+  entries_joined sender place batch none_kept is =
+      All-contains (λ (batch : ℕ × Entries). AreEntries batch.1) joined (sender, batch) (each_batch joined keeps.joined)
+      (subst (λ batches. Contains batches (sender, batch)) (append-nil joined) ((got_by None none_kept).all sender place batch is))
+
+  -- what is shown of a key after a request covers what was shown before,
+  pub shows_taken : (request : Request) → IsRequest request → (key : ℕ)
+      → IsTrue (covers (shown_of (cells_at (served request before.state.cells) key)).clock (shown_of (cells_at before.state.cells key)).clock)
+  shows_taken =
+      shown_taken before.state.kinds before.state.cells worked keeps.share.cells.own joined keeps.share.cells.whole worked_are keeps.joined
+
+  -- and so after a batch
+  pub shows_heard : (batch : Entries) → AreEntries batch → (key : ℕ)
+      → IsTrue (covers (shown_of (cells_at (hears batch before.state.cells) key)).clock (shown_of (cells_at before.state.cells key)).clock)
+  shows_heard =
+      shown_heard before.state.kinds before.state.cells worked keeps.share.cells.own joined keeps.share.cells.whole worked_are keeps.joined
 
   -- the cell that a get of a key is answered from
   shown_made : (key : ℕ)
@@ -322,10 +360,7 @@ module _ (before : Lists) (keeps : IsKept before) where
       let own = keeps.share.cells.own in
       let whole = keeps.share.cells.whole in
       let received = received_by (Some (popped.Request session request)) was_kept in
-      let is : IsRequest request =
-      All-contains IsMessage before.received (session, request) keeps.requests
-      (subst (λ all. Contains all (session, request)) (sym received) (Contains-push worked (session, request)))
-      in
+      let is = request_is session request was_kept in
       let serves : Serves session request before now = record {
         taken = inl (was_kept, refl);
         cells = refl;
@@ -369,9 +404,7 @@ module _ (before : Lists) (keeps : IsKept before) where
         joined = keeps.joined;
         kept = All-nil IsEntry;
         below = λ to is_session.
-            below_worked keeps.below serves
-            (shown_taken before.state.kinds cells worked own joined whole worked_are keeps.joined request is)
-            to (is_session.0, omega (arith, is_session.1, long));
+            below_worked keeps.below serves (shows_taken request is) to (is_session.0, omega (arith, is_session.1, long));
       }
 
   -- a batch that was kept is worked on
@@ -385,11 +418,10 @@ module _ (before : Lists) (keeps : IsKept before) where
       let whole = keeps.share.cells.whole in
       let message : List (ℕ × Entries) = (sender, batch) ∷ [] in
       let are_entries : AreEntries (entries_in message) = subst (λ kept. AreEntries (entries_in (kept_batch kept))) was_kept keeps.kept in
-      let are : AreEntries batch = subst AreEntries (append-nil batch) are_entries in
+      let are = entries_are sender batch was_kept in
       let back : HeldBefore before now = λ key now_at. held_before_heard cells batch key now_at in
       let forth : HeldStill before now = λ key at. there_too (cells_at cells key) (cells_at now.state.cells key) (holds_heard cells batch key) at in
       let same_own : SameOwn before now = λ key at now_at. own_heard_same cells batch key at now_at in
-      let grows_shown = shown_heard before.state.kinds cells worked own joined whole worked_are keeps.joined batch are in
       record {
         share = record {
           holds = λ key. holds_heard cells batch key ∙ keeps.share.holds key;
@@ -419,7 +451,7 @@ module _ (before : Lists) (keeps : IsKept before) where
             (All-append IsEntry (entries_in joined) (entries_in message) keeps.joined are_entries);
         kept = All-nil IsEntry;
         below = λ to is.
-            All-weaker (IsBelow before.state) (IsBelow now.state) (λ reply. below_on before.state now.state reply grows_shown)
+            All-weaker (IsBelow before.state) (IsBelow now.state) (λ reply. below_on before.state now.state reply (shows_heard batch are))
             (replies_to before to) (keeps.below to is);
       }
 

@@ -12,6 +12,7 @@ pub mod RepliesLemmas
 pub mod RoomLemmas
 pub mod SealedLemmas
 pub mod ServingLemmas
+pub mod ShowingLemmas
 pub mod TellingLemmas
 pub mod ToldLemmas
 pub mod TurnLemmas

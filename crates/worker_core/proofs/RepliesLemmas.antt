@@ -164,7 +164,7 @@ get_replied state worked joined (requests.Get ask key required) made =
     (record { cell = shown_of (cells_at state.cells key); is = refl; made = made ask key required refl }, tt)
 
 -- the clock that is shown is that of the cell, whether it is found or not
-shown_by_answer : (cell : PlainCell) (required : List (ℕ × ℕ)) → shown_clock (answer_of cell required) ≡ cell.clock
+pub shown_by_answer : (cell : PlainCell) (required : List (ℕ × ℕ)) → shown_clock (answer_of cell required) ≡ cell.clock
 shown_by_answer cell required =
     elim (covers cell.clock required) as (λ found. shown_clock (if found then Found cell else Again cell.clock) ≡ cell.clock) [
       | true ↦ refl

@@ -7,6 +7,7 @@ pub mod Room
 pub mod Sealed
 pub mod Serving
 pub mod Share
+pub mod Showing
 pub mod State
 pub mod Telling
 pub mod Turns

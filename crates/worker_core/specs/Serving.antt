@@ -1,7 +1,7 @@
 -- A worker works on the message that is kept.
 use Rattle.std.specs.Prelude.{◌≡◌, ◌⊎◌, ℕ, ◌-◌, ◌<◌, ◌≤◌, ◌==◌, ◌||◌, ltb, Bool, true, false, IsTrue, is_some, if◌then◌else◌, List, [], ◌∷◌, ◌++◌, length, slice_index_or, slice_set, Option, Some, None, Result, Ok, Err, IfOk, OnErr, OnOk, ⊤}
 use Rattle.lattice_laws.specs.Counts.{Rose}
-use Rattle.mail_contract.specs.Takes.{Answers}
+use Rattle.mail_contract.specs.Takes.{Answers, IsFront}
 use Rattle.merge_world.specs.Effects.{hears}
 use Rattle.store_msg.specs.Reply.{PlainReply}
 use Rattle.store_msg.specs.declared.request.Request.{Request}
@@ -18,9 +18,9 @@ abbrev pub AddsReplies : ℕ → List PlainReply → List (List PlainReply) → 
 AddsReplies session replies before held now held_now =
     (to : ℕ) → 1 ≤ to → to ≤ length before → owed_to now held_now to ≡ owed_to before held to ++ (if session == to then replies else [])
 
--- no reply that was sent is taken back
+-- no reply that was sent is taken back: what was sent to each session goes on from what was
 abbrev pub NoneTakenBack : List (List PlainReply) → List (List PlainReply) → Type 0
-NoneTakenBack before now = (place : ℕ) → length (slice_index_or before place []) ≤ length (slice_index_or now place [])
+NoneTakenBack before now = (place : ℕ) → IsFront (slice_index_or before place []) (slice_index_or now place [])
 
 -- a request is worked on, by what the worker keeps and what it replied
 pub record Worked (session : ℕ) (request : Request) (before now : State) (replied replied_now : List (List PlainReply)) : Type 0 where

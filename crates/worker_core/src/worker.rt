@@ -5,13 +5,14 @@ ghost use Rattle.mail_contract.specs.Boxes.{FindsNothing, FindsNothingWeak, MayH
 ghost use Rattle.mail_contract.specs.Standing.{AllPart, IsSettled, Learned};
 ghost use Rattle.mail_contract.specs.Takes.{IsFront, from_sender};
 ghost use Rattle.merge_world.specs.Effects.{cells_at};
-ghost use Rattle.worker_core.specs.Kept.{IsRequest};
+ghost use Rattle.worker_core.specs.Kept.{IsKept, IsRequest};
 ghost use Rattle.worker_core.specs.Lag.{Lags};
 ghost use Rattle.worker_core.specs.Order.{InOrder, IsDue};
 ghost use Rattle.worker_core.specs.Room.{HasNoRoom, LearnsRoomOf, RoomAt, StayClear, WantsPlace};
 ghost use Rattle.worker_core.specs.Sealed.{HoldsSealed, sealed_of};
 ghost use Rattle.worker_core.specs.Serving.{HoldsBack, NoneTakenBack, Resent, RoundsIf, TakesGossip, TakesRequest, WorksOn, rests_as};
 ghost use Rattle.worker_core.specs.Share.{Share};
+ghost use Rattle.worker_core.specs.Showing.{ShowsMore};
 ghost use Rattle.worker_core.specs.State.{IsFixed, KeysStay, changed_of, dirty, kept_batch, kept_request, lists_of, opening_state};
 ghost use Rattle.worker_core.specs.Turns.{FewerMayCome, MayAsk, OnNoneSent, OnNothing, Rounds, StayOrCameBack, Turns, TurnsOnlyWhereFull, counts_of, joined_in, may_come};
 
@@ -132,7 +133,8 @@ impl<Q: Rx<Request>, T: Tx<Reply>, O: Tx<Batch>, G: GossipRx<Batch, From = O>> W
     /// that was joined is one fewer that may still come, and no call makes more. Where a request was worked on,
     /// a batch was joined or there is nothing to do, the senders of gossip are as before, or a round was tried
     /// first: keys were left to tell, and to each mate that was left to tell the first batch came back.
-    /// What came before what it did is told by `in_order`.
+    /// What came before what it did is told by `in_order`. Whatever it answers, what was told to each mate goes on from
+    /// what was, no less is shown of any key, and each reply since counts at least what was shown of its key.
     pub fn turn(&mut self) -> Result<Did, NoMemory>
         ensures share { Share (lists_of Q.received T.sent O.sent G.got self.new) }
         ensures lags { Lags (lists_of Q.received T.sent O.sent G.got self.new) }
@@ -181,9 +183,14 @@ impl<Q: Rx<Request>, T: Tx<Reply>, O: Tx<Batch>, G: GossipRx<Batch, From = O>> W
             (counts_of Q.answers T.fulls O.fulls G.answers self.old)
             (counts_of Q.answers T.fulls O.fulls G.answers self.new)
             (RoomAt O.clear O.roomy O.unseen self.old.ends.gossip_out.items) }
+        ensures shows_more { ShowsMore
+            (lists_of Q.received T.sent O.sent G.got self.old)
+            (lists_of Q.received T.sent O.sent G.got self.new) }
     {
+        self.attest_kept();
         let did = self.step();
         self.attest();
+        self.attest_kept();
         did
     }
 
@@ -198,6 +205,13 @@ impl<Q: Rx<Request>, T: Tx<Reply>, O: Tx<Batch>, G: GossipRx<Batch, From = O>> W
         ensures mates { length self.now.state.changed ≡ length self.now.ends.gossip_out.items }
         ensures few_changed { (place : ℕ)
             → length (changed_of self.now.state place) ≤ length self.now.state.placement }
+    {
+        let _ = &self.local;
+    }
+
+    /// Tells all that the worker keeps from call to call.
+    fn attest_kept(&self)
+        ensures { IsKept (lists_of Q.received T.sent O.sent G.got self.now) }
     {
         let _ = &self.local;
     }

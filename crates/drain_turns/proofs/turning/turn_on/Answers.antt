@@ -66,3 +66,6 @@ returns-in_default-clause-wants_place g c =
     c.turn_once.ensures.goes_on.gone_on.replied_more c.turn_once.new.worker.state.held
     (wants_sent g.T.Tx.clear g.T.Tx.sent c.loop-did.worker.ends.replies.items c.turn_once.new.worker.ends.replies.items c.turn_once.new.worker.state.held wants))
     c.in_ok-did.ensures.wants_place
+
+pub returns-in_default-clause-served : goal.returns-in_default-clause-served
+returns-in_default-clause-served g c = (served_on g (goal.at.returns-in_default-clause-served g c).After-turn_once c.in_ok-did.did c.in_ok-did.was).served

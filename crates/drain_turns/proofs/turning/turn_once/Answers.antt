@@ -50,7 +50,7 @@ returns-clause-goes_on g c =
     }
 
 pub returns-clause-served : goal.returns-clause-served
-returns-clause-served g c = λ none_kept. served_if c.turn-did.result _ _ _ _ _ c.turn-did.ensures.did c.attest.ensures.share none_kept
+returns-clause-served g c = λ none_kept. served_if c.turn-did.result _ _ _ _ _ c.turn-did.ensures.did c.turn-did.ensures.shows_more c.attest.ensures.share none_kept
 
 pub returns-clause-fewer_requests : goal.returns-clause-fewer_requests
 returns-clause-fewer_requests g c = turn_serves _ _ _ _ _ _ _ _ _ _ (boxes g c) c.turn-did.result _ _ _ c.turn-did.ensures.did

@@ -28,7 +28,7 @@ served g c its is none_kept =
     let so_far = c.loop.invariant.served none_kept in
     served_through (lists c.args.worker.now) (lists c.loop.worker) (lists c.turn.new.self)
     (as_many_made g.T.Tx.number g.T.Tx.sent c.args.worker.now.ends.replies.items c.loop.worker.ends.replies.items c.loop.invariant.turned.gone_on.keys.replies_numbers)
-    so_far (served_once its c.turn.result (lists c.loop.worker) (lists c.turn.new.self) _ _ _ is c.turn.ensures.did c.loop.invariant.share so_far.kept)
+    so_far (served_once its c.turn.result (lists c.loop.worker) (lists c.turn.new.self) _ _ _ is c.turn.ensures.did c.turn.ensures.shows_more c.loop.invariant.share so_far.kept)
 
 pub loop-init : goal.loop-init
 loop-init g c = record {

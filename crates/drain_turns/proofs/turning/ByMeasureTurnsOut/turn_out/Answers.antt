@@ -1,13 +1,9 @@
-use Rattle.std.proofs.Common.{◌≡◌, IsTrue, Ok, OnOk, subst}
-use Rattle.mail_contract.specs.Boxes.{FindsNothingWeak, weak_box_of}
+use Rattle.std.proofs.Common.{◌≡◌, Ok, OnOk, subst}
 use Rattle.worker_core.specs.declared.did.Did.{Did}
 use Rattle.drain_steps.proofs.ItemsLemmas.{long_alike}
-use Rattle.drain_turns.specs.Stretch.{GoesOn}
-use Rattle.drain_turns.specs.Turning.{HearsDue}
 use Rattle.drain_turns.proofs.ServesLemmas.{ServesOn, at_blocked, at_idle, sent_since, serves_still, serves_through}
-use Rattle.drain_turns.proofs.StretchLemmas.{keeps_still, keeps_through, room_at_last}
-use Rattle.drain_turns.proofs.DueLemmas.{heard_due}
-use Rattle.drain_turns.proofs.TurningLemmas.{goes_on_through, gone_on_through}
+use Rattle.drain_turns.proofs.StretchLemmas.{hears_at_last, keeps_still, keeps_through, room_at_last}
+use Rattle.drain_turns.proofs.TurningLemmas.{gone_on_through}
 use Rattle.drain_turns.proofs.TurningRoomLemmas.{room_of_doing}
 use Rattle.drain_turns.proofs.turning.ByMeasureTurnsOut.turn_out.Given.{Over}
 use Rattle.drain_turns.proofs.turning.ByMeasureTurnsOut.turn_out.Goals as goal
@@ -58,23 +54,16 @@ returns-in-Blocked-clause-wants_place g c =
     (long_alike g.T.Tx.number before now.ends.replies.items c.in_ok-turn_on.ensures.goes_on.gone_on.keys.replies_numbers) c.in_ok-turn_on.ensures.goes_on.gone_on.replied_more now.state.held
     (at_blocked c.in-Blocked.is c.in_ok-turn_on.ensures.wants_place)
 
--- and what it has heard, where nothing more is found
-heard : (g : Over) (c : After-turn_on g) → GoesOn g.Q.Rx.key g.T.Tx.key g.T.Tx.number g.O.Tx.key g.O.Tx.number g.G.GossipRx.key g.Q.Rx.keeps.complete g.Q.Rx.senders g.Q.Rx.received
-    g.Q.Rx.about g.T.Tx.sent g.O.Tx.sent g.G.GossipRx.keeps.complete g.G.GossipRx.senders g.G.GossipRx.got g.G.GossipRx.about g.G.GossipRx.due c.loop.worker c.turn_on.new.worker
-    → FindsNothingWeak g.G.GossipRx.keeps (weak_box_of g.G.GossipRx.got g.G.GossipRx.answers g.G.GossipRx.about g.G.GossipRx.due g.G.GossipRx.most c.turn_on.new.worker.ends.gossip_in)
-    → IsTrue g.G.GossipRx.keeps.advances
-    → HearsDue (g.G.GossipRx.got c.args.worker.now.ends.gossip_in) (g.G.GossipRx.got c.turn_on.new.worker.ends.gossip_in) (g.G.GossipRx.about c.args.worker.now.ends.gossip_in)
-    (g.G.GossipRx.due c.args.worker.now.ends.gossip_in)
-heard g c further nothing advances =
-    let goes = goes_on_through c.loop.invariant.keeps.on further in
-    heard_due (g.G.GossipRx.got c.args.worker.now.ends.gossip_in) (g.G.GossipRx.got c.turn_on.new.worker.ends.gossip_in) (g.G.GossipRx.about c.args.worker.now.ends.gossip_in)
-    (g.G.GossipRx.about c.turn_on.new.worker.ends.gossip_in) (g.G.GossipRx.due c.args.worker.now.ends.gossip_in) (g.G.GossipRx.due c.turn_on.new.worker.ends.gossip_in)
-    goes.gossip_stand goes.stay_due (nothing.advances advances)
-
 pub returns-in-Idle-clause-hears : goal.returns-in-Idle-clause-hears
-returns-in-Idle-clause-hears g c =
-    heard g (goal.at.returns-in-Idle-clause-hears g c).After-turn_on c.in_ok-turn_on.ensures.goes_on (at_idle c.in-Idle.is c.in_ok-turn_on.ensures.no_gossip)
+returns-in-Idle-clause-hears g c advances =
+    hears_at_last c.loop.invariant.keeps c.in_ok-turn_on.ensures.goes_on ((at_idle c.in-Idle.is c.in_ok-turn_on.ensures.no_gossip).advances advances)
 
 pub returns-in-Blocked-clause-hears : goal.returns-in-Blocked-clause-hears
-returns-in-Blocked-clause-hears g c =
-    heard g (goal.at.returns-in-Blocked-clause-hears g c).After-turn_on c.in_ok-turn_on.ensures.goes_on (at_blocked c.in-Blocked.is c.in_ok-turn_on.ensures.no_gossip)
+returns-in-Blocked-clause-hears g c advances =
+    hears_at_last c.loop.invariant.keeps c.in_ok-turn_on.ensures.goes_on ((at_blocked c.in-Blocked.is c.in_ok-turn_on.ensures.no_gossip).advances advances)
+
+pub returns-in-Idle-clause-served : goal.returns-in-Idle-clause-served
+returns-in-Idle-clause-served g c = (served_on g (goal.at.returns-in-Idle-clause-served g c).After-turn_on c.in_ok-turn_on.field-0 c.in_ok-turn_on.was).served
+
+pub returns-in-Blocked-clause-served : goal.returns-in-Blocked-clause-served
+returns-in-Blocked-clause-served g c = (served_on g (goal.at.returns-in-Blocked-clause-served g c).After-turn_on c.in_ok-turn_on.field-0 c.in_ok-turn_on.was).served
