@@ -90,6 +90,10 @@ module _ {Q T O G : Type 0} (requests : List Q) (replies : List (Vec T Global)) 
       ∙ made_of_made worker_of (λ (its : WorkerEndsOver Q T O G). its.gossip_in) (zip (zip requests replies) (zip gossip_out gossip_in))
       ∙ second_parts (λ pair. pair.1) ∙ seconds-zip gossip_out gossip_in (in_long ∙ sym out_long)
 
+  -- what is told of their boxes of gossip
+  pub told_of_gossip_in : {V : Type 0} (tells : G → V) → map (λ its. tells its.gossip_in) workers ≡ map tells gossip_in
+  told_of_gossip_in tells = sym (made_of_made (λ (its : WorkerEndsOver Q T O G). its.gossip_in) tells workers) ∙ ap (map tells) worker_gossip_in
+
 -- the items of the vectors that are a part of each
 items_of : {X E : Type 0} (part : E → Vec X Global) (ends : List E) (rows : List (Vec X Global)) → map part ends ≡ rows → map (λ its. (part its).items) ends ≡ map (λ row. row.items) rows
 items_of part ends rows is = sym (made_of_made part (λ row. row.items) ends) ∙ ap (map (λ row. row.items)) is

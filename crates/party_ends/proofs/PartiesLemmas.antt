@@ -216,6 +216,13 @@ module _ {S T O Q G R SK TK OK QK GK RK : Type 0}
         ap (λ (one : PlainWorker Q T O G). one.state.me) (workers_new.each place its.0 worker its.1 there));
   }
 
+-- what is told of the ends of new workers was told of those over which they were made
+pub told_of_ends : {Q T O G V : Type 0} (tells : WorkerEndsOver Q T O G → V) (script : Script) (table : List (List ℕ)) (ends : List (WorkerEndsOver Q T O G))
+    (workers : List (PlainWorker Q T O G)) → AreMadeOf (IsNewWorker script table) ends workers → map tells ends ≡ map (λ worker. tells worker.ends) workers
+told_of_ends {Q} {T} {O} {G} tells script table ends workers made =
+    same_made tells (λ (worker : PlainWorker Q T O G). tells worker.ends) ends workers made.long (λ place its worker there here.
+    ap (λ (one : PlainWorker Q T O G). tells one.ends) (sym (made.each place its worker there here)))
+
 -- new workers keep no message
 pub none_kept : {Q T O G : Type 0} (script : Script) (table : List (List ℕ)) (ends : List (WorkerEndsOver Q T O G)) (workers : List (PlainWorker Q T O G))
     → AreMadeOf (IsNewWorker script table) ends workers → All (λ worker. worker.state.kept ≡ None) workers

@@ -1,16 +1,17 @@
 -- Weak boxes that were made take in the senders of their own numbers: the others are of one making, in rows that skip their own numbers.
-use Rattle.std.specs.Prelude.{◌≡◌, ◌≢◌, ◌&&◌, ◌==◌, ℕ, ◌+◌, Bool, true, false, IsTrue, List, [], All, length, slice_get, Option, Some, None}
+use Rattle.std.specs.Prelude.{◌≡◌, ◌≢◌, ◌&&◌, ◌==◌, ℕ, ◌+◌, Bool, true, false, IsTrue, List, [], All, length, map, slice_get, Option, Some, None}
 use Rattle.std.proofs.Common.{◌∙◌, refl, sym, ap, subst, inl, inr, arith}
 use Rattle.std.proofs.lemmas.Bool.{cases_eq}
 use Rattle.std.proofs.lemmas.Bool.Decides.{nat_tests}
 use Rattle.std.proofs.lemmas.List.Edits.{length-remove}
-use Rattle.std.proofs.lemmas.Option.{none-some, slice_get_within}
+use Rattle.std.proofs.lemmas.Option.{none-some, same_Some, slice_get_within}
 use Rattle.mail_contract.specs.Boxes.{weak_box_of}
 use Rattle.mail_contract.specs.Parts.{Parts}
 use Rattle.mail_contract.specs.Standing.{About, Settled, IsSettled}
 use Rattle.mail_contract.specs.Takes.{Answers}
 use Rattle.drain_steps.specs.Settling.{index_in}
 use Rattle.drain_turns.specs.Ready.{IsMate}
+use Rattle.drain_ledger.proofs.ListsLemmas.{same_made}
 use Rattle.drain_steps.proofs.ItemsLemmas.{all_there, at_its_place, there_is}
 use Rattle.party_ends.specs.Dealt.{AreDoneBefore, AreNew, IsEmptyWeakBoxOf, MayTakeInOwn, TakesInOwn}
 use Rattle.party_ends.proofs.OwnsLemmas.{left_hold, left_there}
@@ -73,6 +74,12 @@ module _ {S P M K SK : Type 0} (sender_key : S → SK) (number : S → ℕ) (sen
     of_box place is here =
         let its = there_is left place (let within = slice_get_within now place is here in omega (arith, within, done.xs_long, done.ys_long, new.rows_are, new.boxes_are)) in
         (its.0, took place its.0 is its.1 here)
+
+    -- Each box has the key that it had.
+    pub keys_stay : {V : Type 0} (tells : K → V) → map (λ box. tells (key box)) now ≡ map (λ box. tells (key box)) before
+    keys_stay tells = same_made (λ box. tells (key box)) (λ box. tells (key box)) now before (sym done.ys_long) (λ place is was here there.
+        let its_box = (of_box place is here).1 in
+        ap tells its_box.takes.key_is ∙ ap (λ box. tells (key box)) (same_Some its_box.was was (sym its_box.was_there ∙ there)))
 
     -- The others are of one making.
     pub still_new : AreNew sender_key number sent pairs key about true many many left now

@@ -1,5 +1,6 @@
 -- All ends of a run's parties, of one making.
 use Rattle.std.specs.Prelude.{◌≡◌, ℕ, ◌+◌, false, true, List, [], All, length, map, slice_get, Option, Some, None}
+use Rattle.std.specs.List.{range_with_len}
 use Rattle.mail_contract.specs.Standing.{About}
 use Rattle.placement.specs.Config.{IsOneOf}
 use Rattle.store_msg.specs.Reply.{PlainReply}
@@ -9,6 +10,10 @@ use Rattle.store_msg.specs.declared.request.Request.{Request}
 use Rattle.worker_core.specs.State.{Entries}
 use Rattle.drain_ledger.specs.Handed.{AreOfOneMaking, IsBoxOf, IsWeakBoxOf}
 use Rattle.drain_turns.specs.Ready.{IsMate}
+
+-- Boxes in the order of their owners were made with the numbers of each, from the owner with the number 1.
+abbrev pub AreNumbered : (ℕ → List ℕ) → List (List ℕ) → Type 0
+AreNumbered numbers boxes = boxes ≡ map numbers (range_with_len 1 (length boxes))
 
 -- The ends of so many workers and so many sessions are of one making, and nothing has gone through any of them. Each session has a sender to each worker,
 -- each worker one to each session and one of gossip to each other worker.

@@ -1,7 +1,7 @@
 //! All ends of a run's parties, of one making.
 ghost use Rattle.std.specs.Prelude.{◌≡◌, ℕ, ◌+◌, ◌≤◌, false, true, All, map, slice_get, IfOk, Some};
 ghost use Rattle.drain_turns.specs.Ready.{IsMate};
-ghost use Rattle.party_ends.specs.AllEnds.{AreAllEnds};
+ghost use Rattle.party_ends.specs.AllEnds.{AreAllEnds, AreNumbered};
 ghost use Rattle.party_ends.specs.Dealt.{AreNew, IsEmptyBoxOf, IsEmptyWeakBoxOf};
 ghost use Rattle.placement.specs.Config.{IsOneOf};
 
@@ -47,6 +47,8 @@ fn make_mates<M, O: Tx<M>, G: GossipRx<M, From = O>, P: MakesGossip<M, Mailbox =
     ensures empty { IfOk result (λ made. (place : ℕ) (mailbox : G)
         → slice_get made.1.items place ≡ Some mailbox
         → IsEmptyWeakBoxOf (IsMate mates (place + 1)) G.key G.senders G.got G.about mailbox) }
+    ensures made_with { IfOk result (λ made. AreNumbered (P.numbers post.now)
+        (map (λ its. G.made_with (G.key its)) made.1.items)) }
 {
     let (rows, boxes) = make_all_weak(post, alloc, mates, mates)?;
     let mut rows = rows;
@@ -78,12 +80,14 @@ pub fn all_ends<
     sessions: u16,
 ) -> Result<(Vec<WorkerEndsOver<Q, T, O, G>>, Vec<SessionEndsOver<S, R>>), NoMemory>
     requires { 1 ≤ workers }
-    ensures { IfOk result (λ ends. AreAllEnds
+    ensures ends { IfOk result (λ ends. AreAllEnds
         S.key S.number S.sent T.key T.number T.sent O.key O.number O.sent
         Q.key Q.pairs Q.senders Q.received Q.about
         G.key G.pairs G.senders G.got G.about
         R.key R.pairs R.senders R.received R.about
         workers sessions ends.0.items ends.1.items) }
+    ensures made_with { IfOk result (λ ends. AreNumbered (P.numbers post.now)
+        (map (λ its. G.made_with (G.key its.gossip_in)) ends.0.items)) }
 {
     let (asks, requests) = make_rows::<Request, S, Q, P>(post, alloc, workers, sessions)?;
     let (answers, replies) = make_all::<Reply, T, R, P>(post, alloc, sessions, workers)?;

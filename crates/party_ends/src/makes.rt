@@ -1,5 +1,5 @@
 //! How a box and its senders are made.
-ghost use Rattle.std.specs.Prelude.{◌≤◌, IfOk};
+ghost use Rattle.std.specs.Prelude.{◌≡◌, ℕ, ◌≤◌, List, IfOk};
 ghost use Rattle.party_ends.specs.Fresh.{IsFresh, IsFreshWeak};
 
 use lattice_laws::NoMemory;
@@ -29,15 +29,22 @@ pub trait MakesGossip<M> {
     /// The weak end of a receiver.
     type Mailbox: GossipRx<M>;
 
-    /// A weak box and so many senders, at least one, which are numbered from 1 in the order of the vector.
+    // The numbers that the box of an owner, from 1, is made with.
+    ghost numbers: { Self → ℕ → List ℕ };
+
+    /// A weak box of the party of this number, from 1, and so many senders, at least one, which are numbered
+    /// from 1 in the order of the vector.
     fn make_weak(
         &self,
         alloc: Global,
+        owner: u16,
         senders: u16,
     ) -> Result<(Vec<<Self::Mailbox as GossipRx<M>>::From>, Self::Mailbox), NoMemory>
         requires { 1 ≤ senders }
-        ensures { IfOk result (λ ends. IsFreshWeak
+        ensures fresh { IfOk result (λ ends. IsFreshWeak
             Self.Mailbox.From.number Self.Mailbox.From.sent Self.Mailbox.From.key
             Self.Mailbox.key Self.Mailbox.pairs Self.Mailbox.senders
-            Self.Mailbox.got Self.Mailbox.about senders ends.0.items ends.1) };
+            Self.Mailbox.got Self.Mailbox.about senders ends.0.items ends.1) }
+        ensures made_with { IfOk result (λ ends.
+            Self.Mailbox.made_with (Self.Mailbox.key ends.1) ≡ numbers self.now owner) };
 }

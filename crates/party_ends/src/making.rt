@@ -1,6 +1,7 @@
 //! Boxes of one kind of mail are made, and their senders dealt to rows: in each row stand the senders of
 //! one number, in the order of their boxes.
 ghost use Rattle.std.specs.Prelude.{◌≡◌, ℕ, ◌≤◌, [], length, map, replicate, IfOk, OnOk};
+ghost use Rattle.party_ends.specs.AllEnds.{AreNumbered};
 ghost use Rattle.party_ends.specs.Dealt.{AreGiven, AreMade};
 ghost use Rattle.party_ends.specs.Fresh.{IsFresh, IsFreshWeak};
 
@@ -57,7 +58,7 @@ pub(crate) fn make_all<M, S: Tx<M>, Q: Rx<M, From = S>, P: MakesMail<M, Mailbox 
     Ok((rows, made))
 }
 
-/// So many weak boxes, and so many rows of their senders.
+/// So many weak boxes, of the parties of the numbers from 1 on, and so many rows of their senders.
 pub(crate) fn make_all_weak<M, O: Tx<M>, G: GossipRx<M, From = O>, P: MakesGossip<M, Mailbox = G>>(
     post: &P,
     alloc: Global,
@@ -65,15 +66,17 @@ pub(crate) fn make_all_weak<M, O: Tx<M>, G: GossipRx<M, From = O>, P: MakesGossi
     senders: u16,
 ) -> Result<(Vec<Vec<O>>, Vec<G>), NoMemory>
     requires { 1 ≤ senders }
-    ensures { IfOk result (λ made. AreMade
+    ensures made { IfOk result (λ made. AreMade
         (IsFreshWeak O.number O.sent O.key G.key G.pairs
         G.senders G.got G.about senders)
         boxes senders (map (λ row. row.items) made.0.items) made.1.items) }
+    ensures made_with { IfOk result (λ made. AreNumbered (P.numbers post.now)
+        (map (λ its. G.made_with (G.key its)) made.1.items)) }
 {
     let mut rows = empty_rows(alloc, senders)?;
     let mut made = Vec::new(alloc);
-    for _ in 0..boxes {
-        let (its, mailbox) = post.make_weak(alloc, senders)?;
+    for place in 0..boxes {
+        let (its, mailbox) = post.make_weak(alloc, place + 1, senders)?;
         deal(&mut rows, its)?;
         made.push(mailbox)?;
     }

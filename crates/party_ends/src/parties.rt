@@ -1,5 +1,6 @@
 //! All parties of a run, before their first step.
 ghost use Rattle.std.specs.Prelude.{◌≡◌, ◌<◌, false, All, length, map, IfOk, None};
+ghost use Rattle.party_ends.specs.AllEnds.{AreNumbered};
 ghost use Rattle.party_ends.specs.Parties.{AreMadeOf, AreUnusedOfSession, AreUnusedOfWorker, IsNewSession, IsNewWorker};
 ghost use Rattle.party_run.specs.Session.{proxy_of};
 ghost use Rattle.placement.specs.Config.{placed};
@@ -161,6 +162,8 @@ pub fn new_parties<
         All (λ worker. worker.state.kept ≡ None) parties.workers.items) }
     ensures none_waits { IfOk result (λ parties. All (λ proxy. proxy.course.waits ≡ false)
         (map proxy_of parties.sessions.items)) }
+    ensures made_with { IfOk result (λ parties. AreNumbered (P.numbers post.now)
+        (map (λ worker. G.made_with (G.key worker.ends.gossip_in)) parties.workers.items)) }
 {
     let placement = Placement::build(alloc, &script.config)?;
     let many = script.sessions.as_slice().len() as u16;

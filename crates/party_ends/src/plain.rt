@@ -33,11 +33,16 @@ impl MakesMail<Reply> for PlainMaker {
 }
 
 impl MakesGossip<Batch> for PlainMaker {
+    ghost use Rattle.std.specs.Prelude.{[]};
+
     type Mailbox = PlainRx<Batch>;
+
+    ghost numbers = { λ _ _. [] };
 
     fn make_weak(
         &self,
         alloc: Global,
+        _owner: u16,
         senders: u16,
     ) -> Result<(Vec<PlainTx<Batch>>, PlainRx<Batch>), NoMemory> {
         plain(alloc, senders)

@@ -38,11 +38,16 @@ impl<W: Wait + Copy> MakesMail<Reply> for QueueMaker<W> {
 }
 
 impl<W: Wait + Copy> MakesGossip<Batch> for QueueMaker<W> {
+    ghost use Rattle.std.specs.Prelude.{[]};
+
     type Mailbox = QueueRx<Batch, W>;
+
+    ghost numbers = { λ _ _. [] };
 
     fn make_weak(
         &self,
         alloc: Global,
+        _owner: u16,
         senders: u16,
     ) -> Result<(Vec<QueueTx<Batch, W>>, QueueRx<Batch, W>), NoMemory> {
         queue(self.rt, alloc, senders)

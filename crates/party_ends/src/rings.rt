@@ -33,11 +33,16 @@ impl MakesMail<Reply> for RingMaker {
 }
 
 impl MakesGossip<Batch> for RingMaker {
+    ghost use Rattle.std.specs.Prelude.{[]};
+
     type Mailbox = RingRx<Batch>;
+
+    ghost numbers = { λ _ _. [] };
 
     fn make_weak(
         &self,
         alloc: Global,
+        _owner: u16,
         senders: u16,
     ) -> Result<(Vec<RingTx<Batch>>, RingRx<Batch>), NoMemory> {
         rings(alloc, senders)

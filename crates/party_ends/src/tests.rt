@@ -97,7 +97,7 @@ fn taken_from_weak<M: Drop, P: MakesGossip<M>>(
     first: M,
     second: M,
 ) -> Result<[Option<u16>; 3], NoMemory> {
-    let (senders, mut mailbox) = maker.make_weak(alloc, 2)?;
+    let (senders, mut mailbox) = maker.make_weak(alloc, 1, 2)?;
     let mut taken = [None; 3];
     if both_send(senders, first, second) {
         for place in 0..3 {

@@ -1,2 +1,3 @@
+mod NumberedLemmas
 mod RoundLemmas
 mod ToldLemmas

@@ -1,7 +1,8 @@
 //! The rounds of a run: an epoch, and a sweep over all parties after it.
-ghost use Rattle.std.specs.Prelude.{◌≡◌, ◌+◌, ◌≤◌, false, IfOk, IsTrue, OnOk, ⊤};
+ghost use Rattle.std.specs.Prelude.{◌≡◌, ◌+◌, ◌≤◌, false, map, IfOk, IsTrue, OnOk, ⊤};
 ghost use Rattle.drain_ledger.specs.Drained.{IsDrained, ledger_in};
 ghost use Rattle.drain_turns.specs.Ready.{FreesPlaces};
+ghost use Rattle.party_ends.specs.AllEnds.{AreNumbered};
 ghost use Rattle.party_sweep.specs.Sweeping.{AllAwait, AllToAsks, EachMoves, FreeBoth};
 ghost use Rattle.placement.specs.Config.{placed};
 ghost use Rattle.run_waiting.specs.Told.{AreAllTold};
@@ -45,8 +46,10 @@ pub fn serve_with<
     requires finite { IsTrue G.keeps.finite }
     requires room { FreesPlaces G.keeps }
     requires valid { IsValidScript script.now (placed script.now.config) }
-    ensures { IfOk result (λ drained. IsDrained script.now drained.report
+    ensures drained { IfOk result (λ drained. IsDrained script.now drained.report
         (ledger_in Q.received G.got R.received drained.workers.items drained.replies.items)) }
+    ensures made_with { IfOk result (λ drained. AreNumbered (P.numbers post.now)
+        (map (λ its. G.made_with (G.key its.gossip_in)) drained.workers.items)) }
 {
     let mut parties = new_parties::<S, T, O, Q, G, R, P>(post, alloc, script)?;
     run_rounds(rt, gate, alloc, script, &mut parties)?;

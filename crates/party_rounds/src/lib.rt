@@ -7,8 +7,9 @@
 //! epochs without a sweep for as long as it takes, and what it promises holds if it returns.
 //!
 //! The crate has no definitions of its own: what a run is while it goes on is `party_run`'s, how far it is
-//! `party_steps`', what is known of it between rounds `party_sweep`'s, and what it is once it is drained
-//! `drain_ledger`'s. It passes on what whoever serves a script has to name: kinds of mail, gates and waiting.
+//! `party_steps`', what is known of it between rounds `party_sweep`'s, what it is once it is drained
+//! `drain_ledger`'s, and which numbers its boxes of gossip were made with `party_ends`'. It passes on what whoever
+//! serves a script has to name: kinds of mail, gates and waiting.
 #![tactic(auto)]
 
 mod driver;

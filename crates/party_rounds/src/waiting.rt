@@ -1,6 +1,7 @@
 //! A script is served for as long as it takes, over any ends.
-ghost use Rattle.std.specs.Prelude.{◌≡◌, IfOk, IsTrue, OnOk};
+ghost use Rattle.std.specs.Prelude.{◌≡◌, map, IfOk, IsTrue, OnOk};
 ghost use Rattle.drain_ledger.specs.Drained.{IsDrained, ledger_in};
+ghost use Rattle.party_ends.specs.AllEnds.{AreNumbered};
 ghost use Rattle.placement.specs.Config.{placed};
 ghost use Rattle.session_known.specs.Script.{IsValidScript};
 
@@ -42,8 +43,10 @@ pub fn serve_waiting<
     script: &Script,
 ) -> Result<DrainedOver<Q, G, R>, NoMemory>
     requires valid { IsValidScript script.now (placed script.now.config) }
-    ensures { IfOk result (λ drained. IsDrained script.now drained.report
+    ensures drained { IfOk result (λ drained. IsDrained script.now drained.report
         (ledger_in Q.received G.got R.received drained.workers.items drained.replies.items)) }
+    ensures made_with { IfOk result (λ drained. AreNumbered (P.numbers post.now)
+        (map (λ its. G.made_with (G.key its.gossip_in)) drained.workers.items)) }
 {
     let mut parties = new_parties::<S, T, O, Q, G, R, P>(post, alloc, script)?;
     run_epochs(rt, by, gate, alloc, &mut parties)?;

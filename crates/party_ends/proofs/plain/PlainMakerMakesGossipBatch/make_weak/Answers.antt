@@ -3,8 +3,8 @@ use Rattle.std.proofs.lemmas.Result.{IfOk-at_ok}
 use Rattle.party_ends.proofs.FreshLemmas.{if_made, lanes_are_fresh_weak}
 use Rattle.party_ends.proofs.plain.PlainMakerMakesGossipBatch.make_weak.Goals as goal
 
-pub returns : goal.returns
-returns c =
+pub returns-clause-fresh : goal.returns-clause-fresh
+returns-clause-fresh c =
     let plain = c.plain.ensures in
     if_made _ _ c.plain.result plain.about (λ ends made about.
     lanes_are_fresh_weak _ _ _ _ _ _ c.args.senders ends.0.items ends.1

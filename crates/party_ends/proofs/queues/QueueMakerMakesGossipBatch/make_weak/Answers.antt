@@ -3,8 +3,8 @@ use Rattle.std.proofs.lemmas.Result.{IfOk-at_ok}
 use Rattle.party_ends.proofs.FreshLemmas.{each_tells, if_made, is_fresh_weak}
 use Rattle.party_ends.proofs.queues.QueueMakerMakesGossipBatch.make_weak.Goals as goal
 
-pub returns : goal.returns
-returns g c =
+pub returns-clause-fresh : goal.returns-clause-fresh
+returns-clause-fresh g c =
     let queue = c.queue.ensures in
     if_made _ _ c.queue.result queue.about (λ ends made about.
     is_fresh_weak _ _ _ _ _ _ _ _ c.args.senders ends.0.items ends.1
