@@ -1,0 +1,19 @@
+//! A run over gossip that comes late, as a test.
+//!
+//! The box of gossip here keeps less than rings do: where a sender was held beside it one message comes, and then
+//! the box finds nothing, though more are in the ring; and it never tells what a sender that has not ended sent.
+//! It does keep that of a shown sender with messages missing one comes before nothing is found, that so many come
+//! at most, and that a sender of which none is missing finds a place. That is what a run has to have: a whole run
+//! over such boxes drains, and its report is legal.
+//!
+//! No part of the product stands on this crate.
+#![tactic(auto)]
+
+mod late;
+
+pub use late::Late;
+
+#[cfg(test)]
+mod run_tests;
+#[cfg(test)]
+mod tests;

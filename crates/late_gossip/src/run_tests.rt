@@ -1,0 +1,85 @@
+//! A whole run over boxes of gossip that hand out late, judged.
+ghost use Rattle.std.specs.Prelude.{IfOk};
+ghost use Rattle.placement.specs.Config.{placed};
+ghost use Rattle.session_known.specs.Script.{IsValidScript};
+
+use super::*;
+use anna_check::{Verdict, check};
+use lattice_laws::NoMemory;
+use mail_rings::{RingRx, RingTx, rings};
+use party_ends::{MakesGossip, MakesMail, RingMaker};
+use party_rounds::{FreeGate, serve_with};
+use script_reader::read_script;
+use session_known::Script;
+use std::alloc::Global;
+use std::test::Fail;
+use store_msg::{Batch, Reply, Request};
+
+/// Makes boxes over rings; those of gossip hand out late.
+struct LateMaker;
+
+impl MakesMail<Request> for LateMaker {
+    type Mailbox = RingRx<Request>;
+
+    fn make(
+        &self,
+        alloc: Global,
+        senders: u16,
+    ) -> Result<(Vec<RingTx<Request>>, RingRx<Request>), NoMemory> {
+        <RingMaker as MakesMail<Request>>::make(&RingMaker, alloc, senders)
+    }
+}
+
+impl MakesMail<Reply> for LateMaker {
+    type Mailbox = RingRx<Reply>;
+
+    fn make(
+        &self,
+        alloc: Global,
+        senders: u16,
+    ) -> Result<(Vec<RingTx<Reply>>, RingRx<Reply>), NoMemory> {
+        <RingMaker as MakesMail<Reply>>::make(&RingMaker, alloc, senders)
+    }
+}
+
+impl MakesGossip<Batch> for LateMaker {
+    ghost use Rattle.std.specs.Prelude.{[]};
+
+    type Mailbox = Late<Batch, RingRx<Batch>>;
+
+    ghost numbers = { λ _ _. [] };
+
+    fn make_weak(
+        &self,
+        alloc: Global,
+        _owner: u16,
+        senders: u16,
+    ) -> Result<(Vec<RingTx<Batch>>, Late<Batch, RingRx<Batch>>), NoMemory> {
+        let (txs, inner) = rings(alloc, senders)?;
+        let late = Late::new(alloc, inner)?;
+        Ok((txs, late))
+    }
+}
+
+/// Two workers that both hold two keys, and two causal sessions that await what the other one put.
+const SCRIPT: &str =
+    "anna 1\nworkers 2\nround 1\nkey a set at 1 2\nkey b max at 2 1\nsession s causal\nput a x\nawait b t 1\nput a z\nget b\nput b 9\nget a\nsession t causal\nawait a s 1\nput b 7\nget a\nawait a s 2\nput a y\nget b\nend\n";
+
+/// The script that a text says.
+fn script_of(alloc: Global, text: &str) -> Result<Script, NoMemory>
+    ensures { IfOk result (λ script. IsValidScript script (placed script.config)) }
+{
+    match read_script(alloc, text.as_bytes()) {
+        Ok(script) => Ok(script),
+        Err(_) => Err(NoMemory),
+    }
+}
+
+#[test]
+fn a_run_over_late_gossip_drains(rt: HostRuntime) -> Result<(), Fail> {
+    let script = script_of(rt.alloc(), SCRIPT)?;
+    let drained = serve_with(&rt, &FreeGate, &LateMaker, rt.alloc(), &script)?;
+    let verdict = check(rt.alloc(), &script, &drained.report)?;
+    assert_eq!(rt; verdict, Verdict::Legal);
+    Ok(())
+}

@@ -1,0 +1,93 @@
+//! A box that hands out late, over rings.
+ghost use Rattle.std.specs.Prelude.{◌≡◌, IfOk};
+ghost use Rattle.mail_contract.specs.Standing.{AllStand, IsSettled};
+
+use super::*;
+use lattice_laws::NoMemory;
+use mail_contract::{GossipRx, Message, Tx};
+use mail_rings::{RingRx, RingTx, rings};
+use std::alloc::Global;
+use std::test::Fail;
+
+/// A number, for a message.
+#[derive(Clone, Copy, Debug, PartialEq, Eq, Drop)]
+struct Note(u32);
+
+impl Message for Note {
+    fn copy(&self) -> Result<Note, NoMemory> {
+        Ok(*self)
+    }
+}
+
+type LateNotes = Late<Note, RingRx<Note>>;
+
+/// What two takes hand out.
+type Two = [Option<(u16, Note)>; 2];
+
+fn two_taken(late: &mut LateNotes) -> Result<Two, NoMemory>
+    ensures key { ⟦<LateNotes as GossipRx<Note>>⟧.key late.new
+        ≡ ⟦<LateNotes as GossipRx<Note>>⟧.key late.old }
+    ensures standing { AllStand (⟦<LateNotes as GossipRx<Note>>⟧.about late.old)
+        (⟦<LateNotes as GossipRx<Note>>⟧.about late.new) }
+{
+    Ok([late.take()?, late.take()?])
+}
+
+/// And so once the sender, that was apart, is held beside the box.
+fn two_taken_beside(late: &mut LateNotes, tx: &mut RingTx<Note>) -> Result<Two, NoMemory>
+    requires { ⟦<LateNotes as GossipRx<Note>>⟧.pairs
+        (⟦<LateNotes as GossipRx<Note>>⟧.key late.old)
+        (⟦<RingTx<Note> as Tx<Note>>⟧.key tx.old) (⟦<RingTx<Note> as Tx<Note>>⟧.number tx.old) }
+    ensures key { ⟦<LateNotes as GossipRx<Note>>⟧.key late.new
+        ≡ ⟦<LateNotes as GossipRx<Note>>⟧.key late.old }
+    ensures tx_key { ⟦<RingTx<Note> as Tx<Note>>⟧.key tx.new
+        ≡ ⟦<RingTx<Note> as Tx<Note>>⟧.key tx.old }
+    ensures tx_number { ⟦<RingTx<Note> as Tx<Note>>⟧.number tx.new
+        ≡ ⟦<RingTx<Note> as Tx<Note>>⟧.number tx.old }
+    ensures shown { IsSettled (⟦<LateNotes as GossipRx<Note>>⟧.about late.new
+        (⟦<RingTx<Note> as Tx<Note>>⟧.number tx.new)).standing → ⊥ }
+{
+    late.apart();
+    late.beside(tx);
+    two_taken(late)
+}
+
+/// A box over one ring, and its sender.
+fn new_pair(alloc: Global) -> Result<(RingTx<Note>, LateNotes), Fail>
+    ensures { IfOk result (λ ends. ⟦<LateNotes as GossipRx<Note>>⟧.pairs
+        (⟦<LateNotes as GossipRx<Note>>⟧.key ends.1)
+        (⟦<RingTx<Note> as Tx<Note>>⟧.key ends.0) (⟦<RingTx<Note> as Tx<Note>>⟧.number ends.0)) }
+{
+    let (mut txs, inner) = rings(alloc, 1)?;
+    let late = Late::new(alloc, inner)?;
+    match txs.pop() {
+        Some(tx) => Ok((tx, late)),
+        None => Err(Fail::new("no sender")),
+    }
+}
+
+/// Whether three messages were sent.
+fn three_sent(tx: &mut RingTx<Note>) -> bool
+    ensures key { ⟦<RingTx<Note> as Tx<Note>>⟧.key tx.new
+        ≡ ⟦<RingTx<Note> as Tx<Note>>⟧.key tx.old }
+    ensures number { ⟦<RingTx<Note> as Tx<Note>>⟧.number tx.new
+        ≡ ⟦<RingTx<Note> as Tx<Note>>⟧.number tx.old }
+{
+    tx.send(Note(1)).is_ok() && tx.send(Note(2)).is_ok() && tx.send(Note(3)).is_ok()
+}
+
+/// One message comes each time that the sender was held beside the box, and the rest of what it sent once it has
+/// ended.
+#[test]
+fn one_message_comes_for_each_time_beside(rt: HostRuntime) -> Result<(), Fail> {
+    let (mut tx, mut late) = new_pair(rt.alloc())?;
+    assert!(rt; three_sent(&mut tx));
+    assert_eq!(rt; two_taken(&mut late)?, [None, None]);
+    let first = two_taken_beside(&mut late, &mut tx)?;
+    assert_eq!(rt; first, [Some((1, Note(1))), None]);
+    let second = two_taken_beside(&mut late, &mut tx)?;
+    assert_eq!(rt; second, [Some((1, Note(2))), None]);
+    late.settle(tx);
+    assert_eq!(rt; two_taken(&mut late)?, [Some((1, Note(3))), None]);
+    Ok(())
+}
