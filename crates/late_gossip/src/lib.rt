@@ -1,7 +1,7 @@
 //! A run over gossip that comes late, as a test.
 //!
-//! The box of gossip here keeps less than rings do: where a sender was held beside it one message comes, and then
-//! the box finds nothing, though more are in the ring; and it never tells what a sender that has not ended sent.
+//! The box of gossip here keeps less than rings do: once each sender that was held beside it had a message handed
+//! out, it finds nothing, though more are in the rings; and it never tells what a sender that has not ended sent.
 //! It does keep that of a shown sender with messages missing one comes before nothing is found, that so many come
 //! at most, and that a sender of which none is missing finds a place. That is what a run has to have: a whole run
 //! over such boxes drains, and its report is legal.
