@@ -9,7 +9,7 @@ mod texts;
 mod words;
 
 use outside::{ReadSource, WriteSink};
-use party_epochs::FreeGate;
+use party_run::FreeGate;
 use run::exit_of;
 use std::env;
 use std::io::ErrorKind;

@@ -19,14 +19,13 @@ use lattice_laws::NoMemory;
 use mail_contract::{GossipRx, Rx};
 use mail_rings::RingRx;
 use outside::{Failed, ReadFault, Sink, Source, finish, read_all};
-use party_epochs::Gate;
+use party_run::{Drained, Gate, RingPost, serve};
 use report_text::{ReportFault, read_report, write_report};
 use script_reader::{MOST_BYTES, ScriptFault, read_script, split_input};
 use session_known::{Report, Script};
 use std::alloc::Global;
 use std::thread::Threads;
 use store_msg::{Batch, Reply, Request};
-use threaded_run::{RingDrained, serve};
 
 /// The greatest length of an input that is checked, in bytes.
 const MOST_CHECKED: usize = 16_777_216;
@@ -80,7 +79,7 @@ pub enum PartsOver<D: Drop> {
 }
 
 /// The run that was made.
-pub type Parts = PartsOver<RingDrained>;
+pub type Parts = PartsOver<Drained<RingPost>>;
 
 /// What a run owes to whoever asked.
 #[derive(Drop)]
@@ -93,7 +92,7 @@ enum OutcomeOver<D: Drop> {
     Line(Status, Vec<u8>),
 }
 
-type Outcome = OutcomeOver<RingDrained>;
+type Outcome = OutcomeOver<Drained<RingPost>>;
 
 /// Reads a script and runs it.
 fn run_script<S: Source, E: Gate + Sync, H: Threads + Sync>(

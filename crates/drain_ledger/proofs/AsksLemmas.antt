@@ -28,9 +28,9 @@ use Rattle.run_ledger.proofs.HeldLemmas.{own_taken}
 use Rattle.run_ledger.proofs.SessionsLemmas.{by_number}
 use Rattle.run_ledger.proofs.UnheardLemmas.{few_unheard}
 use Rattle.drain_turns.specs.Ready.{AreReplied, FindPlaces, FreesPlaces}
-use Rattle.drain_turns.specs.Turning.{known_sent}
+use Rattle.party_turns.specs.Turning.{known_sent}
 use Rattle.drain_ledger.specs.Handed.{AreFrontsOfSent, AreOfOneRun, lists_left}
-use Rattle.drain_steps.proofs.ItemsLemmas.{mapped, there_is}
+use Rattle.party_turns.proofs.ItemsLemmas.{mapped, there_is}
 
 -- what a worker replied to the session at a place
 abbrev replied_to : {Q T O G : Type 0} → (T → List PlainReply) → PlainWorker Q T O G → ℕ → List PlainReply

@@ -31,14 +31,15 @@ use Rattle.run_ledger.proofs.DrainedLemmas.{drained_came}
 use Rattle.run_ledger.proofs.LegalLemmas.{legal_and_causal}
 use Rattle.run_ledger.proofs.PartiesLemmas.{at_mapped}
 use Rattle.run_ledger.proofs.SessionsLemmas.{from_first}
-use Rattle.drain_turns.specs.Ready.{IsMate}
+use Rattle.party_turns.specs.Mates.{IsMate}
 use Rattle.drain_ledger.specs.Drained.{IsDrained, end_in, ledger_in}
 use Rattle.drain_ledger.specs.Finals.{cells_of, finals_of}
-use Rattle.drain_ledger.specs.Handed.{AreOfOneRun, IsOfScript, left_of, lists_left, paired}
+use Rattle.drain_ledger.specs.Handed.{AreOfOneRun, left_of, lists_left, paired}
+use Rattle.party_turns.specs.Making.{IsOfScript}
 use Rattle.drain_ledger.proofs.FinalPlacesLemmas.{finals_whole, places_are}
-use Rattle.drain_ledger.proofs.ListsLemmas.{all_paired, are_counted, first_of_paired, mapped_or, pair_at, same_made, second_of_paired}
+use Rattle.drain_ledger.proofs.ListsLemmas.{all_paired, are_counted, first_of_paired, pair_at, second_of_paired}
+use Rattle.party_turns.proofs.ItemsLemmas.{mapped_or, same_made, at_its_place, mapped, of_mapped, there_is}
 use Rattle.drain_ledger.proofs.MatesLemmas.{IsHeardOut}
-use Rattle.drain_steps.proofs.ItemsLemmas.{at_its_place, mapped, of_mapped, there_is}
 use Rattle.drain_ledger.proofs.RequestsTakenLemmas.{sessions_long}
 
 -- the cells in hand are those of the workers

@@ -21,7 +21,7 @@ use Rattle.run_ledger.proofs.JoinedSoundLemmas.{joined_sound}
 use Rattle.run_ledger.proofs.SoundLemmas.{IsSoundAt, own_at}
 use Rattle.run_ledger.proofs.WorkersLemmas.{IsWorker, is_worker, worker_came}
 use Rattle.drain_ledger.specs.Drained.{AreFrontsSound, GoesOn, IsDrained, WasHeard, end_in, ledger_in}
-use Rattle.drain_ledger.proofs.ListsLemmas.{mapped_or}
+use Rattle.party_turns.proofs.ItemsLemmas.{mapped_or}
 
 module _ (script : Script) (table : List (List ℕ)) (report : Report) (ledger : Ledger) (valid : IsValidScript script table) (came : Came script table report ledger) (worker : ℕ) (within : IsWorker script worker) where
   abbrev Sound : ℕ → ℕ × PlainCell → Type 0

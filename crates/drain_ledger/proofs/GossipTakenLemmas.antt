@@ -1,7 +1,7 @@
 -- What it changes of a sealed worker to take in a mate's sender; where that sender stands among the mate's; and what numbers are those of mates.
 use Rattle.std.specs.Prelude.{◌≡◌, ◌≢◌, ◌⊎◌, ◌&&◌, ◌==◌, ℕ, ◌+◌, ◌-◌, ◌<◌, Bool, true, false, List, Option}
-use Rattle.std.proofs.Common.{◌∙◌, refl, sym, ap, subst, inl, inr, arith}
-use Rattle.std.proofs.lemmas.Bool.{cases_eq, cases_lt, eqb-false, ne_eqb}
+use Rattle.std.proofs.Common.{◌∙◌, refl, ap, subst, inl, inr, arith}
+use Rattle.std.proofs.lemmas.Bool.{cases_eq, cases_lt, eqb-false}
 use Rattle.std.proofs.lemmas.Bool.Decides.{nat_tests}
 use Rattle.mail_contract.specs.Boxes.{weak_box_of}
 use Rattle.mail_contract.specs.Got.{AreIn}
@@ -9,10 +9,11 @@ use Rattle.mail_contract.specs.Parts.{Parts}
 use Rattle.mail_contract.specs.Standing.{About}
 use Rattle.mail_contract.specs.Takes.{Answers}
 use Rattle.worker_core.specs.Sealed.{PlainSealed}
-use Rattle.worker_core.specs.State.{Entries, place_at}
-use Rattle.drain_steps.specs.Settling.{TakesInGossip, index_in}
+use Rattle.worker_core.specs.State.{Entries}
+use Rattle.drain_steps.specs.Settling.{TakesInGossip}
+use Rattle.party_turns.specs.Rows.{index_in}
 use Rattle.drain_steps.proofs.ChainLemmas.{Does}
-use Rattle.drain_turns.specs.Ready.{IsMate}
+use Rattle.party_turns.specs.Mates.{IsMate}
 
 -- a number is a mate's, or it is not
 pub mate_or_not : (workers me number : ℕ) → IsMate workers me number ⊎ (IsMate workers me number → ⊥)
@@ -34,13 +35,6 @@ is_mate workers row place within kept = ((omega arith, omega (arith, within)), �
 pub place_of_mate : (workers place number : ℕ) → IsMate workers (place + 1) number → (row : ℕ) × (row + 1 ≡ number) × (row < workers) × (row ≢ place)
 place_of_mate workers place number mate =
     (number - 1, omega (arith, mate.0.0), omega (arith, mate.0.0, mate.0.1), λ same. mate.1 (omega (arith, same, mate.0.0)))
-
--- the sender for a mate stands where its number says,
-pub index_is : (row place : ℕ) → (true && row == place) ≡ false → index_in true row place ≡ place_at (row + 1) (place + 1)
-index_is row place kept = grind (arith, nat_tests)
-
-pub mate_index : (row place : ℕ) → place ≢ row → index_in true row place ≡ place_at (row + 1) (place + 1)
-mate_index row place apart = index_is row place (ne_eqb row place (λ same. apart (sym same)))
 
 -- and there is one
 pub index_within : (row place long : ℕ) → (true && row == place) ≡ false → row < long + 1 → place < long + 1 → index_in true row place < long

@@ -1,7 +1,7 @@
 -- Items of two lists that stand at one place, side by side.
 use Rattle.std.specs.Prelude.{◌≡◌, ℕ, zero, suc, ◌+◌, List, [], ◌∷◌, All, length, map, slice_get, slice_index_or, Some}
 use Rattle.std.specs.List.{range_with_len}
-use Rattle.std.proofs.Common.{refl, ap, arith}
+use Rattle.std.proofs.Common.{refl, arith}
 use Rattle.std.proofs.lemmas.List.Elements.{All-cons, All-nil}
 use Rattle.std.proofs.lemmas.Option.{same_Some, slice_get_within}
 use Rattle.drain_ledger.specs.Handed.{paired}
@@ -40,18 +40,3 @@ are_counted first [] each = refl
 are_counted first (x ∷ xs) each =
     let here : x ≡ first = omega (arith, each 0 x refl) in
     λ j. here j ∷ are_counted (first + 1) xs (λ place y is. let later = each (suc place) y is in omega (arith, later)) j
-
-module _ {X Y : Type 0} (f : X → Y) where
-  -- what a function makes of the item at a place, by its value or else
-  pub mapped_or : (xs : List X) (place : ℕ) (x : X) (none : Y) → slice_get xs place ≡ Some x → slice_index_or (map f xs) place none ≡ f x
-  mapped_or [] place x none is = let within = slice_get_within [] place x is in absurd (omega (arith, within))
-  mapped_or (first ∷ xs) zero x none is = ap f (same_Some first x is)
-  mapped_or (first ∷ xs) (suc place) x none is = mapped_or xs place x none is
-
--- where two functions make the same of the items at each place, they make the same lists
-pub same_made : {X Y V : Type 0} (f : X → V) (g : Y → V) (xs : List X) (ys : List Y) → length ys ≡ length xs
-    → ((place : ℕ) (x : X) (y : Y) → slice_get xs place ≡ Some x → slice_get ys place ≡ Some y → f x ≡ g y) → map f xs ≡ map g ys
-same_made f g [] [] long each = refl
-same_made f g [] (y ∷ ys) long each = absurd (omega (arith, long))
-same_made f g (x ∷ xs) [] long each = absurd (omega (arith, long))
-same_made f g (x ∷ xs) (y ∷ ys) long each = λ j. each 0 x y refl refl j ∷ same_made f g xs ys (omega (arith, long)) (λ place. each (suc place)) j

@@ -19,15 +19,16 @@ use Rattle.worker_core.specs.Sealed.{HoldsSealed, PlainSealed, sealed_of}
 use Rattle.worker_core.specs.Share.{told_to}
 use Rattle.worker_core.specs.State.{Entries, PlainWorker, lists_of, place_at}
 use Rattle.drain_steps.specs.Hearing.{HasHeard}
-use Rattle.drain_steps.specs.Settling.{MayTakeAll, MayTakeIn, TakesAll, column, index_in}
+use Rattle.party_turns.specs.Rows.{MayTakeAll, MayTakeIn, TakesAll, column, index_in}
 use Rattle.drain_steps.proofs.ChainLemmas.{Does, IsNumbered, OfEach, all_taken, may_all, others_stay}
-use Rattle.drain_turns.specs.Ready.{IsMate, StandsOrIsShown}
-use Rattle.drain_steps.specs.Hearing.{AreGotInRange}
-use Rattle.drain_turns.specs.Turning.{HasGoneOn}
+use Rattle.party_turns.specs.Mates.{IsMate, StandsOrIsShown}
+use Rattle.party_turns.specs.Turning.{AreGotInRange, HasGoneOn}
 use Rattle.drain_ledger.specs.Drained.{GoesOn}
-use Rattle.drain_ledger.specs.Handed.{AreOfOneRun, IsUnused}
-use Rattle.drain_ledger.proofs.GossipTakenLemmas.{AreGotOf, OnlyGossip, TakesMate, does_gossip, index_is, index_within, is_mate, mate_or_not, place_of_mate}
-use Rattle.drain_steps.proofs.ItemsLemmas.{alike_at, all_there, at_its_place, long_alike, mapped, of_mapped, there_is, there_too}
+use Rattle.drain_ledger.specs.Handed.{AreOfOneRun}
+use Rattle.party_turns.specs.Making.{IsUnused}
+use Rattle.drain_ledger.proofs.GossipTakenLemmas.{AreGotOf, OnlyGossip, TakesMate, does_gossip, index_within, is_mate, mate_or_not, place_of_mate}
+use Rattle.party_turns.proofs.MakingLemmas.{index_is}
+use Rattle.party_turns.proofs.ItemsLemmas.{alike_at, all_there, at_its_place, long_alike, mapped, of_mapped, there_is, there_too}
 
 -- the senders of gossip of a worker, and those of workers, a row for each
 abbrev pub mates_of : {Q T O G : Type 0} → PlainWorker Q T O G → List O

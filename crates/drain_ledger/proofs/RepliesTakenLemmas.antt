@@ -13,13 +13,15 @@ use Rattle.store_msg.specs.Reply.{PlainReply}
 use Rattle.store_msg.specs.declared.ends.SessionEndsOver.{SessionEndsOver}
 use Rattle.store_msg.specs.declared.request.Request.{Request}
 use Rattle.worker_core.specs.State.{Entries, PlainWorker}
-use Rattle.drain_steps.specs.Settling.{MayTakeAll, MayTakeIn, TakesAll, TakesInReplies, column}
+use Rattle.party_turns.specs.Rows.{MayTakeAll, MayTakeIn, TakesAll, column}
+use Rattle.drain_steps.specs.Settling.{TakesInReplies}
 use Rattle.drain_steps.proofs.ChainLemmas.{Does, TakenInAll, all_taken}
-use Rattle.drain_turns.specs.Turning.{HasGoneOn}
-use Rattle.drain_ledger.specs.Handed.{AreOfOneMaking, AreOfOneRun}
-use Rattle.drain_ledger.proofs.ListsLemmas.{mapped_or}
-use Rattle.drain_ledger.proofs.MakingLemmas.{making_stays, may_take}
-use Rattle.drain_steps.proofs.ItemsLemmas.{at_its_place, mapped, of_mapped, there_is, there_too}
+use Rattle.party_turns.specs.Turning.{HasGoneOn}
+use Rattle.party_turns.specs.Making.{AreOfOneMaking}
+use Rattle.drain_ledger.specs.Handed.{AreOfOneRun}
+use Rattle.party_turns.proofs.ItemsLemmas.{mapped_or, at_its_place, mapped, of_mapped, there_is, there_too}
+use Rattle.party_turns.proofs.MakingLemmas.{making_stays}
+use Rattle.drain_ledger.proofs.MakingLemmas.{may_take}
 
 module _ {T R RK : Type 0} (key : R → RK) (received : R → List (ℕ × PlainReply)) (answers : R → Answers) (about : R → ℕ → About PlainReply) (keeps : Parts) (number : T → ℕ) (sent : T → List PlainReply) where
   -- a box takes in a sender

@@ -20,14 +20,16 @@ use Rattle.store_msg.specs.declared.request.Request.{Request}
 use Rattle.worker_core.specs.State.{Entries, PlainWorker}
 use Rattle.run_ledger.specs.Parties.{HaveEnded}
 use Rattle.run_ledger.proofs.MessagesLemmas.{each_from}
-use Rattle.drain_steps.specs.Settling.{MayTakeAll, MayTakeIn, TakesAll, TakesInRequests, column}
+use Rattle.party_turns.specs.Rows.{MayTakeAll, MayTakeIn, TakesAll, column}
+use Rattle.drain_steps.specs.Settling.{TakesInRequests}
 use Rattle.drain_steps.proofs.ChainLemmas.{Does, IsNumbered, IsSettledAs, TakenInAll, all_taken, may_all, others_stay}
 use Rattle.drain_turns.specs.Ready.{AreReady}
-use Rattle.drain_turns.specs.Turning.{AreInRange, AreKnown, HasGoneOn, IsDone, IsKnown}
-use Rattle.drain_turns.proofs.PassesGoingOn.{mates_stay}
-use Rattle.drain_ledger.specs.Handed.{AreOfOneRun, IsOfScript, IsUnused, lists_left}
-use Rattle.drain_ledger.proofs.MakingLemmas.{made_mates}
-use Rattle.drain_steps.proofs.ItemsLemmas.{at_its_place, long_alike, mapped, there_is, there_too}
+use Rattle.party_turns.specs.Turning.{AreInRange, AreKnown, HasGoneOn, IsDone, IsKnown}
+use Rattle.party_turns.proofs.GoingOnLemmas.{mates_stay}
+use Rattle.drain_ledger.specs.Handed.{AreOfOneRun, lists_left}
+use Rattle.party_turns.specs.Making.{IsOfScript, IsUnused}
+use Rattle.party_turns.proofs.MakingLemmas.{made_mates}
+use Rattle.party_turns.proofs.ItemsLemmas.{at_its_place, long_alike, mapped, there_is, there_too}
 
 -- as many sessions left their ends as there are plans
 as_many_left : {A S R : Type 0} (table : List (List ℕ)) (workers number : ℕ) (asked : S → List Request) (received : R → List (ℕ × PlainReply))

@@ -1,6 +1,6 @@
 -- What is handed over of a run whose sessions have ended: its workers, and of each session its answers and its ends.
-use Rattle.std.specs.Prelude.{◌≡◌, ◌⊎◌, ◌&&◌, ◌==◌, ℕ, ◌+◌, ◌<◌, Bool, false, true, IsTrue, if◌then◌else◌, List, [], ◌∷◌, All, length, map, slice_get, slice_index_or, Option, Some, None}
-use Rattle.mail_contract.specs.Standing.{About, IsSettled, Settled}
+use Rattle.std.specs.Prelude.{◌≡◌, ℕ, ◌+◌, false, true, List, [], ◌∷◌, All, length, map, slice_get, slice_index_or, Option, Some}
+use Rattle.mail_contract.specs.Standing.{About}
 use Rattle.mail_contract.specs.Takes.{IsFront, from_sender}
 use Rattle.placement.specs.Config.{IsOneOf}
 use Rattle.session_known.specs.Script.{IsValidScript}
@@ -12,18 +12,9 @@ use Rattle.store_msg.specs.declared.ends.SessionEndsOver.{SessionEndsOver}
 use Rattle.store_msg.specs.declared.request.Request.{Request}
 use Rattle.worker_core.specs.State.{Entries, PlainWorker}
 use Rattle.run_ledger.specs.Parties.{HaveEnded}
-use Rattle.drain_steps.specs.Settling.{index_in}
-use Rattle.drain_turns.specs.Ready.{IsMate}
-
--- a worker of a script, by its place from 0
-pub record IsOfScript {Q T O G : Type 0} (script : Script) (table : List (List ℕ)) (place : ℕ) (worker : PlainWorker Q T O G) : Type 0 where
-  pub me : worker.state.me ≡ place + 1
-  -- it makes a round of gossip after as many requests as the script says
-  pub round : worker.state.round ≡ script.round
-  pub placement : worker.state.placement ≡ table
-  pub kinds : worker.state.kinds ≡ script.kinds
-  pub sessions : length worker.ends.replies.items ≡ length script.sessions
-  pub mates : length worker.ends.gossip_out.items + 1 ≡ script.config.workers
+use Rattle.party_turns.specs.Mates.{IsMate}
+use Rattle.party_turns.specs.Making.{IsOfScript, AreOfOneMaking, IsBoxOf, IsWeakBoxOf}
+use Rattle.party_turns.specs.Ends.{Ends}
 
 -- what is made of the items that stand at the same places of two lists
 abbrev pub paired : {X Y Z : Type 0} → (X → Y → Z) → List X → List Y → List Z
@@ -37,32 +28,6 @@ left_of sent received course its = record { course = course; sent = map sent its
 
 abbrev pub lists_left : {A S R : Type 0} → (S → List Request) → (R → List (ℕ × PlainReply)) → List sessions.Course → List (A × SessionEndsOver S R) → List sessions.Lists
 lists_left sent received = paired (left_of sent received)
-
--- Rows of senders and boxes are of one making: in each row is a sender for each box, in order, or, where rows skip, for each but the one of the
--- row's own number; it has the row's number, from 1, and no box has taken in any of them.
-pub record AreOfOneMaking {S P M K SK : Type 0} (sender_key : S → SK) (number : S → ℕ) (pairs : K → SK → ℕ → Type 0) (key : P → K) (about : P → ℕ → About M)
-    (skips : Bool) (rows : List (List S)) (boxes : List P) : Type 0 where
-  pub many : All (λ senders. length senders + (if skips then 1 else 0) ≡ length boxes) rows
-  pub numbers : (row : ℕ) (senders : List S) → slice_get rows row ≡ Some senders → All (λ sender. number sender ≡ row + 1) senders
-  pub paired : (row place : ℕ) (senders : List S) (sender : S) (box : P) → slice_get rows row ≡ Some senders → slice_get boxes place ≡ Some box → (skips && row == place) ≡ false
-      → slice_get senders (index_in skips row place) ≡ Some sender → pairs (key box) (sender_key sender) (number sender)
-  pub not_taken_in : (row place : ℕ) (box : P) → row < length rows → slice_get boxes place ≡ Some box → (skips && row == place) ≡ false → IsSettled (about box (row + 1)).standing → ⊥
-
--- A sender of a box that is none of those of the run was taken in, and had sent nothing.
-pub record IsUnused {M : Type 0} (about : About M) : Type 0 where
-  pub nothing : about.standing ≡ Settled []
-  pub met : IsTrue about.met
-
--- What a box handed out is of its senders, and each of these is one of those of the run, or unused.
-pub record IsBoxOf {M : Type 0} (OfRun : ℕ → Type 0) (senders : ℕ) (received : List (ℕ × M)) (about : ℕ → About M) : Type 0 where
-  pub in_range : All (λ message. IsOneOf senders message.0) received
-  pub there : (sender : ℕ) → OfRun sender → IsOneOf senders sender
-  pub others : (sender : ℕ) → IsOneOf senders sender → OfRun sender ⊎ (IsUnused (about sender) × (from_sender sender received ≡ []))
-
--- and so a weak box
-pub record IsWeakBoxOf {M : Type 0} (OfRun : ℕ → Type 0) (senders : ℕ) (got : ℕ → ℕ → Option M) (about : ℕ → About M) : Type 0 where
-  pub in_range : (sender place : ℕ) (message : M) → got sender place ≡ Some message → IsOneOf senders sender
-  pub others : (sender : ℕ) → IsOneOf senders sender → OfRun sender ⊎ (IsUnused (about sender) × ((place : ℕ) → got sender place ≡ None))
 
 -- What a session received of a worker is a front of what that one sent it.
 abbrev pub AreFrontsOfSent : {A S R Q T O G : Type 0} → (T → List PlainReply) → (R → List (ℕ × PlainReply)) → List (PlainWorker Q T O G) → List (A × SessionEndsOver S R) → Type 0
@@ -100,3 +65,12 @@ pub record AreOfOneRun {S T O Q G R SK TK OK QK GK RK : Type 0}
       → IsWeakBoxOf (IsMate script.config.workers (place + 1)) (in_senders (in_key worker.ends.gossip_in)) (got worker.ends.gossip_in) (in_about worker.ends.gossip_in)
   pub reply_boxes : (session : ℕ) (its : List Answer × SessionEndsOver S R) → slice_get left session ≡ Some its
       → All (λ message. IsOneOf script.config.workers message.0) (replies_received its.1.replies)
+
+-- so by what their ends tell, in one value
+abbrev pub AreHandedOver : {S T O Q G R SK TK OK QK GK RK : Type 0} → Ends S T O Q G R SK TK OK QK GK RK → Script → List (PlainWorker Q T O G)
+    → List (List Answer × SessionEndsOver S R) → Type 0
+AreHandedOver mail =
+    AreOfOneRun mail.request_tx.key mail.request_tx.number mail.request_tx.sent mail.reply_tx.key mail.reply_tx.number mail.gossip_tx.key mail.gossip_tx.number
+    mail.request_rx.key mail.request_rx.pairs mail.request_rx.senders mail.request_rx.received mail.request_rx.about
+    mail.gossip_rx.key mail.gossip_rx.pairs mail.gossip_rx.senders mail.gossip_rx.got mail.gossip_rx.about
+    mail.reply_rx.key mail.reply_rx.pairs mail.reply_rx.received mail.reply_rx.about

@@ -1,5 +1,5 @@
 //! The drain, step by step.
-ghost use Rattle.std.specs.Prelude.{◌≡◌, ◌⊎◌, ℕ, length, map, slice_get, IfOk, IsFalse, IsTrue, Some};
+ghost use Rattle.std.specs.Prelude.{◌≡◌, ◌⊎◌, ℕ, map, slice_get, IfOk, IsFalse, IsTrue, Some};
 ghost use Rattle.drain_ledger.specs.Drained.{AreFrontsSound, GoesOn, IsDrained, ledger_in};
 ghost use Rattle.drain_ledger.specs.Handed.{AreFrontsOfSent, AreOfOneRun};
 ghost use Rattle.drain_turns.specs.Ready.{FreesPlaces, NeverFull};
@@ -7,12 +7,12 @@ ghost use Rattle.worker_core.specs.Sealed.{PlainSealed};
 ghost use Rattle.worker_core.specs.State.{PlainWorker};
 
 use crate::finals::final_cells;
-use drain_steps::{attest_all, hear_all, part_all, seal_all, settle_all};
+use drain_steps::{HearsOut, attest_all, hear_all, part_all, seal_all, settle_all};
 use drain_turns::{TurnsAll, turn_all};
 use lattice_laws::{Items, NoMemory};
 use mail_contract::{GossipRx, Rx, Tx};
 use session_known::{Answer, Report, Script};
-use store_msg::{Batch, Reply, Request, SessionEndsOver};
+use store_msg::{Batch, Mail, Reply, Request, SessionEndsOver};
 use worker_core::{SealedOver, WorkerOver};
 
 /// A run that is drained: its report, its workers, sealed, and the boxes of its sessions' replies, both
@@ -24,12 +24,15 @@ pub struct DrainedOver<Q: Rx<Request>, G: GossipRx<Batch>, R: Rx<Reply>> {
     pub replies: Vec<R>,
 }
 
+/// A run that is drained, over one kind of mail.
+pub type Drained<P> = DrainedOver<<P as Mail>::ReqRx, <P as Mail>::GosRx, <P as Mail>::RepRx>;
+
 /// Drains a run: the workers take what the ended sessions sent them and tell one another of it, until
 /// nothing is left; then the final cells are written down. After `NoMemory` all is dropped.
 ///
-/// It returns where steps are repeated by measure ([`ByMeasure`](drain_steps::ByMeasure)), which needs mail that tells
+/// It returns where steps are repeated by measure ([`ByMeasure`](party_turns::ByMeasure)), which needs mail that tells
 /// how much may still come and in which senders find places. Over other mail it may wait
-/// ([`Waiting`](drain_steps::Waiting)), and what it promises holds if it returns.
+/// ([`Waiting`](party_turns::Waiting)), and what it promises holds if it returns.
 pub fn drain<
     S: Tx<Request>,
     T: Tx<Reply>,
@@ -37,7 +40,7 @@ pub fn drain<
     Q: Rx<Request, From = S>,
     G: GossipRx<Batch, From = O>,
     R: Rx<Reply, From = T>,
-    P: TurnsAll<T, O, Q, G>,
+    P: TurnsAll<T, O, Q, G> + HearsOut<Q, G>,
 >(
     by: &P,
     script: &Script,

@@ -15,4 +15,4 @@
 mod draining;
 mod finals;
 
-pub use draining::{DrainedOver, drain};
+pub use draining::{Drained, DrainedOver, drain};

@@ -5,8 +5,8 @@ use Rattle.std.proofs.lemmas.List.Elements.{Contains-append_cases, Contains-appe
 use Rattle.std.proofs.lemmas.Option.{none-some, same_Some}
 use Rattle.lattice_laws.proofs.MembersLemmas.{contains_cases, contains_first, contains_later, contains_none}
 use Rattle.mail_contract.specs.Standing.{About, IsSettled, OthersStay, Settled}
-use Rattle.drain_steps.specs.Settling.{MayTakeAll, MayTakeIn, TakesAll, column, for_place, index_in, those}
-use Rattle.drain_steps.proofs.ItemsLemmas.{at_its_place}
+use Rattle.party_turns.specs.Rows.{MayTakeAll, MayTakeIn, TakesAll, column, for_place, index_in, those}
+use Rattle.party_turns.proofs.ItemsLemmas.{at_its_place}
 
 module _ {S : Type 0} (skips : Bool) where
   -- It is the sender for a party in a row, by the row's number, of the rows from a number on.

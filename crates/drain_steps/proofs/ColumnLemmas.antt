@@ -3,7 +3,7 @@ use Rattle.std.specs.Prelude.{◌≡◌, ℕ, ◌+◌, ◌<◌, Bool, List, [], 
 use Rattle.std.proofs.Common.{◌∙◌, refl, sym, ap, subst, append-nil, length-append, arith}
 use Rattle.std.proofs.lemmas.List.{append_assoc}
 use Rattle.std.proofs.lemmas.Option.{same_Some, slice_get-get_or, slice_get_within}
-use Rattle.drain_steps.specs.Settling.{MayTakeAll, TakesAll, column, for_place}
+use Rattle.party_turns.specs.Rows.{MayTakeAll, TakesAll, column, for_place}
 
 module _ {S P : Type 0} (takes : S → P → P → Type 0) where
   -- to take in two lists is to take in the second one and then the first

@@ -13,8 +13,9 @@ use Rattle.store_msg.specs.declared.request.Request.{Request}
 use Rattle.worker_core.specs.Sealed.{HearsOne, HoldsSealed, PlainSealed}
 use Rattle.worker_core.specs.State.{Entries}
 use Rattle.worker_core.proofs.MapLemmas.{holds_heard}
-use Rattle.drain_steps.specs.Hearing.{AreGotInRange, HasHeard}
-use Rattle.drain_steps.proofs.HandedOutLemmas.{KeepsWeak, hand_out_keeps, weak_still, weak_through}
+use Rattle.party_turns.specs.Turning.{AreGotInRange}
+use Rattle.drain_steps.specs.Hearing.{HasHeard}
+use Rattle.party_turns.proofs.HandedOutLemmas.{KeepsWeak, hand_out_keeps, weak_still, weak_through}
 
 -- What it heard before it still heard, of the same senders, and what is known of these stays; and it has cells of the same keys.
 pub record HearsOn {Q G GK : Type 0} (key : G → GK) (senders : GK → ℕ) (box : G → WeakBox Entries) (complete : Bool) (before now : PlainSealed Q G) : Type 0 where

@@ -3,14 +3,10 @@ use Rattle.std.specs.Prelude.{◌≡◌, ℕ, Bool, List, is_some, Option, Some,
 use Rattle.mail_contract.specs.Got.{AreAllOfSent, IsOfSent}
 use Rattle.mail_contract.specs.Standing.{About, AllStand}
 use Rattle.merge_world.specs.Effects.{cells_at}
-use Rattle.placement.specs.Config.{IsOneOf}
 use Rattle.store_msg.specs.declared.request.Request.{Request}
 use Rattle.worker_core.specs.Sealed.{HoldsSealed, PlainSealed}
 use Rattle.worker_core.specs.State.{Entries}
-
--- what was handed out is of so many senders
-abbrev pub AreGotInRange : {M : Type 0} → ℕ → (ℕ → ℕ → Option M) → Type 0
-AreGotInRange {M} senders got = (sender place : ℕ) (message : M) → got sender place ≡ Some message → IsOneOf senders sender
+use Rattle.party_turns.specs.Turning.{AreGotInRange}
 
 -- It holds what it received and heard, of the same keys; it heard nothing but what its settled senders told, and all of it.
 pub record HasHeard {Q G GK : Type 0} (received : Q → List (ℕ × Request)) (key : G → GK) (senders : GK → ℕ) (got : G → ℕ → ℕ → Option Entries) (about : G → ℕ → About Entries) (complete : Bool)

@@ -1,12 +1,12 @@
 //! Sealed workers hear what the others told them.
-ghost use Rattle.std.specs.Prelude.{◌≡◌, ℕ, length, slice_get, IsFalse, IsTrue, None, OnOk, Some};
+ghost use Rattle.std.specs.Prelude.{◌≡◌, ℕ, length, slice_get, IsFalse, IsTrue, OnOk, Some};
 ghost use Rattle.drain_steps.specs.Hearing.{HasHeard};
 ghost use Rattle.mail_contract.specs.Standing.{AreMet};
 ghost use Rattle.worker_core.specs.Sealed.{PlainSealed};
 
-use crate::{ByMeasure, Repeats, Waiting};
 use lattice_laws::NoMemory;
 use mail_contract::{GossipRx, Rx};
+use party_turns::{ByMeasure, Repeats, Waiting};
 use std::sync::Wait;
 use store_msg::{Batch, Request};
 use worker_core::SealedOver;

@@ -3,23 +3,21 @@
 //! others told them.
 //!
 //! Each step is one call over all workers or sessions, and its contract says of each of them what it
-//! became. [`Repeats`] is how a step is repeated: by measure, and so with an end, or waiting as long
-//! as it takes, over any ends. `specs/Settling.antt` says what it is to take in many senders,
-//! `specs/Hearing.antt` what a sealed worker is once it has heard all.
+//! became. `specs/Settling.antt` says what it is to take in many senders, `specs/Hearing.antt` what a sealed
+//! worker is once it has heard all.
 //!
-//! The crate stands on `worker_core`, whose workers it seals and turns to, and on the mail below.
+//! The crate stands on `worker_core`, whose workers it seals, and on `party_turns` for how a step is repeated and
+//! for the rows that senders stand in.
 #![tactic(auto)]
 
 mod attesting;
 mod hearing;
 mod parting;
-mod repeating;
 mod sealing;
 mod settling;
 
 pub use attesting::attest_all;
 pub use hearing::{HearsOut, hear_all};
 pub use parting::part_all;
-pub use repeating::{ByMeasure, Repeats, Waiting};
 pub use sealing::seal_all;
 pub use settling::{TakesIn, settle_all};

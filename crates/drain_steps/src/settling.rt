@@ -1,6 +1,6 @@
 //! Senders that have ended are taken in by those that they are for.
 ghost use Rattle.std.specs.Prelude.{◌≡◌, ◌&&◌, ◌==◌, ℕ, ◌+◌, ◌^◌, ◌<◌, ◌≤◌, All, if◌then◌else◌, length, map, slice_get, false, Some};
-ghost use Rattle.drain_steps.specs.Settling.{MayTakeAll, TakesAll, column, for_place, index_in};
+ghost use Rattle.party_turns.specs.Rows.{MayTakeAll, TakesAll, column, for_place, index_in};
 
 use mail_contract::{GossipRx, Rx, Tx, settle_one};
 use store_msg::{Batch, Reply, Request};
@@ -25,7 +25,8 @@ pub trait TakesIn<M>: Drop {
 
 impl<Q: Rx<Request>, T: Tx<Reply>, O: Tx<Batch>, G: GossipRx<Batch, From = O>> TakesIn<Request>
     for WorkerOver<Q, T, O, G> {
-    ghost use Rattle.drain_steps.specs.Settling.{MayTakeIn, TakesInRequests};
+    ghost use Rattle.party_turns.specs.Rows.{MayTakeIn};
+    ghost use Rattle.drain_steps.specs.Settling.{TakesInRequests};
     ghost use Rattle.mail_contract.specs.Boxes.{box_of};
 
     type From = Q::From;
@@ -42,7 +43,8 @@ impl<Q: Rx<Request>, T: Tx<Reply>, O: Tx<Batch>, G: GossipRx<Batch, From = O>> T
 }
 
 impl<Q: Rx<Request>, G: GossipRx<Batch>> TakesIn<Batch> for SealedOver<Q, G> {
-    ghost use Rattle.drain_steps.specs.Settling.{MayTakeIn, TakesInGossip};
+    ghost use Rattle.party_turns.specs.Rows.{MayTakeIn};
+    ghost use Rattle.drain_steps.specs.Settling.{TakesInGossip};
     ghost use Rattle.mail_contract.specs.Boxes.{weak_box_of};
 
     type From = G::From;
@@ -60,7 +62,8 @@ impl<Q: Rx<Request>, G: GossipRx<Batch>> TakesIn<Batch> for SealedOver<Q, G> {
 }
 
 impl<R: Rx<Reply>> TakesIn<Reply> for R {
-    ghost use Rattle.drain_steps.specs.Settling.{MayTakeIn, TakesInReplies};
+    ghost use Rattle.party_turns.specs.Rows.{MayTakeIn};
+    ghost use Rattle.drain_steps.specs.Settling.{TakesInReplies};
     ghost use Rattle.mail_contract.specs.Boxes.{box_of};
 
     type From = R::From;

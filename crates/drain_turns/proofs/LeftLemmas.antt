@@ -6,12 +6,13 @@ use Rattle.std.proofs.lemmas.Bool.{cases_eq, cases_lt}
 use Rattle.std.proofs.lemmas.Option.{slice_get_past, slice_get_within}
 use Rattle.mail_contract.specs.Got.{missing}
 use Rattle.worker_core.specs.State.{Entries, dirty, mate_at, place_at}
-use Rattle.drain_turns.specs.Ready.{Hears, MatesMiss, Steady, heard_of, keys_of, left_to_all, left_to_tell, missing_at, missing_to, told_at, told_by}
-use Rattle.drain_turns.specs.Turning.{Owes}
-use Rattle.drain_turns.proofs.PairPlacesLemmas.{hearer_at, place_within, same_place}
+use Rattle.drain_turns.specs.Ready.{Hears, MatesMiss, heard_of, keys_of, left_to_all, left_to_tell, missing_at, missing_to, told_by}
+use Rattle.party_turns.specs.Mates.{Steady, told_at}
+use Rattle.party_turns.specs.Turning.{Owes}
+use Rattle.party_turns.proofs.PairPlacesLemmas.{hearer_at, place_within, same_place}
 use Rattle.drain_turns.proofs.PassesTurnLemmas.{none_missing_of}
-use Rattle.drain_turns.proofs.SumsLemmas.{at_most, by_places, less, missing_longer, missing_no_less, two_sums}
-use Rattle.drain_turns.proofs.TurningKeysLemmas.{no_more_keys}
+use Rattle.party_turns.proofs.SumsLemmas.{at_most, by_places, less, missing_longer, missing_no_less, two_sums}
+use Rattle.party_turns.proofs.TurningKeysLemmas.{no_more_keys}
 
 -- the mate at a place misses as much as it does by its own place
 at_is_to : {Q T OK GK : Type 0} (workers : List (Steady Q T OK GK)) (teller at : ℕ) → missing_at workers teller at ≡ missing_to workers teller (mate_at (teller + 1) at - 1)

@@ -13,8 +13,8 @@ use Rattle.worker_core.specs.Share.{IsHeldFor, Share}
 use Rattle.worker_core.specs.State.{Lists}
 use Rattle.run_ledger.proofs.GetsLemmas.{gets_in, gets_in_front}
 use Rattle.run_ledger.proofs.HeldLemmas.{held_is_asked}
-use Rattle.drain_turns.proofs.TurningBoxesLemmas.{of_known}
-use Rattle.drain_turns.specs.Turning.{AreKnown, known_sent, not_taken}
+use Rattle.party_turns.proofs.TurningBoxesLemmas.{of_known}
+use Rattle.party_turns.specs.Turning.{AreKnown, known_sent, not_taken}
 
 module _ (lists : Lists) (about : ℕ → About Request) (complete : Bool) (senders : ℕ) (share : Share lists) (known : AreKnown complete senders lists.received about)
     (replied : (session : ℕ) → IsOneOf (length lists.replied) session → length (gets_in (known_sent (about session).standing)) ≤ length (slice_index_or lists.replied (session - 1) []))

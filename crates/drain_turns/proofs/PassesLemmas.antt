@@ -6,10 +6,10 @@ use Rattle.mail_contract.specs.Boxes.{Box, FindsNothing}
 use Rattle.mail_contract.specs.Parts.{Parts}
 use Rattle.store_msg.specs.declared.request.Request.{Request}
 use Rattle.worker_core.specs.State.{Entries, PlainWorker, State, dirty}
-use Rattle.drain_turns.specs.Ready.{Steady, steadies, steady_of}
-use Rattle.drain_turns.specs.Turning.{IsDone}
-use Rattle.drain_steps.proofs.ItemsLemmas.{there_too}
-use Rattle.drain_turns.proofs.PairListsLemmas.{still_at}
+use Rattle.party_turns.specs.Mates.{Steady, steadies, steady_of}
+use Rattle.party_turns.specs.Turning.{IsDone}
+use Rattle.party_turns.proofs.ItemsLemmas.{there_too}
+use Rattle.party_turns.proofs.PairListsLemmas.{still_at}
 
 module _ {Q T O G OK GK : Type 0} (out_key : O → OK) (number : O → ℕ) (told : O → List Entries) (in_key : G → GK) (got : G → ℕ → ℕ → Option Entries) (keeps : Parts) (box : Q → Box Request) where
   -- a worker that is done stays so while it is shown to others

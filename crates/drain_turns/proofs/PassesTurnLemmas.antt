@@ -11,12 +11,13 @@ use Rattle.mail_contract.proofs.PostsLemmas.{stays_elsewhere}
 use Rattle.store_msg.specs.Reply.{PlainReply}
 use Rattle.store_msg.specs.declared.request.Request.{Request}
 use Rattle.worker_core.specs.State.{Entries, PlainWorker, place_at}
-use Rattle.drain_turns.specs.Ready.{AreReady, FreesPlaces, HaveGoneOn, Hears, Knows, MatesMiss, StandsOrIsShown, Steady, heard_of, missing_to, steady_of, told_at}
-use Rattle.drain_turns.specs.Turning.{HasGoneOn, HearsDue, SomeBack}
-use Rattle.drain_steps.proofs.ItemsLemmas.{there_is}
-use Rattle.drain_steps.proofs.PlacesLemmas.{now_there}
-use Rattle.drain_turns.proofs.PairPlacesLemmas.{mate_there}
-use Rattle.drain_turns.proofs.PassesGoingOn.{all_stay}
+use Rattle.drain_turns.specs.Ready.{AreReady, FreesPlaces, Hears, MatesMiss, heard_of, missing_to}
+use Rattle.party_turns.specs.Mates.{HaveGoneOn, Knows, StandsOrIsShown, Steady, steady_of, told_at}
+use Rattle.party_turns.specs.Turning.{HasGoneOn, HearsDue, SomeBack}
+use Rattle.party_turns.proofs.ItemsLemmas.{there_is}
+use Rattle.party_turns.proofs.PlacesLemmas.{now_there}
+use Rattle.party_turns.proofs.PairPlacesLemmas.{mate_there}
+use Rattle.party_turns.proofs.GoingOnLemmas.{all_stay}
 
 module _ {Q T O G QK TK OK GK : Type 0} {request_key : Q → QK} {reply_key : T → TK} {reply_number : T → ℕ} {gossip_key : O → OK} {gossip_number : O → ℕ} {in_key : G → GK}
     {complete : Bool} {senders : QK → ℕ} {received : Q → List (ℕ × Request)} {about : Q → ℕ → About Request} {replied : T → List PlainReply}

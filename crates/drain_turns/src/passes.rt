@@ -1,14 +1,14 @@
 //! The workers take their turns, one after another, until nothing is left to do.
 ghost use Rattle.std.specs.Prelude.{◌≡◌, ◌≢◌, ◌⊎◌, ◌<◌, ◌≤◌, ◌+◌, ℕ, false, if◌then◌else◌, length, slice_get, IfOk, IsFalse, IsTrue, OnOk, Some};
-ghost use Rattle.drain_turns.specs.Ready.{AreMates, AreReady, AreShown, FindPlaces, FreesPlaces, HaveGoneOn, HaveNoneLeft, Hears, Knows, MatesMiss, NeverFull, StandsOrIsShown, Steady, left_to, left_to_all, steadies};
-ghost use Rattle.drain_turns.specs.Turning.{HasGoneOn, IsDone, Owes};
+ghost use Rattle.party_turns.specs.Mates.{HaveGoneOn, Knows, StandsOrIsShown, Steady, steadies};
+ghost use Rattle.drain_turns.specs.Ready.{AreReady, FindPlaces, FreesPlaces, HaveNoneLeft, Hears, MatesMiss, NeverFull, left_to, left_to_all};
+ghost use Rattle.party_turns.specs.Turning.{HasGoneOn, IsDone, Owes};
 ghost use Rattle.mail_contract.specs.Boxes.{box_of};
 ghost use Rattle.worker_core.specs.State.{PlainWorker, dirty};
 
-use crate::TurnsOut;
-use drain_steps::ByMeasure;
 use lattice_laws::NoMemory;
 use mail_contract::{GossipRx, Rx, Tx};
+use party_turns::{ByMeasure, TurnsOut, show_pair};
 use store_msg::{Batch, Reply, Request};
 use worker_core::WorkerOver;
 
@@ -187,23 +187,4 @@ fn show_to_all<T: Tx<Reply>, O: Tx<Batch>, Q: Rx<Request>, G: GossipRx<Batch, Fr
             show_pair(workers, place, other);
         }
     }
-}
-
-/// Holds the workers at two places, from 0, beside each other, so that each box of gossip learns what the other
-/// one's sender has. Nothing else changes of them, and nothing of the others. Takes no memory.
-pub fn show_pair<T: Tx<Reply>, O: Tx<Batch>, Q: Rx<Request>, G: GossipRx<Batch, From = O>>(
-    workers: &mut [WorkerOver<Q, T, O, G>],
-    place: usize,
-    other: usize,
-)
-    requires within { (place < length workers.old) × (other < length workers.old) }
-    requires differ { other ≢ place }
-    requires mates { AreMates O.key O.number G.key G.pairs workers.old }
-    ensures shown { AreShown O.key O.number O.sent O.clear O.unseen G.key G.keeps G.got G.about
-        G.due place other workers.old workers.new }
-{
-    let low = place.min(other);
-    let high = place.max(other);
-    let (front, back) = workers.split_at_mut(high);
-    front[low].beside_mate(&mut back[0]);
 }

@@ -7,18 +7,34 @@ use super::*;
 use anna_check::{Verdict, check};
 use lattice_laws::NoMemory;
 use mail_rings::{RingRx, RingTx, rings};
-use party_ends::{MakesGossip, MakesMail, RingMaker};
-use party_rounds::{FreeGate, serve_with};
+use party_ends::{MakesGossip, MakesMail, MakesPost};
+use party_run::{FreeGate, RingPost, serve_with};
 use script_reader::read_script;
 use session_known::Script;
 use std::alloc::Global;
 use std::test::Fail;
-use store_msg::{Batch, Reply, Request};
+use store_msg::{Batch, Mail, Reply, Request};
 
-/// Makes boxes over rings; those of gossip hand out late.
-struct LateMaker;
+/// Boxes over rings; those of gossip hand out late.
+struct LatePost;
 
-impl MakesMail<Request> for LateMaker {
+impl Mail for LatePost {
+    type ReqTx = RingTx<Request>;
+
+    type ReqRx = RingRx<Request>;
+
+    type RepTx = RingTx<Reply>;
+
+    type RepRx = RingRx<Reply>;
+
+    type GosTx = RingTx<Batch>;
+
+    type GosRx = Late<Batch, RingRx<Batch>>;
+}
+
+impl MakesPost for LatePost {}
+
+impl MakesMail<Request> for LatePost {
     type Mailbox = RingRx<Request>;
 
     fn make(
@@ -26,11 +42,11 @@ impl MakesMail<Request> for LateMaker {
         alloc: Global,
         senders: u16,
     ) -> Result<(Vec<RingTx<Request>>, RingRx<Request>), NoMemory> {
-        <RingMaker as MakesMail<Request>>::make(&RingMaker, alloc, senders)
+        <RingPost as MakesMail<Request>>::make(&RingPost, alloc, senders)
     }
 }
 
-impl MakesMail<Reply> for LateMaker {
+impl MakesMail<Reply> for LatePost {
     type Mailbox = RingRx<Reply>;
 
     fn make(
@@ -38,11 +54,11 @@ impl MakesMail<Reply> for LateMaker {
         alloc: Global,
         senders: u16,
     ) -> Result<(Vec<RingTx<Reply>>, RingRx<Reply>), NoMemory> {
-        <RingMaker as MakesMail<Reply>>::make(&RingMaker, alloc, senders)
+        <RingPost as MakesMail<Reply>>::make(&RingPost, alloc, senders)
     }
 }
 
-impl MakesGossip<Batch> for LateMaker {
+impl MakesGossip<Batch> for LatePost {
     ghost use Rattle.std.specs.Prelude.{[]};
 
     type Mailbox = Late<Batch, RingRx<Batch>>;
@@ -78,7 +94,7 @@ fn script_of(alloc: Global, text: &str) -> Result<Script, NoMemory>
 #[test]
 fn a_run_over_late_gossip_drains(rt: HostRuntime) -> Result<(), Fail> {
     let script = script_of(rt.alloc(), SCRIPT)?;
-    let drained = serve_with(&rt, &FreeGate, &LateMaker, rt.alloc(), &script)?;
+    let drained = serve_with(&rt, &FreeGate, &LatePost, rt.alloc(), &script)?;
     let verdict = check(rt.alloc(), &script, &drained.report)?;
     assert_eq!(rt; verdict, Verdict::Legal);
     Ok(())

@@ -1,21 +1,19 @@
 -- Boxes and rows of senders are put together, and so are all ends of one making.
-use Rattle.std.specs.Prelude.{◌≡◌, ℕ, ◌+◌, Bool, false, true, if◌then◌else◌, List, [], All, length, map, slice_get, Option, Some, None}
+use Rattle.std.specs.Prelude.{◌≡◌, ℕ, ◌+◌, Bool, false, true, if◌then◌else◌, List, [], All, length, map, slice_get, Some, None}
 use Rattle.std.specs.List.{zip}
 use Rattle.std.proofs.Common.{◌∙◌, sym, ap, subst, Global, Vec}
 use Rattle.std.proofs.lemmas.List.{length-map}
 use Rattle.std.proofs.lemmas.Slice.Zip.{firsts-zip, seconds-zip}
 use Rattle.mail_contract.specs.Standing.{About}
 use Rattle.placement.specs.Config.{IsOneOf}
-use Rattle.store_msg.specs.Reply.{PlainReply}
 use Rattle.store_msg.specs.declared.ends.SessionEndsOver.{SessionEndsOver}
 use Rattle.store_msg.specs.declared.ends.WorkerEndsOver.{WorkerEndsOver}
-use Rattle.store_msg.specs.declared.request.Request.{Request}
-use Rattle.worker_core.specs.State.{Entries}
-use Rattle.drain_turns.specs.Ready.{IsMate}
-use Rattle.drain_ledger.specs.Handed.{AreOfOneMaking, IsBoxOf}
-use Rattle.drain_steps.proofs.ItemsLemmas.{all_there, at_its_place, made_of_made, mapped}
+use Rattle.party_turns.specs.Mates.{IsMate}
+use Rattle.party_turns.specs.Making.{AreOfOneMaking, IsBoxOf}
+use Rattle.party_turns.proofs.ItemsLemmas.{all_there, at_its_place, made_of_made, mapped}
 use Rattle.party_ends.specs.AllEnds.{AreAllEnds}
 use Rattle.party_ends.specs.Dealt.{AreNew, IsEmptyBoxOf, IsEmptyWeakBoxOf}
+use Rattle.party_turns.specs.Ends.{Ends}
 
 -- what holds of all that is made of items holds of what is made of each
 all_over : {X Y : Type 0} (f : X → Y) (Holds : Y → Type 0) (xs : List X) → All Holds (map f xs) → All (λ x. Holds (f x)) xs
@@ -99,19 +97,14 @@ items_of : {X E : Type 0} (part : E → Vec X Global) (ends : List E) (rows : Li
 items_of part ends rows is = sym (made_of_made part (λ row. row.items) ends) ∙ ap (map (λ row. row.items)) is
 
 module _ {S T O Q G R SK TK OK QK GK RK : Type 0}
-    {request_key : S → SK} {request_number : S → ℕ} {asked : S → List Request}
-    {reply_key : T → TK} {reply_number : T → ℕ} {replied : T → List PlainReply}
-    {gossip_key : O → OK} {gossip_number : O → ℕ} {told : O → List Entries}
-    {requests_key : Q → QK} {requests_pairs : QK → SK → ℕ → Type 0} (requests_senders : QK → ℕ) (requests_received : Q → List (ℕ × Request)) {requests_about : Q → ℕ → About Request}
-    {in_key : G → GK} {in_pairs : GK → OK → ℕ → Type 0} (in_senders : GK → ℕ) (got : G → ℕ → ℕ → Option Entries) {in_about : G → ℕ → About Entries}
-    {replies_key : R → RK} {replies_pairs : RK → TK → ℕ → Type 0} (replies_senders : RK → ℕ) (replies_received : R → List (ℕ × PlainReply)) {replies_about : R → ℕ → About PlainReply}
+    (mail : Ends S T O Q G R SK TK OK QK GK RK)
     (many_workers many_sessions : ℕ) (asks : List (Vec S Global)) (requests : List Q) (answers : List (Vec T Global)) (replies : List R) (tells : List (Vec O Global)) (gossip : List G)
-    (requests_new : AreNew request_key request_number asked requests_pairs requests_key requests_about false many_sessions many_workers (map (λ row. row.items) asks) requests)
-    (requests_empty : All (IsEmptyBoxOf (IsOneOf many_sessions) requests_key requests_senders requests_received requests_about) requests)
-    (replies_new : AreNew reply_key reply_number replied replies_pairs replies_key replies_about false many_workers many_sessions (map (λ row. row.items) answers) replies)
-    (replies_empty : All (λ box. (replies_senders (replies_key box) ≡ many_workers) × (replies_received box ≡ [])) replies)
-    (gossip_new : AreNew gossip_key gossip_number told in_pairs in_key in_about true many_workers many_workers (map (λ row. row.items) tells) gossip)
-    (gossip_empty : (place : ℕ) (box : G) → slice_get gossip place ≡ Some box → IsEmptyWeakBoxOf (IsMate many_workers (place + 1)) in_key in_senders got in_about box)
+    (requests_new : AreNew mail.request_tx.key mail.request_tx.number mail.request_tx.sent mail.request_rx.pairs mail.request_rx.key mail.request_rx.about false many_sessions many_workers (map (λ row. row.items) asks) requests)
+    (requests_empty : All (IsEmptyBoxOf (IsOneOf many_sessions) mail.request_rx.key mail.request_rx.senders mail.request_rx.received mail.request_rx.about) requests)
+    (replies_new : AreNew mail.reply_tx.key mail.reply_tx.number mail.reply_tx.sent mail.reply_rx.pairs mail.reply_rx.key mail.reply_rx.about false many_workers many_sessions (map (λ row. row.items) answers) replies)
+    (replies_empty : All (λ box. (mail.reply_rx.senders (mail.reply_rx.key box) ≡ many_workers) × (mail.reply_rx.received box ≡ [])) replies)
+    (gossip_new : AreNew mail.gossip_tx.key mail.gossip_tx.number mail.gossip_tx.sent mail.gossip_rx.pairs mail.gossip_rx.key mail.gossip_rx.about true many_workers many_workers (map (λ row. row.items) tells) gossip)
+    (gossip_empty : (place : ℕ) (box : G) → slice_get gossip place ≡ Some box → IsEmptyWeakBoxOf (IsMate many_workers (place + 1)) mail.gossip_rx.key mail.gossip_rx.senders mail.gossip_rx.got mail.gossip_rx.about box)
     (workers : List (WorkerEndsOver Q T O G)) (sessions : List (SessionEndsOver S R))
     (workers_are : workers ≡ map worker_of (zip (zip requests answers) (zip tells gossip)))
     (sessions_are : sessions ≡ map (λ its. record { requests = its.0; replies = its.1 }) (zip asks replies)) where
@@ -150,34 +143,32 @@ module _ {S T O Q G R SK TK OK QK GK RK : Type 0}
   its_gossip : (place : ℕ) (its : WorkerEndsOver Q T O G) → slice_get workers place ≡ Some its → slice_get gossip place ≡ Some its.gossip_in
   its_gossip place its there = sym (ap (λ all. slice_get all place) gossip_in_in) ∙ mapped (λ (one : WorkerEndsOver Q T O G). one.gossip_in) workers place its there
 
-  pub are_all_ends : AreAllEnds request_key request_number asked reply_key reply_number replied gossip_key gossip_number told
-      requests_key requests_pairs requests_senders requests_received requests_about in_key in_pairs in_senders got in_about
-      replies_key replies_pairs replies_senders replies_received replies_about many_workers many_sessions workers sessions
+  pub are_all_ends : AreAllEnds mail many_workers many_sessions workers sessions
   are_all_ends = record {
     workers_are = sym (length-map workers (λ its. its.requests)) ∙ ap length requests_in ∙ requests_new.boxes_are;
     sessions_are = sym (length-map sessions (λ its. its.replies)) ∙ ap length replies_in ∙ replies_new.boxes_are;
-    none_asked = all_made (λ (its : SessionEndsOver S R). its.requests.items) (All (λ sender. asked sender ≡ [])) sessions (map (λ row. row.items) asks) asks_in requests_new.nothing_sent;
-    none_replied = all_made (λ (its : WorkerEndsOver Q T O G). its.replies.items) (All (λ sender. replied sender ≡ [])) workers (map (λ row. row.items) answers) answers_in replies_new.nothing_sent;
-    none_told = all_made (λ (its : WorkerEndsOver Q T O G). its.gossip_out.items) (All (λ sender. told sender ≡ [])) workers (map (λ row. row.items) tells) tells_in gossip_new.nothing_sent;
-    none_received = all_made (λ (its : WorkerEndsOver Q T O G). its.requests) (λ box. requests_received box ≡ []) workers requests requests_in
-        (all_there (λ box. requests_received box ≡ []) requests (λ place box there.
-        (at_its_place (IsEmptyBoxOf (IsOneOf many_sessions) requests_key requests_senders requests_received requests_about) requests place box requests_empty there).0));
-    none_heard = all_made (λ (its : SessionEndsOver S R). its.replies) (λ box. replies_received box ≡ []) sessions replies replies_in
-        (all_there (λ box. replies_received box ≡ []) replies (λ place box there.
-        (at_its_place (λ one. (replies_senders (replies_key one) ≡ many_workers) × (replies_received one ≡ [])) replies place box replies_empty there).1));
-    none_got = all_there (λ its. (sender place : ℕ) → got its.gossip_in sender place ≡ None) workers (λ place its there. (gossip_empty place its.gossip_in (its_gossip place its there)).0);
-    requests = subst (λ rows. AreOfOneMaking request_key request_number requests_pairs (λ (its : WorkerEndsOver Q T O G). requests_key its.requests) (λ its. requests_about its.requests) false rows workers) (sym asks_in)
+    none_asked = all_made (λ (its : SessionEndsOver S R). its.requests.items) (All (λ sender. mail.request_tx.sent sender ≡ [])) sessions (map (λ row. row.items) asks) asks_in requests_new.nothing_sent;
+    none_replied = all_made (λ (its : WorkerEndsOver Q T O G). its.replies.items) (All (λ sender. mail.reply_tx.sent sender ≡ [])) workers (map (λ row. row.items) answers) answers_in replies_new.nothing_sent;
+    none_told = all_made (λ (its : WorkerEndsOver Q T O G). its.gossip_out.items) (All (λ sender. mail.gossip_tx.sent sender ≡ [])) workers (map (λ row. row.items) tells) tells_in gossip_new.nothing_sent;
+    none_received = all_made (λ (its : WorkerEndsOver Q T O G). its.requests) (λ box. mail.request_rx.received box ≡ []) workers requests requests_in
+        (all_there (λ box. mail.request_rx.received box ≡ []) requests (λ place box there.
+        (at_its_place (IsEmptyBoxOf (IsOneOf many_sessions) mail.request_rx.key mail.request_rx.senders mail.request_rx.received mail.request_rx.about) requests place box requests_empty there).0));
+    none_heard = all_made (λ (its : SessionEndsOver S R). its.replies) (λ box. mail.reply_rx.received box ≡ []) sessions replies replies_in
+        (all_there (λ box. mail.reply_rx.received box ≡ []) replies (λ place box there.
+        (at_its_place (λ one. (mail.reply_rx.senders (mail.reply_rx.key one) ≡ many_workers) × (mail.reply_rx.received one ≡ [])) replies place box replies_empty there).1));
+    none_got = all_there (λ its. (sender place : ℕ) → mail.gossip_rx.got its.gossip_in sender place ≡ None) workers (λ place its there. (gossip_empty place its.gossip_in (its_gossip place its there)).0);
+    requests = subst (λ rows. AreOfOneMaking mail.request_tx.key mail.request_tx.number mail.request_rx.pairs (λ (its : WorkerEndsOver Q T O G). mail.request_rx.key its.requests) (λ its. mail.request_rx.about its.requests) false rows workers) (sym asks_in)
         (making_over (λ (its : WorkerEndsOver Q T O G). its.requests) workers requests requests_in requests_new.making);
-    replies = subst (λ boxes. AreOfOneMaking reply_key reply_number replies_pairs replies_key replies_about false (map (λ (its : WorkerEndsOver Q T O G). its.replies.items) workers) boxes) (sym replies_in)
-        (subst (λ rows. AreOfOneMaking reply_key reply_number replies_pairs replies_key replies_about false rows replies) (sym answers_in) replies_new.making);
-    gossip = subst (λ rows. AreOfOneMaking gossip_key gossip_number in_pairs (λ (its : WorkerEndsOver Q T O G). in_key its.gossip_in) (λ its. in_about its.gossip_in) true rows workers) (sym tells_in)
+    replies = subst (λ boxes. AreOfOneMaking mail.reply_tx.key mail.reply_tx.number mail.reply_rx.pairs mail.reply_rx.key mail.reply_rx.about false (map (λ (its : WorkerEndsOver Q T O G). its.replies.items) workers) boxes) (sym replies_in)
+        (subst (λ rows. AreOfOneMaking mail.reply_tx.key mail.reply_tx.number mail.reply_rx.pairs mail.reply_rx.key mail.reply_rx.about false rows replies) (sym answers_in) replies_new.making);
+    gossip = subst (λ rows. AreOfOneMaking mail.gossip_tx.key mail.gossip_tx.number mail.gossip_rx.pairs (λ (its : WorkerEndsOver Q T O G). mail.gossip_rx.key its.gossip_in) (λ its. mail.gossip_rx.about its.gossip_in) true rows workers) (sym tells_in)
         (making_over (λ (its : WorkerEndsOver Q T O G). its.gossip_in) workers gossip gossip_in_in gossip_new.making);
     request_boxes = all_made (λ (its : WorkerEndsOver Q T O G). its.requests)
-        (λ box. IsBoxOf (IsOneOf many_sessions) (requests_senders (requests_key box)) (requests_received box) (requests_about box)) workers requests requests_in
-        (all_there (λ box. IsBoxOf (IsOneOf many_sessions) (requests_senders (requests_key box)) (requests_received box) (requests_about box)) requests (λ place box there.
-        (at_its_place (IsEmptyBoxOf (IsOneOf many_sessions) requests_key requests_senders requests_received requests_about) requests place box requests_empty there).1));
+        (λ box. IsBoxOf (IsOneOf many_sessions) (mail.request_rx.senders (mail.request_rx.key box)) (mail.request_rx.received box) (mail.request_rx.about box)) workers requests requests_in
+        (all_there (λ box. IsBoxOf (IsOneOf many_sessions) (mail.request_rx.senders (mail.request_rx.key box)) (mail.request_rx.received box) (mail.request_rx.about box)) requests (λ place box there.
+        (at_its_place (IsEmptyBoxOf (IsOneOf many_sessions) mail.request_rx.key mail.request_rx.senders mail.request_rx.received mail.request_rx.about) requests place box requests_empty there).1));
     gossip_boxes = λ place its there. (gossip_empty place its.gossip_in (its_gossip place its there)).1;
-    reply_boxes = all_made (λ (its : SessionEndsOver S R). its.replies) (λ box. replies_senders (replies_key box) ≡ many_workers) sessions replies replies_in
-        (all_there (λ box. replies_senders (replies_key box) ≡ many_workers) replies (λ place box there.
-        (at_its_place (λ one. (replies_senders (replies_key one) ≡ many_workers) × (replies_received one ≡ [])) replies place box replies_empty there).0));
+    reply_boxes = all_made (λ (its : SessionEndsOver S R). its.replies) (λ box. mail.reply_rx.senders (mail.reply_rx.key box) ≡ many_workers) sessions replies replies_in
+        (all_there (λ box. mail.reply_rx.senders (mail.reply_rx.key box) ≡ many_workers) replies (λ place box there.
+        (at_its_place (λ one. (mail.reply_rx.senders (mail.reply_rx.key one) ≡ many_workers) × (mail.reply_rx.received one ≡ [])) replies place box replies_empty there).0));
   }

@@ -3,9 +3,9 @@ use Rattle.std.specs.Prelude.{◌≡◌, ◌⊎◌, ℕ, zero, suc, ◌+◌, ◌
 use Rattle.std.proofs.Common.{◌∙◌, refl, sym, ap, subst, inl, inr, arith, length-append}
 use Rattle.std.proofs.lemmas.List.{get_or-replicate, length-map, length-replicate}
 use Rattle.std.proofs.lemmas.Option.{get_or_from_slice_get, none-some, same_Some, slice_get_within}
-use Rattle.drain_steps.specs.Settling.{TakesAll, for_place, those}
-use Rattle.drain_steps.proofs.PlacesLemmas.{there_after}
-use Rattle.drain_steps.proofs.ItemsLemmas.{all_there, at_its_place, of_mapped, there_is}
+use Rattle.party_turns.specs.Rows.{TakesAll, for_place, those}
+use Rattle.party_turns.proofs.PlacesLemmas.{there_after}
+use Rattle.party_turns.proofs.ItemsLemmas.{all_there, at_its_place, of_mapped, there_is}
 use Rattle.party_ends.specs.Dealt.{AreDealt, AreGiven, AreMade}
 
 -- an item of a list with one more at the end is one of the list, or the one more

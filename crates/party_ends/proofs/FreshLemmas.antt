@@ -11,8 +11,7 @@ use Rattle.mail_contract.specs.Got.{got_of}
 use Rattle.mail_contract.specs.Lanes.{IsLaneOf}
 use Rattle.mail_contract.specs.Standing.{About, Apart}
 use Rattle.placement.specs.Config.{IsOneOf}
-use Rattle.drain_ledger.proofs.ListsLemmas.{mapped_or}
-use Rattle.drain_steps.proofs.ItemsLemmas.{at_its_place}
+use Rattle.party_turns.proofs.ItemsLemmas.{mapped_or, at_its_place}
 use Rattle.party_ends.specs.Fresh.{IsFresh, IsFreshWeak}
 
 module _ {S : Type 0} (number : S → ℕ) (senders : List S) (many : ℕ) (numbers : map number senders ≡ range_with_len 1 many) where

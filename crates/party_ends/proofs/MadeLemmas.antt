@@ -8,7 +8,7 @@ use Rattle.mail_contract.specs.Parts.{Parts}
 use Rattle.mail_contract.specs.Standing.{About, Settled, IsSettled}
 use Rattle.mail_contract.specs.Takes.{Answers, from_sender}
 use Rattle.placement.specs.Config.{IsOneOf}
-use Rattle.drain_steps.proofs.ItemsLemmas.{all_there, at_its_place, there_is}
+use Rattle.party_turns.proofs.ItemsLemmas.{all_there, at_its_place, there_is}
 use Rattle.party_ends.specs.Dealt.{AreMade, AreNew, IsEmptyBoxOf}
 use Rattle.party_ends.specs.Fresh.{IsFresh, IsFreshWeak}
 

@@ -7,8 +7,8 @@ use Rattle.std.proofs.lemmas.List.{length-set}
 use Rattle.std.proofs.lemmas.List.Elements.{All-append, All-drop, All-take}
 use Rattle.std.proofs.lemmas.Option.{same_Some, slice_get_within}
 use Rattle.mail_contract.proofs.PostsLemmas.{stays_elsewhere}
-use Rattle.drain_steps.specs.Settling.{index_in}
-use Rattle.drain_steps.proofs.PlacesLemmas.{now_there}
+use Rattle.party_turns.specs.Rows.{index_in}
+use Rattle.party_turns.proofs.PlacesLemmas.{now_there}
 use Rattle.party_ends.specs.Dealt.{AreDoneBefore}
 
 module _ {X Y : Type 0} (Does : ℕ → X → X → Y → Y → Type 0) (xs : List X) (ys : List Y) where

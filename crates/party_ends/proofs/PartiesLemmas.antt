@@ -1,10 +1,9 @@
 -- The parties that are made over all ends are those of a run.
-use Rattle.std.specs.Prelude.{◌≡◌, ℕ, ◌+◌, true, false, List, [], ◌∷◌, ◌++◌, All, length, map, slice_get, Option, Some, None, Result, Ok, Err, IfOk}
+use Rattle.std.specs.Prelude.{◌≡◌, ℕ, ◌+◌, true, false, List, [], ◌∷◌, ◌++◌, All, length, map, slice_get, Some, None, Result, Ok, Err, IfOk}
 use Rattle.std.proofs.Common.{◌∙◌, sym, ap, subst, inl, inr, arith, length-append}
 use Rattle.std.proofs.lemmas.List.{length-map, map-id}
 use Rattle.std.proofs.lemmas.List.Elements.{All-nil}
 use Rattle.std.proofs.lemmas.Option.{same_Some, slice_get_within}
-use Rattle.mail_contract.specs.Standing.{About}
 use Rattle.placement.specs.Config.{IsOneOf}
 use Rattle.session_known.specs.Script.{IsValidScript}
 use Rattle.session_known.specs.declared.script.Line.{Line}
@@ -16,16 +15,16 @@ use Rattle.store_msg.specs.Reply.{PlainReply}
 use Rattle.store_msg.specs.declared.ends.SessionEndsOver.{SessionEndsOver}
 use Rattle.store_msg.specs.declared.ends.WorkerEndsOver.{WorkerEndsOver}
 use Rattle.store_msg.specs.declared.request.Request.{Request}
-use Rattle.worker_core.specs.State.{Entries, PlainWorker}
-use Rattle.drain_steps.proofs.ItemsLemmas.{all_there, at_its_place, made_of_made, mapped, there_is, there_too}
-use Rattle.drain_ledger.specs.Handed.{AreOfOneMaking, IsBoxOf, IsWeakBoxOf}
-use Rattle.drain_ledger.proofs.ListsLemmas.{same_made}
-use Rattle.drain_turns.specs.Ready.{IsMate}
-use Rattle.party_run.specs.Running.{AreRunning, HaveEnds}
+use Rattle.worker_core.specs.State.{PlainWorker}
+use Rattle.party_turns.proofs.ItemsLemmas.{all_there, at_its_place, made_of_made, mapped, there_is, there_too, same_made}
+use Rattle.party_turns.specs.Making.{AreOfOneMaking, IsBoxOf, IsWeakBoxOf}
+use Rattle.party_turns.specs.Mates.{IsMate}
+use Rattle.party_turns.specs.Running.{AreRunning, HaveEnds}
 use Rattle.party_ends.specs.AllEnds.{AreAllEnds}
 use Rattle.party_ends.specs.Parties.{AreMadeOf, AreUnusedOfSession, AreUnusedOfWorker, IsNewSession, IsNewWorker}
 use Rattle.party_ends.proofs.AllEndsLemmas.{making_over}
 use Rattle.party_ends.proofs.DealLemmas.{of_one_more}
+use Rattle.party_turns.specs.Ends.{Ends}
 
 -- one more was made
 pub one_more : {X Y : Type 0} {IsMadeOf : ℕ → X → Y → Type 0} (items : List X) (made : List Y) (item : X) (its : Y) → AreMadeOf IsMadeOf items made → IsMadeOf (length items) item its
@@ -64,38 +63,31 @@ parts_are : {X Y : Type 0} (part : Y → X) (items : List X) (made : List Y) →
 parts_are part items made long each = sym (same_made (λ item. item) part items made long (λ place item its there here. sym (each place item its there here))) ∙ map-id items
 
 module _ {S T O Q G R SK TK OK QK GK RK : Type 0}
-    {request_key : S → SK} {request_number : S → ℕ} {asked : S → List Request}
-    {reply_key : T → TK} {reply_number : T → ℕ} {replied : T → List PlainReply}
-    {gossip_key : O → OK} {gossip_number : O → ℕ} {told : O → List Entries}
-    {requests_key : Q → QK} {requests_pairs : QK → SK → ℕ → Type 0} {requests_senders : QK → ℕ} {requests_received : Q → List (ℕ × Request)} {requests_about : Q → ℕ → About Request}
-    {in_key : G → GK} {in_pairs : GK → OK → ℕ → Type 0} {in_senders : GK → ℕ} {got : G → ℕ → ℕ → Option Entries} {in_about : G → ℕ → About Entries}
-    {replies_key : R → RK} {replies_pairs : RK → TK → ℕ → Type 0} {replies_senders : RK → ℕ} {replies_received : R → List (ℕ × PlainReply)} {replies_about : R → ℕ → About PlainReply}
+    {mail : Ends S T O Q G R SK TK OK QK GK RK}
     {many_workers many_sessions : ℕ} {worker_ends : List (WorkerEndsOver Q T O G)} {session_ends : List (SessionEndsOver S R)}
-    (ends : AreAllEnds request_key request_number asked reply_key reply_number replied gossip_key gossip_number told
-    requests_key requests_pairs requests_senders requests_received requests_about in_key in_pairs in_senders got in_about
-    replies_key replies_pairs replies_senders replies_received replies_about many_workers many_sessions worker_ends session_ends) where
+    (ends : AreAllEnds mail many_workers many_sessions worker_ends session_ends) where
   -- the ends of a worker are unused
-  pub of_workers : All (AreUnusedOfWorker requests_received got replied told many_workers) worker_ends
-  of_workers = all_there (AreUnusedOfWorker requests_received got replied told many_workers) worker_ends (λ place its there. record {
+  pub of_workers : All (AreUnusedOfWorker mail.request_rx.received mail.gossip_rx.got mail.reply_tx.sent mail.gossip_tx.sent many_workers) worker_ends
+  of_workers = all_there (AreUnusedOfWorker mail.request_rx.received mail.gossip_rx.got mail.reply_tx.sent mail.gossip_tx.sent many_workers) worker_ends (λ place its there. record {
     mates =
         at_its_place (λ senders. length senders + 1 ≡ length worker_ends) (map (λ (one : WorkerEndsOver Q T O G). one.gossip_out.items) worker_ends) place its.gossip_out.items ends.gossip.many
         (mapped (λ (one : WorkerEndsOver Q T O G). one.gossip_out.items) worker_ends place its there)
         ∙ ends.workers_are;
-    none_received = at_its_place (λ (one : WorkerEndsOver Q T O G). requests_received one.requests ≡ []) worker_ends place its ends.none_received there;
-    none_got = at_its_place (λ (one : WorkerEndsOver Q T O G). (sender at : ℕ) → got one.gossip_in sender at ≡ None) worker_ends place its ends.none_got there;
-    none_replied = at_its_place (λ (one : WorkerEndsOver Q T O G). All (λ sender. replied sender ≡ []) one.replies.items) worker_ends place its ends.none_replied there;
-    none_told = at_its_place (λ (one : WorkerEndsOver Q T O G). All (λ sender. told sender ≡ []) one.gossip_out.items) worker_ends place its ends.none_told there;
+    none_received = at_its_place (λ (one : WorkerEndsOver Q T O G). mail.request_rx.received one.requests ≡ []) worker_ends place its ends.none_received there;
+    none_got = at_its_place (λ (one : WorkerEndsOver Q T O G). (sender at : ℕ) → mail.gossip_rx.got one.gossip_in sender at ≡ None) worker_ends place its ends.none_got there;
+    none_replied = at_its_place (λ (one : WorkerEndsOver Q T O G). All (λ sender. mail.reply_tx.sent sender ≡ []) one.replies.items) worker_ends place its ends.none_replied there;
+    none_told = at_its_place (λ (one : WorkerEndsOver Q T O G). All (λ sender. mail.gossip_tx.sent sender ≡ []) one.gossip_out.items) worker_ends place its ends.none_told there;
   })
 
   -- and so are those of a session
-  pub of_sessions : All (AreUnusedOfSession asked replies_received many_workers) session_ends
-  of_sessions = all_there (AreUnusedOfSession asked replies_received many_workers) session_ends (λ place its there. record {
+  pub of_sessions : All (AreUnusedOfSession mail.request_tx.sent mail.reply_rx.received many_workers) session_ends
+  of_sessions = all_there (AreUnusedOfSession mail.request_tx.sent mail.reply_rx.received many_workers) session_ends (λ place its there. record {
     senders =
         let many = at_its_place (λ senders. length senders + 0 ≡ length worker_ends) (map (λ (one : SessionEndsOver S R). one.requests.items) session_ends) place its.requests.items ends.requests.many
         (mapped (λ (one : SessionEndsOver S R). one.requests.items) session_ends place its there) in
         omega (arith, many, ends.workers_are);
-    none_asked = at_its_place (λ (one : SessionEndsOver S R). All (λ sender. asked sender ≡ []) one.requests.items) session_ends place its ends.none_asked there;
-    none_heard = at_its_place (λ (one : SessionEndsOver S R). replies_received one.replies ≡ []) session_ends place its ends.none_heard there;
+    none_asked = at_its_place (λ (one : SessionEndsOver S R). All (λ sender. mail.request_tx.sent sender ≡ []) one.requests.items) session_ends place its ends.none_asked there;
+    none_heard = at_its_place (λ (one : SessionEndsOver S R). mail.reply_rx.received one.replies ≡ []) session_ends place its ends.none_heard there;
   })
 
   -- to each session a worker has a sender of replies
@@ -128,52 +120,41 @@ module _ {S T O Q G R SK TK OK QK GK RK : Type 0}
     session_parts part = ap (map part) (sym sessions_over) ∙ made_of_made (λ (one : PlainProxy S R). one.ends) part sessions
 
     have_ends : ((place : ℕ) (worker : PlainWorker Q T O G) → slice_get workers place ≡ Some worker → worker.state.me ≡ place + 1)
-        → HaveEnds request_key request_number reply_key reply_number gossip_key gossip_number
-        requests_key requests_pairs requests_senders requests_received requests_about in_key in_pairs in_senders got in_about
-        replies_key replies_pairs replies_senders replies_about workers sessions
+        → HaveEnds mail workers sessions
     have_ends numbered = record {
       requests =
-          subst (λ rows. AreOfOneMaking request_key request_number requests_pairs (λ (worker : PlainWorker Q T O G). requests_key worker.ends.requests) (λ worker. requests_about worker.ends.requests) false rows workers)
+          subst (λ rows. AreOfOneMaking mail.request_tx.key mail.request_tx.number mail.request_rx.pairs (λ (worker : PlainWorker Q T O G). mail.request_rx.key worker.ends.requests) (λ worker. mail.request_rx.about worker.ends.requests) false rows workers)
           (session_parts (λ its. its.requests.items)) (making_over (λ (worker : PlainWorker Q T O G). worker.ends) workers worker_ends workers_over ends.requests);
       replies =
-          subst (AreOfOneMaking reply_key reply_number replies_pairs replies_key replies_about false (map (λ (worker : PlainWorker Q T O G). worker.ends.replies.items) workers)) (session_parts (λ its. its.replies))
-          (subst (λ rows. AreOfOneMaking reply_key reply_number replies_pairs replies_key replies_about false rows (map (λ (its : SessionEndsOver S R). its.replies) session_ends))
+          subst (AreOfOneMaking mail.reply_tx.key mail.reply_tx.number mail.reply_rx.pairs mail.reply_rx.key mail.reply_rx.about false (map (λ (worker : PlainWorker Q T O G). worker.ends.replies.items) workers)) (session_parts (λ its. its.replies))
+          (subst (λ rows. AreOfOneMaking mail.reply_tx.key mail.reply_tx.number mail.reply_rx.pairs mail.reply_rx.key mail.reply_rx.about false rows (map (λ (its : SessionEndsOver S R). its.replies) session_ends))
           (worker_parts (λ its. its.replies.items)) ends.replies);
       gossip =
-          subst (λ rows. AreOfOneMaking gossip_key gossip_number in_pairs (λ (worker : PlainWorker Q T O G). in_key worker.ends.gossip_in) (λ worker. in_about worker.ends.gossip_in) true rows workers)
+          subst (λ rows. AreOfOneMaking mail.gossip_tx.key mail.gossip_tx.number mail.gossip_rx.pairs (λ (worker : PlainWorker Q T O G). mail.gossip_rx.key worker.ends.gossip_in) (λ worker. mail.gossip_rx.about worker.ends.gossip_in) true rows workers)
           (worker_parts (λ its. its.gossip_out.items)) (making_over (λ (worker : PlainWorker Q T O G). worker.ends) workers worker_ends workers_over ends.gossip);
       request_boxes = λ place worker there.
-          subst (λ n. IsBoxOf (IsOneOf n) (requests_senders (requests_key worker.ends.requests)) (requests_received worker.ends.requests) (requests_about worker.ends.requests)) (sym sessions_long)
-          (at_its_place (λ (its : WorkerEndsOver Q T O G). IsBoxOf (IsOneOf many_sessions) (requests_senders (requests_key its.requests)) (requests_received its.requests) (requests_about its.requests))
+          subst (λ n. IsBoxOf (IsOneOf n) (mail.request_rx.senders (mail.request_rx.key worker.ends.requests)) (mail.request_rx.received worker.ends.requests) (mail.request_rx.about worker.ends.requests)) (sym sessions_long)
+          (at_its_place (λ (its : WorkerEndsOver Q T O G). IsBoxOf (IsOneOf many_sessions) (mail.request_rx.senders (mail.request_rx.key its.requests)) (mail.request_rx.received its.requests) (mail.request_rx.about its.requests))
           worker_ends place worker.ends ends.request_boxes (ends_there place worker there));
       gossip_boxes = λ place worker there.
-          subst (λ n. IsWeakBoxOf (IsMate n (place + 1)) (in_senders (in_key worker.ends.gossip_in)) (got worker.ends.gossip_in) (in_about worker.ends.gossip_in)) (sym workers_long)
+          subst (λ n. IsWeakBoxOf (IsMate n (place + 1)) (mail.gossip_rx.senders (mail.gossip_rx.key worker.ends.gossip_in)) (mail.gossip_rx.got worker.ends.gossip_in) (mail.gossip_rx.about worker.ends.gossip_in)) (sym workers_long)
           (ends.gossip_boxes place worker.ends (ends_there place worker there));
       reply_boxes = λ place proxy there.
-          at_its_place (λ (its : SessionEndsOver S R). replies_senders (replies_key its.replies) ≡ many_workers) session_ends place proxy.ends ends.reply_boxes (session_ends_there place proxy there)
+          at_its_place (λ (its : SessionEndsOver S R). mail.reply_rx.senders (mail.reply_rx.key its.replies) ≡ many_workers) session_ends place proxy.ends ends.reply_boxes (session_ends_there place proxy there)
           ∙ sym workers_long;
       numbered = numbered;
     }
 
 module _ {S T O Q G R SK TK OK QK GK RK : Type 0}
-    {request_key : S → SK} {request_number : S → ℕ} {asked : S → List Request}
-    {reply_key : T → TK} {reply_number : T → ℕ} {replied : T → List PlainReply}
-    {gossip_key : O → OK} {gossip_number : O → ℕ} {told : O → List Entries}
-    {requests_key : Q → QK} {requests_pairs : QK → SK → ℕ → Type 0} {requests_senders : QK → ℕ} {requests_received : Q → List (ℕ × Request)} {requests_about : Q → ℕ → About Request}
-    {in_key : G → GK} {in_pairs : GK → OK → ℕ → Type 0} {in_senders : GK → ℕ} {got : G → ℕ → ℕ → Option Entries} {in_about : G → ℕ → About Entries}
-    {replies_key : R → RK} {replies_pairs : RK → TK → ℕ → Type 0} {replies_senders : RK → ℕ} {replies_received : R → List (ℕ × PlainReply)} {replies_about : R → ℕ → About PlainReply}
+    {mail : Ends S T O Q G R SK TK OK QK GK RK}
     (script : Script) (table : List (List ℕ)) (worker_ends : List (WorkerEndsOver Q T O G)) (session_ends : List (SessionEndsOver S R)) (workers : List (PlainWorker Q T O G))
     (sessions : List (PlainProxy S R)) (many_sessions : ℕ) (as_many : many_sessions ≡ length script.sessions) where
   -- Over all ends the new workers and the new sessions of a valid script are running.
   pub are_running : IsValidScript script table
-      → AreAllEnds request_key request_number asked reply_key reply_number replied gossip_key gossip_number told
-      requests_key requests_pairs requests_senders requests_received requests_about in_key in_pairs in_senders got in_about
-      replies_key replies_pairs replies_senders replies_received replies_about script.config.workers many_sessions worker_ends session_ends
+      → AreAllEnds mail script.config.workers many_sessions worker_ends session_ends
       → AreMadeOf (IsNewWorker script table) worker_ends workers
-      → AreMadeOf (IsNewSession asked replies_received script table) session_ends sessions
-      → AreRunning request_key request_number asked reply_key reply_number gossip_key gossip_number
-      requests_key requests_pairs requests_senders requests_received requests_about in_key in_pairs in_senders got in_about
-      replies_key replies_pairs replies_senders replies_received replies_about script workers sessions
+      → AreMadeOf (IsNewSession mail.request_tx.sent mail.reply_rx.received script table) session_ends sessions
+      → AreRunning mail script workers sessions
   are_running valid ends workers_new sessions_new = record {
     table = table;
     valid = valid;
@@ -181,7 +162,7 @@ module _ {S T O Q G R SK TK OK QK GK RK : Type 0}
     workers_are = λ place worker there.
         let its = there_too worker_ends workers place worker workers_new.long there in
         let is = workers_new.each place its.0 worker its.1 there in
-        let mates = (at_its_place (AreUnusedOfWorker requests_received got replied told script.config.workers) worker_ends place its.0 (of_workers ends) its.1).mates in
+        let mates = (at_its_place (AreUnusedOfWorker mail.request_rx.received mail.gossip_rx.got mail.reply_tx.sent mail.gossip_tx.sent script.config.workers) worker_ends place its.0 (of_workers ends) its.1).mates in
         record {
           me = ap (λ (one : PlainWorker Q T O G). one.state.me) is;
           round = ap (λ (one : PlainWorker Q T O G). one.state.round) is;
@@ -195,7 +176,7 @@ module _ {S T O Q G R SK TK OK QK GK RK : Type 0}
         let its = there_too session_ends sessions place proxy sessions_new.long there in
         let new = sessions_new.each place its.0 proxy its.1 there in
         let is = new.proxy_is plan plan_there in
-        let unused = at_its_place (AreUnusedOfSession asked replies_received script.config.workers) session_ends place its.0 (of_sessions ends) its.1 in
+        let unused = at_its_place (AreUnusedOfSession mail.request_tx.sent mail.reply_rx.received script.config.workers) session_ends place its.0 (of_sessions ends) its.1 in
         record {
           client_is = ap (λ (one : PlainProxy S R). one.course.client) is;
           table_is = ap (λ (one : PlainProxy S R). one.course.table) is;
@@ -203,7 +184,7 @@ module _ {S T O Q G R SK TK OK QK GK RK : Type 0}
           senders = ap (λ (one : PlainProxy S R). length one.ends.requests.items) is ∙ unused.senders;
           share = new.share;
           of_workers =
-              subst (All (λ message. IsOneOf script.config.workers message.0)) (sym (ap (λ (one : PlainProxy S R). replies_received one.ends.replies) is ∙ unused.none_heard))
+              subst (All (λ message. IsOneOf script.config.workers message.0)) (sym (ap (λ (one : PlainProxy S R). mail.reply_rx.received one.ends.replies) is ∙ unused.none_heard))
               (All-nil (λ (message : ℕ × PlainReply). IsOneOf script.config.workers message.0));
         };
     ends = have_ends ends workers sessions

@@ -9,10 +9,9 @@ use Rattle.mail_contract.specs.Boxes.{weak_box_of}
 use Rattle.mail_contract.specs.Parts.{Parts}
 use Rattle.mail_contract.specs.Standing.{About, Settled, IsSettled}
 use Rattle.mail_contract.specs.Takes.{Answers}
-use Rattle.drain_steps.specs.Settling.{index_in}
-use Rattle.drain_turns.specs.Ready.{IsMate}
-use Rattle.drain_ledger.proofs.ListsLemmas.{same_made}
-use Rattle.drain_steps.proofs.ItemsLemmas.{all_there, at_its_place, there_is}
+use Rattle.party_turns.specs.Rows.{index_in}
+use Rattle.party_turns.specs.Mates.{IsMate}
+use Rattle.party_turns.proofs.ItemsLemmas.{same_made, all_there, at_its_place, there_is}
 use Rattle.party_ends.specs.Dealt.{AreDoneBefore, AreNew, IsEmptyWeakBoxOf, MayTakeInOwn, TakesInOwn}
 use Rattle.party_ends.proofs.OwnsLemmas.{left_hold, left_there}
 

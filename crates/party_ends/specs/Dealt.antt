@@ -4,8 +4,8 @@ use Rattle.std.specs.List.{remove}
 use Rattle.mail_contract.specs.Boxes.{SettlesWeak, WeakBox}
 use Rattle.mail_contract.specs.Parts.{Parts}
 use Rattle.mail_contract.specs.Standing.{About}
-use Rattle.drain_steps.specs.Settling.{MayTakeIn}
-use Rattle.drain_ledger.specs.Handed.{AreOfOneMaking, IsBoxOf, IsWeakBoxOf}
+use Rattle.party_turns.specs.Rows.{MayTakeIn}
+use Rattle.party_turns.specs.Making.{AreOfOneMaking, IsBoxOf, IsWeakBoxOf}
 
 -- Each row gets an item more at its end: the one at its own place.
 pub record AreGiven {X : Type 0} (items : List X) (before now : List (List X)) : Type 0 where

@@ -1,6 +1,6 @@
 //! All ends of a run's parties, of one making.
 ghost use Rattle.std.specs.Prelude.{◌≡◌, ℕ, ◌+◌, ◌≤◌, false, true, All, map, slice_get, IfOk, Some};
-ghost use Rattle.drain_turns.specs.Ready.{IsMate};
+ghost use Rattle.party_turns.specs.Mates.{IsMate};
 ghost use Rattle.party_ends.specs.AllEnds.{AreAllEnds, AreNumbered};
 ghost use Rattle.party_ends.specs.Dealt.{AreNew, IsEmptyBoxOf, IsEmptyWeakBoxOf};
 ghost use Rattle.placement.specs.Config.{IsOneOf};
@@ -8,11 +8,12 @@ ghost use Rattle.placement.specs.Config.{IsOneOf};
 use crate::assembling::{session_ends, worker_ends};
 use crate::making::{make_all, make_all_weak};
 use crate::settling::{settle_owns, spare_boxes};
-use crate::{MakesGossip, MakesMail};
+use crate::{MakesGossip, MakesMail, MakesPost};
 use lattice_laws::NoMemory;
 use mail_contract::{GossipRx, Rx, Tx};
+use party_turns::Tells;
 use std::alloc::Global;
-use store_msg::{Batch, Reply, Request, SessionEndsOver, WorkerEndsOver};
+use store_msg::{Batch, Reply, Request, SessionEnds, WorkerEnds};
 
 /// So many boxes, and so many rows of their senders, maybe none.
 fn make_rows<M, S: Tx<M>, Q: Rx<M, From = S>, P: MakesMail<M, Mailbox = Q>>(
@@ -63,35 +64,25 @@ fn make_mates<M, O: Tx<M>, G: GossipRx<M, From = O>, P: MakesGossip<M, Mailbox =
 /// other worker, a session a box of replies with a sender for each worker. The senders of a party are
 /// ascending by whom they send to, and at each box they have the party's number, from 1. A sender that is
 /// for nobody is taken in by its box at once.
-pub fn all_ends<
-    S: Tx<Request>,
-    T: Tx<Reply>,
-    O: Tx<Batch>,
-    Q: Rx<Request, From = S>,
-    G: GossipRx<Batch, From = O>,
-    R: Rx<Reply, From = T>,
-    P: MakesMail<Request, Mailbox = Q>
-        + MakesMail<Reply, Mailbox = R>
-        + MakesGossip<Batch, Mailbox = G>,
->(
+pub fn all_ends<P: MakesPost>(
     post: &P,
     alloc: Global,
     workers: u16,
     sessions: u16,
-) -> Result<(Vec<WorkerEndsOver<Q, T, O, G>>, Vec<SessionEndsOver<S, R>>), NoMemory>
+) -> Result<(Vec<WorkerEnds<P>>, Vec<SessionEnds<P>>), NoMemory>
     requires { 1 ≤ workers }
-    ensures ends { IfOk result (λ ends. AreAllEnds
-        S.key S.number S.sent T.key T.number T.sent O.key O.number O.sent
-        Q.key Q.pairs Q.senders Q.received Q.about
-        G.key G.pairs G.senders G.got G.about
-        R.key R.pairs R.senders R.received R.about
+    ensures ends { IfOk result (λ ends. AreAllEnds ⟦<P as Tells>⟧.mail
         workers sessions ends.0.items ends.1.items) }
     ensures made_with { IfOk result (λ ends. AreNumbered (P.numbers post.now)
-        (map (λ its. G.made_with (G.key its.gossip_in)) ends.0.items)) }
+        (map (λ its. P.GosRx.made_with (P.GosRx.key its.gossip_in)) ends.0.items)) }
 {
-    let (asks, requests) = make_rows::<Request, S, Q, P>(post, alloc, workers, sessions)?;
-    let (answers, replies) = make_all::<Reply, T, R, P>(post, alloc, sessions, workers)?;
-    let (tells, gossip) = make_mates(post, alloc, workers)?;
+    let (asks, requests) = make_rows::<Request, P::ReqTx, P::ReqRx, P>(
+        post, alloc, workers, sessions,
+    )?;
+    let (answers, replies) = make_all::<Reply, P::RepTx, P::RepRx, P>(
+        post, alloc, sessions, workers,
+    )?;
+    let (tells, gossip) = make_mates::<Batch, P::GosTx, P::GosRx, P>(post, alloc, workers)?;
     let its_workers = worker_ends(alloc, requests, answers, tells, gossip)?;
     let its_sessions = session_ends(alloc, asks, replies)?;
     Ok((its_workers, its_sessions))

@@ -5,6 +5,7 @@ ghost use Rattle.party_ends.specs.Fresh.{IsFresh, IsFreshWeak};
 use lattice_laws::NoMemory;
 use mail_contract::{GossipRx, Rx};
 use std::alloc::Global;
+use store_msg::{Batch, Mail, Reply, Request};
 
 /// Makes boxes of one kind of mail.
 pub trait MakesMail<M> {
@@ -48,3 +49,9 @@ pub trait MakesGossip<M> {
         ensures made_with { IfOk result (λ ends.
             Self.Mailbox.made_with (Self.Mailbox.key ends.1) ≡ numbers self.now owner) };
 }
+
+/// A kind of mail whose boxes can be made, for each of the three ways of a store.
+pub trait MakesPost: Mail
+    + MakesMail<Request, Mailbox = <Self as Mail>::ReqRx>
+    + MakesMail<Reply, Mailbox = <Self as Mail>::RepRx>
+    + MakesGossip<Batch, Mailbox = <Self as Mail>::GosRx> {}

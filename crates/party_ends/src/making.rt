@@ -1,6 +1,6 @@
 //! Boxes of one kind of mail are made, and their senders dealt to rows: in each row stand the senders of
 //! one number, in the order of their boxes.
-ghost use Rattle.std.specs.Prelude.{◌≡◌, ℕ, ◌≤◌, [], length, map, replicate, IfOk, OnOk};
+ghost use Rattle.std.specs.Prelude.{◌≡◌, ◌≤◌, [], length, map, replicate, IfOk, OnOk};
 ghost use Rattle.party_ends.specs.AllEnds.{AreNumbered};
 ghost use Rattle.party_ends.specs.Dealt.{AreGiven, AreMade};
 ghost use Rattle.party_ends.specs.Fresh.{IsFresh, IsFreshWeak};

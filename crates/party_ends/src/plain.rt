@@ -1,14 +1,11 @@
 //! Plain mail is made.
-use crate::{MakesGossip, MakesMail};
+use crate::{MakesGossip, MakesMail, MakesPost};
 use lattice_laws::NoMemory;
 use mail_contract::{PlainRx, PlainTx, plain};
 use std::alloc::Global;
-use store_msg::{Batch, Reply, Request};
+use store_msg::{Batch, PlainPost, Reply, Request};
 
-/// Makes boxes of plain mail, for one thread.
-pub struct PlainMaker;
-
-impl MakesMail<Request> for PlainMaker {
+impl MakesMail<Request> for PlainPost {
     type Mailbox = PlainRx<Request>;
 
     fn make(
@@ -20,7 +17,7 @@ impl MakesMail<Request> for PlainMaker {
     }
 }
 
-impl MakesMail<Reply> for PlainMaker {
+impl MakesMail<Reply> for PlainPost {
     type Mailbox = PlainRx<Reply>;
 
     fn make(
@@ -32,7 +29,7 @@ impl MakesMail<Reply> for PlainMaker {
     }
 }
 
-impl MakesGossip<Batch> for PlainMaker {
+impl MakesGossip<Batch> for PlainPost {
     ghost use Rattle.std.specs.Prelude.{[]};
 
     type Mailbox = PlainRx<Batch>;
@@ -48,3 +45,5 @@ impl MakesGossip<Batch> for PlainMaker {
         plain(alloc, senders)
     }
 }
+
+impl MakesPost for PlainPost {}

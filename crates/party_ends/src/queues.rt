@@ -1,19 +1,33 @@
 //! Mail over queues is made.
-use crate::{MakesGossip, MakesMail};
+use crate::{MakesGossip, MakesMail, MakesPost};
 use lattice_laws::NoMemory;
 use mailbox_rule::{QueueRx, QueueTx, queue};
 use std::alloc::Global;
 use std::sync::Wait;
-use store_msg::{Batch, Reply, Request};
+use store_msg::{Batch, Mail, Reply, Request};
 
-/// Makes boxes over one queue each, for threads; their calls may wait.
+/// Mail over one queue for each box, for threads; its calls may wait.
 #[derive(Drop)]
-pub struct QueueMaker<W: Wait + Copy> {
+pub struct QueuePost<W: Wait + Copy> {
     /// What the ends wait with.
     pub rt: W,
 }
 
-impl<W: Wait + Copy> MakesMail<Request> for QueueMaker<W> {
+impl<W: Wait + Copy> Mail for QueuePost<W> {
+    type ReqTx = QueueTx<Request, W>;
+
+    type ReqRx = QueueRx<Request, W>;
+
+    type RepTx = QueueTx<Reply, W>;
+
+    type RepRx = QueueRx<Reply, W>;
+
+    type GosTx = QueueTx<Batch, W>;
+
+    type GosRx = QueueRx<Batch, W>;
+}
+
+impl<W: Wait + Copy> MakesMail<Request> for QueuePost<W> {
     type Mailbox = QueueRx<Request, W>;
 
     fn make(
@@ -25,7 +39,7 @@ impl<W: Wait + Copy> MakesMail<Request> for QueueMaker<W> {
     }
 }
 
-impl<W: Wait + Copy> MakesMail<Reply> for QueueMaker<W> {
+impl<W: Wait + Copy> MakesMail<Reply> for QueuePost<W> {
     type Mailbox = QueueRx<Reply, W>;
 
     fn make(
@@ -37,7 +51,7 @@ impl<W: Wait + Copy> MakesMail<Reply> for QueueMaker<W> {
     }
 }
 
-impl<W: Wait + Copy> MakesGossip<Batch> for QueueMaker<W> {
+impl<W: Wait + Copy> MakesGossip<Batch> for QueuePost<W> {
     ghost use Rattle.std.specs.Prelude.{[]};
 
     type Mailbox = QueueRx<Batch, W>;
@@ -53,3 +67,5 @@ impl<W: Wait + Copy> MakesGossip<Batch> for QueueMaker<W> {
         queue(self.rt, alloc, senders)
     }
 }
+
+impl<W: Wait + Copy> MakesPost for QueuePost<W> {}

@@ -1,14 +1,28 @@
 //! Mail over rings is made.
-use crate::{MakesGossip, MakesMail};
+use crate::{MakesGossip, MakesMail, MakesPost};
 use lattice_laws::NoMemory;
 use mail_rings::{RingRx, RingTx, rings};
 use std::alloc::Global;
-use store_msg::{Batch, Reply, Request};
+use store_msg::{Batch, Mail, Reply, Request};
 
-/// Makes boxes over rings, for threads.
-pub struct RingMaker;
+/// Mail over rings, for threads.
+pub struct RingPost;
 
-impl MakesMail<Request> for RingMaker {
+impl Mail for RingPost {
+    type ReqTx = RingTx<Request>;
+
+    type ReqRx = RingRx<Request>;
+
+    type RepTx = RingTx<Reply>;
+
+    type RepRx = RingRx<Reply>;
+
+    type GosTx = RingTx<Batch>;
+
+    type GosRx = RingRx<Batch>;
+}
+
+impl MakesMail<Request> for RingPost {
     type Mailbox = RingRx<Request>;
 
     fn make(
@@ -20,7 +34,7 @@ impl MakesMail<Request> for RingMaker {
     }
 }
 
-impl MakesMail<Reply> for RingMaker {
+impl MakesMail<Reply> for RingPost {
     type Mailbox = RingRx<Reply>;
 
     fn make(
@@ -32,7 +46,7 @@ impl MakesMail<Reply> for RingMaker {
     }
 }
 
-impl MakesGossip<Batch> for RingMaker {
+impl MakesGossip<Batch> for RingPost {
     ghost use Rattle.std.specs.Prelude.{[]};
 
     type Mailbox = RingRx<Batch>;
@@ -48,3 +62,5 @@ impl MakesGossip<Batch> for RingMaker {
         rings(alloc, senders)
     }
 }
+
+impl MakesPost for RingPost {}

@@ -1,5 +1,5 @@
 //! All ends, and all parties, over plain mail; and mail for threads.
-ghost use Rattle.std.specs.Prelude.{◌≡◌, ◌∷◌, [], All, length, IfOk};
+ghost use Rattle.std.specs.Prelude.{◌≡◌, All, length, IfOk};
 ghost use Rattle.placement.specs.Config.{IsValidConfig, placed};
 ghost use Rattle.placement.specs.Name.{IsName};
 ghost use Rattle.session_known.specs.Script.{IsValidScript};
@@ -8,27 +8,21 @@ use super::*;
 use clock_lattice::Clock;
 use composed_value::{Cell, Kind};
 use lattice_laws::{Items, NoMemory};
-use mail_contract::{GossipRx, Message, PlainRx, PlainTx, Rx, Tx};
-use party_run::{PartiesOver, SessionOver};
+use mail_contract::{GossipRx, Message, Rx, Tx};
+use parties::{Parties, SessionOver};
 use placement::{Config, KeyPlace, Name};
 use session_known::{Level, Line, Script, SessionPlan};
 use session_proxy::Progress;
 use std::alloc::Global;
 use std::test::Fail;
-use store_msg::{Batch, Reply, Request, SessionEndsOver, WorkerEndsOver};
+use store_msg::{Batch, PlainPost, Reply, Request};
 use worker_core::Did;
-
-type Workers = Vec<
-    WorkerEndsOver<PlainRx<Request>, PlainTx<Reply>, PlainTx<Batch>, PlainRx<Batch>>,
->;
-
-type Sessions = Vec<SessionEndsOver<PlainTx<Request>, PlainRx<Reply>>>;
 
 /// What was made goes where it belongs: each party's senders have its number, and there is one to each box
 /// that it sends to.
 #[test]
 fn three_workers_and_two_sessions(rt: HostRuntime) -> Result<(), Fail> {
-    let (workers, sessions): (Workers, Sessions) = all_ends(&PlainMaker, rt.alloc(), 3, 2)?;
+    let (workers, sessions) = all_ends(&PlainPost, rt.alloc(), 3, 2)?;
     assert_eq!(rt; workers.len(), 3);
     assert_eq!(rt; sessions.len(), 2);
     for (place, worker) in workers.iter().enumerate() {
@@ -53,7 +47,7 @@ fn three_workers_and_two_sessions(rt: HostRuntime) -> Result<(), Fail> {
 /// Without sessions the boxes of requests are there, and find nothing.
 #[test]
 fn no_session(rt: HostRuntime) -> Result<(), Fail> {
-    let (workers, sessions): (Workers, Sessions) = all_ends(&PlainMaker, rt.alloc(), 1, 0)?;
+    let (workers, sessions) = all_ends(&PlainPost, rt.alloc(), 1, 0)?;
     assert!(rt; sessions.is_empty());
     let mut workers = workers;
     let worker = &mut workers[0];
@@ -134,14 +128,14 @@ fn all_hand_out<P: MakesMail<Request> + MakesMail<Reply> + MakesGossip<Batch>>(
 /// Boxes over rings hand out what their senders sent, in turn.
 #[test]
 fn rings_hand_out_what_was_sent(rt: HostRuntime) -> Result<(), Fail> {
-    assert!(rt; all_hand_out(&RingMaker, rt.alloc())?);
+    assert!(rt; all_hand_out(&RingPost, rt.alloc())?);
     Ok(())
 }
 
 /// Boxes over queues hand out what their senders sent, in the order in which they sent it.
 #[test]
 fn queues_hand_out_what_was_sent(rt: HostRuntime) -> Result<(), Fail> {
-    assert!(rt; all_hand_out(&QueueMaker { rt }, rt.alloc())?);
+    assert!(rt; all_hand_out(&QueuePost { rt }, rt.alloc())?);
     Ok(())
 }
 
@@ -204,22 +198,12 @@ fn small_script(alloc: Global) -> Result<Script, Fail>
     })
 }
 
-type Parties = PartiesOver<
-    PlainRx<Request>,
-    PlainTx<Reply>,
-    PlainTx<Batch>,
-    PlainRx<Batch>,
-    PlainTx<Request>,
-    PlainRx<Reply>,
->;
-
 /// The parties of a script with two workers and a session of each level: no line is answered, each session
 /// has its own first step to make, and no worker has anything to do.
 #[test]
 fn parties_of_two_workers_and_three_levels(rt: HostRuntime) -> Result<(), Fail> {
     let script = small_script(rt.alloc())?;
-    let parties: Parties = new_parties(&PlainMaker, rt.alloc(), &script)?;
-    let PartiesOver { workers, sessions } = parties;
+    let Parties { workers, sessions } = new_parties(&PlainPost, rt.alloc(), &script)?;
     let mut workers = workers;
     let mut sessions = sessions;
     assert_eq!(rt; workers.len(), 2);

@@ -3,7 +3,7 @@ use Rattle.std.specs.Prelude.{◌≡◌, ℕ, zero, suc, List, [], ◌∷◌, �
 use Rattle.std.proofs.Common.{◌∙◌, ap, arith, refl, subst, sym}
 use Rattle.std.proofs.Math.Seq.{take-append_seam}
 use Rattle.std.proofs.lemmas.Option.{none-some, same_Some}
-use Rattle.drain_steps.proofs.ItemsLemmas.{mapped, of_mapped}
+use Rattle.party_turns.proofs.ItemsLemmas.{mapped, of_mapped}
 use Rattle.party_epochs.specs.Pieces.{Pairwise}
 
 -- a slice of all items, put back, is all

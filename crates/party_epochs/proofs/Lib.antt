@@ -1,3 +1,3 @@
-pub mod PiecesLemmas
 pub mod EpochLemmas
-mod TurnsLemmas
+pub mod PiecesLemmas
+pub mod TurnsLemmas

@@ -4,7 +4,7 @@ use Rattle.std.proofs.Common.{◌∙◌, ap, arith, inl, inr, sym}
 use Rattle.std.proofs.Math.Seq.{get_or-append_seam}
 use Rattle.std.proofs.lemmas.Bool.{cases_eq, cases_lt}
 use Rattle.std.proofs.lemmas.List.{get_or-append-add, get_or_append_left, length-append}
-use Rattle.party_steps.specs.Pace.{RoseAtMost}
+use Rattle.parties.specs.Pace.{RoseAtMost}
 use Rattle.party_epochs.specs.Pieces.{Pairwise}
 use Rattle.party_epochs.specs.Turns.{AreCounted, TakesAtMost, turns_of}
 

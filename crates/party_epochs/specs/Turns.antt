@@ -1,6 +1,6 @@
 -- How many turns the parties of a run take in an epoch.
 use Rattle.std.specs.Prelude.{◌≡◌, ℕ, ◌+◌, ◌<◌, List, length, slice_index_or}
-use Rattle.party_steps.specs.Pace.{RoseAtMost}
+use Rattle.parties.specs.Pace.{RoseAtMost}
 
 -- how many turns the party of a number, from 0, took: none before the first epoch
 abbrev pub turns_of : List ℕ → ℕ → ℕ

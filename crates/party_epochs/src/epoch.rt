@@ -1,21 +1,20 @@
 //! One epoch of a run.
-ghost use Rattle.std.specs.Prelude.{◌≡◌, ◌+◌, ◌++◌, ◌≤◌, ℕ, length, map, slice_get, IfOk, IsTrue, OnOk, Some};
+ghost use Rattle.std.specs.Prelude.{◌≡◌, ◌+◌, ◌++◌, ℕ, length, map, slice_get, IfOk, OnOk, Some};
 ghost use Rattle.party_epochs.specs.Pieces.{Pairwise};
 ghost use Rattle.party_epochs.specs.Turns.{AreCounted, TakesAtMost, turns_of};
-ghost use Rattle.party_steps.specs.Progress.{HasMovedOn};
-ghost use Rattle.party_steps.specs.declared.stepping.Polled.{Polled as Came};
-ghost use Rattle.session_known.specs.declared.script.Script.{Script};
+ghost use Rattle.parties.specs.Progress.{HasMovedOn};
+ghost use Rattle.parties.specs.declared.stepping.Polled.{Polled as Came};
 ghost use Rattle.session_proxy.specs.State as sessions;
 
+use crate::parts::{PolledPart, Turned};
 use crate::{Gate, Piece, PolledOver, TurnedOver, run_both};
 use lattice_laws::NoMemory;
 use mail_contract::{GossipRx, Rx, Tx};
-use party_run::{PartiesOver, Runs, SessionOver};
-use party_steps::{Polled, Progresses};
+use parties::{Parties, Polled, Run, SessionOver};
 use std::alloc::Global;
 use std::mem::replace;
 use std::thread::Threads;
-use store_msg::{Batch, Reply, Request};
+use store_msg::{Batch, Mail, Reply, Request};
 use worker_core::WorkerOver;
 
 /// How many turns the party at a place after the first ones has taken in the epochs before.
@@ -106,17 +105,10 @@ fn counts_of_sessions<S: Tx<Request>, R: Rx<Reply>>(
 }
 
 /// How many turns each party has taken.
-fn counts_of<
-    Q: Rx<Request>,
-    T: Tx<Reply>,
-    O: Tx<Batch>,
-    G: GossipRx<Batch, From = O>,
-    S: Tx<Request>,
-    R: Rx<Reply>,
->(
+fn counts_of<P: Mail>(
     alloc: Global,
-    turned: &[TurnedOver<Q, T, O, G>],
-    polled: &[PolledOver<S, R>],
+    turned: &[Turned<P>],
+    polled: &[PolledPart<P>],
 ) -> Result<Vec<u64>, NoMemory>
     ensures { IfOk result (λ counts. counts.items
         ≡ map (λ part. part.turns) turned.now ++ map (λ part. part.turns) polled.now) }
@@ -161,24 +153,22 @@ fn polled_of<S: Tx<Request>, R: Rx<Reply>>(
 }
 
 /// Runs the parts of workers and sessions beside each other. After `NoMemory` they are of no use.
-fn run_parts<
-    S: Tx<Request> + Send,
-    T: Tx<Reply> + Send,
-    O: Tx<Batch> + Send,
-    Q: Rx<Request, From = S> + Send,
-    G: GossipRx<Batch, From = O> + Send,
-    R: Rx<Reply, From = T> + Send,
-    E: Gate + Sync,
-    H: Threads + Sync,
->(
+fn run_parts<P: Mail, E: Gate + Sync, H: Threads + Sync>(
     rt: &H,
     gate: &E,
-    turned: &mut Vec<TurnedOver<Q, T, O, G>>,
-    polled: &mut Vec<PolledOver<S, R>>,
+    turned: &mut Vec<Turned<P>>,
+    polled: &mut Vec<PolledPart<P>>,
 ) -> Result<(), NoMemory>
-    ensures turned { OnOk result (Pairwise ⟦<TurnedOver<Q, T, O, G> as Piece>⟧.becomes
+where
+    P::ReqTx: Send,
+    P::ReqRx: Send,
+    P::RepTx: Send,
+    P::RepRx: Send,
+    P::GosTx: Send,
+    P::GosRx: Send,
+    ensures turned { OnOk result (Pairwise ⟦<Turned<P> as Piece>⟧.becomes
         turned.old.items turned.new.items) }
-    ensures polled { OnOk result (Pairwise ⟦<PolledOver<S, R> as Piece>⟧.becomes
+    ensures polled { OnOk result (Pairwise ⟦<PolledPart<P> as Piece>⟧.becomes
         polled.old.items polled.new.items) }
 {
     run_both(rt, gate, turned, polled)
@@ -188,40 +178,32 @@ fn run_parts<
 /// told. `turns` counts the turns of each party over the epochs, and is empty before the first.
 ///
 /// After `NoMemory` the parties are of no use.
-pub fn run_epoch<
-    S: Tx<Request> + Send,
-    T: Tx<Reply> + Send,
-    O: Tx<Batch> + Send,
-    Q: Rx<Request, From = S> + Send,
-    G: GossipRx<Batch, From = O> + Send,
-    R: Rx<Reply, From = T> + Send,
-    E: Gate + Sync,
-    H: Threads + Sync,
->(
+pub fn run_epoch<P: Mail, E: Gate + Sync, H: Threads + Sync>(
     rt: &H,
     gate: &E,
     turns: &mut Vec<u64>,
-    parties: &mut PartiesOver<Q, T, O, G, S, R>,
+    parties: &mut Parties<P>,
 ) -> Result<Vec<Polled>, NoMemory>
-    ensures steps { OnOk result (⟦<PartiesOver<Q, T, O, G, S, R> as Progresses>⟧.step_on
-        parties.old parties.new) }
+where
+    P::ReqTx: Send,
+    P::ReqRx: Send,
+    P::RepTx: Send,
+    P::RepRx: Send,
+    P::GosTx: Send,
+    P::GosRx: Send,
+    ensures steps { OnOk result (⟦<Parties<P> as Run>⟧.step_on parties.old parties.new) }
     ensures turns { OnOk result (TakesAtMost 128 turns.old.items turns.new.items) }
     ensures counts { OnOk result (length turns.new.items
-        ≡ length parties.old.workers.items + length parties.old.sessions.items) }
-    ensures each { IfOk result (λ came. length came.items ≡ length parties.old.sessions.items) }
-    ensures moved { (script : Script)
-        → ⟦<PartiesOver<Q, T, O, G, S, R> as Runs>⟧.are_running script parties.old
+        ≡ length (⟦<Parties<P> as Run>⟧.worker_lists parties.old)
+        + length (⟦<Parties<P> as Run>⟧.session_lists parties.old)) }
+    ensures each { IfOk result (λ came. length came.items
+        ≡ length (⟦<Parties<P> as Run>⟧.session_lists parties.old)) }
+    ensures moved { ⟦<Parties<P> as Run>⟧.is_running parties.old
         → IfOk result (λ came. (at : ℕ) (its : Came) (was is : sessions.Lists)
         → slice_get came.items at ≡ Some its
-        → slice_get (⟦<PartiesOver<Q, T, O, G, S, R> as Runs>⟧.session_lists parties.old) at ≡ Some was
-        → slice_get (⟦<PartiesOver<Q, T, O, G, S, R> as Runs>⟧.session_lists parties.new) at ≡ Some is
+        → slice_get (⟦<Parties<P> as Run>⟧.session_lists parties.old) at ≡ Some was
+        → slice_get (⟦<Parties<P> as Run>⟧.session_lists parties.new) at ≡ Some is
         → HasMovedOn its was is) }
-    ensures done { (script : Script)
-        → ⟦<PartiesOver<Q, T, O, G, S, R> as Runs>⟧.are_running script parties.old
-        → IfOk result (λ came. (at : ℕ) (its : Came) → slice_get came.items at ≡ Some its
-        → IsTrue its.moved
-        → ⟦<PartiesOver<Q, T, O, G, S, R> as Progresses>⟧.done parties.old + 1
-        ≤ ⟦<PartiesOver<Q, T, O, G, S, R> as Progresses>⟧.done parties.new) }
 {
     let alloc = *parties.sessions.allocator();
     let workers = replace(&mut parties.workers, Vec::new(alloc));
@@ -229,8 +211,8 @@ pub fn run_epoch<
     let many = workers.len();
     let mut turned = parts_of_workers(turns, workers)?;
     let mut polled = parts_of_sessions(turns, many, sessions)?;
-    run_parts(rt, gate, &mut turned, &mut polled)?;
-    *turns = counts_of(alloc, &turned, &polled)?;
+    run_parts::<P, E, H>(rt, gate, &mut turned, &mut polled)?;
+    *turns = counts_of::<P>(alloc, &turned, &polled)?;
     let came = polled_of(alloc, &polled)?;
     parties.workers = workers_of(alloc, turned)?;
     parties.sessions = sessions_of(alloc, polled)?;

@@ -1,5 +1,5 @@
 //! What is told of each turn in an epoch.
-use party_steps::Pace;
+use parties::Pace;
 use std::hint::spin_loop;
 use std::thread::yield_now;
 

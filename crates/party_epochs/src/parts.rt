@@ -3,9 +3,8 @@ use crate::gate::EpochPace;
 use crate::{Gate, Piece};
 use lattice_laws::NoMemory;
 use mail_contract::{GossipRx, Rx, Tx};
-use party_run::SessionOver;
-use party_steps::{Polled, poll_often, turn_often};
-use store_msg::{Batch, Reply, Request};
+use parties::{Polled, SessionOver, poll_often, turn_often};
+use store_msg::{Batch, Mail, Reply, Request};
 use worker_core::WorkerOver;
 
 /// How many turns a party takes in an epoch, at most.
@@ -25,14 +24,12 @@ impl<Q: Rx<Request>, T: Tx<Reply>, O: Tx<Batch>, G: GossipRx<Batch, From = O>> P
     for TurnedOver<Q, T, O, G> {
     ghost use Rattle.std.specs.Prelude.{◌≡◌, None};
     ghost use Rattle.run_measure.specs.Steps.{HasServed};
-    ghost use Rattle.party_steps.specs.Pace.{RoseAtMost};
-    ghost use Rattle.party_steps.specs.Turning.{HasTurned};
+    ghost use Rattle.parties.specs.Pace.{RoseAtMost};
+    ghost use Rattle.parties.specs.Turning.{HasTurned};
     ghost use Rattle.worker_core.specs.State as workers;
 
     ghost becomes = { λ before now.
-        HasTurned Q.key T.key T.number O.key O.number G.key
-        Q.keeps.complete Q.senders Q.received Q.about T.sent
-        G.keeps.complete G.senders G.got G.about before.worker now.worker
+        HasTurned Q.Rx T.Tx O.Tx G.GossipRx before.worker now.worker
         × (before.worker.state.kept ≡ None → HasServed
         (workers.lists_of Q.received T.sent O.sent G.got before.worker)
         (workers.lists_of Q.received T.sent O.sent G.got now.worker))
@@ -66,17 +63,16 @@ pub struct PolledOver<S: Tx<Request>, R: Rx<Reply>> {
 
 impl<S: Tx<Request>, R: Rx<Reply>> Piece for PolledOver<S, R> {
     ghost use Rattle.std.specs.Prelude.{IsTrue};
-    ghost use Rattle.party_run.specs.Session.{proxy_of};
-    ghost use Rattle.party_steps.specs.Pace.{RoseAtMost};
-    ghost use Rattle.party_steps.specs.Polling.{HasPolled, IsAllAnswered};
-    ghost use Rattle.party_steps.specs.Progress.{HasMovedOn};
+    ghost use Rattle.parties.specs.Session.{proxy_of};
+    ghost use Rattle.parties.specs.Pace.{RoseAtMost};
+    ghost use Rattle.parties.specs.Polling.{HasPolled, IsAllAnswered};
+    ghost use Rattle.parties.specs.Progress.{HasMovedOn};
     ghost use Rattle.run_measure.specs.Laws.{IsPlaced};
     ghost use Rattle.session_proxy.specs.Share.{Share};
     ghost use Rattle.session_proxy.specs.State as sessions;
 
     ghost becomes = { λ before now.
-        HasPolled S.key S.number S.sent R.key R.senders R.received R.about
-        (proxy_of before.session) (proxy_of now.session)
+        HasPolled S.Tx R.Rx (proxy_of before.session) (proxy_of now.session)
         × (IsTrue now.polled.ended → IsAllAnswered (proxy_of now.session))
         × (IsPlaced (sessions.lists_of S.sent R.received (proxy_of before.session))
         → Share (sessions.lists_of S.sent R.received (proxy_of before.session))
@@ -98,3 +94,14 @@ impl<S: Tx<Request>, R: Rx<Reply>> Piece for PolledOver<S, R> {
         Ok(())
     }
 }
+
+/// A worker's part over one kind of mail.
+pub(crate) type Turned<P> = TurnedOver<
+    <P as Mail>::ReqRx,
+    <P as Mail>::RepTx,
+    <P as Mail>::GosTx,
+    <P as Mail>::GosRx,
+>;
+
+/// A session's part over one kind of mail.
+pub(crate) type PolledPart<P> = PolledOver<<P as Mail>::ReqTx, <P as Mail>::RepRx>;

@@ -1,3 +1,5 @@
-pub mod ChangedLemmas
-pub mod GoesOnLemmas
-pub mod KeptLemmas
+pub mod FinishedLemmas
+pub mod NumberedLemmas
+pub mod RoundLemmas
+pub mod SweptLemmas
+pub mod ToldLemmas

@@ -1,21 +1,33 @@
-//! The parties of a run: its workers, and its sessions of whichever level.
+//! A run of a script, until every line of every session is answered: an epoch, in which the parties take their turns
+//! beside each other, and a sweep, in which they do so one after another, make a round.
 //!
-//! A proxy has the level of its session in its type. [`SessionOver`] is a session of any of the three
-//! levels, so that a driver can hold all sessions of a run in one vector, and [`PartiesOver`] has them
-//! beside the workers. Each call of a session passes on to the proxy of its level, and promises what the
-//! proxy's does, word by word; what that is, is said once, in `session_proxy`.
+//! In each [`round`] every session moves that has a line not answered, so that [`run_rounds`] comes to an end, over
+//! ends that find places. A [`sweep`] takes the steps of any [`Run`](parties::Run). [`serve_with`] makes the parties
+//! of a script over some kind of mail, runs their rounds, and drains the run; [`serve`] does so over rings.
+//! [`serve_waiting`] serves a script over ends that keep no more than the contract of mail: it makes epochs without a
+//! sweep for as long as it takes, and what it promises holds if it returns. A gate is called before each turn in an
+//! epoch; the program lets everyone pass.
 //!
-//! The definitions: `proxy_of` in `specs/Session.antt`, what contracts see of a session; and in
-//! `specs/Running.antt` what the parties of a run of a script are while it goes on, over any ends.
-//! [`Runs`] is what contracts say of the parties of a run, each in one word.
-//!
-//! The types are written over the ends themselves, as those of workers and proxies are; `Session` and
-//! `Parties` are their names over one kind of mail. The crate stands on `worker_core`, `session_plain`
-//! and `session_causal`, and on `drain_ledger`, whose words for ends of one making it uses.
+//! The definitions: `specs/Ready.antt`, what is known of a run between the steps of a sweep. What a run is while it
+//! goes on, how far it is, and what is known of its sessions is said by `parties`, what it is once it is drained by
+//! `drain_ledger`, and which numbers its boxes of gossip were made with by `party_ends`. The crate passes on what
+//! whoever serves a script has to name: kinds of mail, gates and waiting.
 #![tactic(auto)]
 
-mod parties;
-mod session;
+mod driver;
+mod finishing;
+mod serving;
+mod sweeping;
+mod waiting;
 
-pub use parties::{Parties, PartiesOver, Runs};
-pub use session::{Session, SessionOver};
+pub use drain_ledger::Drained;
+pub use driver::{round, run_rounds, serve_with};
+pub use party_ends::{QueuePost, RingPost};
+pub use party_epochs::{FreeGate, Gate};
+pub use party_turns::Waiting;
+pub use serving::serve;
+pub use sweeping::sweep;
+pub use waiting::serve_waiting;
+
+#[cfg(test)]
+mod tests;

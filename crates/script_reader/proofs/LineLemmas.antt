@@ -1,8 +1,7 @@
 -- Lists of lines and names after references.
 use Rattle.std.proofs.Common.{◌≡◌, ℕ, Bool, true, false, not, cond, nat_lt, List, [], ◌∷◌, ◌++◌, map, length, Some, None, Bor, position, refl, ap, sym, ◌∙◌, ◌+◌, ◌||◌, if◌then◌else◌, ◌-◌, slice_get, ◌≢◌, option_map, take, zero, suc, arith}
-use Rattle.std.specs.List.{position_or_len, list_any}
+use Rattle.std.specs.List.{position_or_len, list_any, take-map}
 use Rattle.std.specs.Str.{bytes_eq}
-use Rattle.std.specs.List.{take-map}
 use Rattle.std.proofs.lemmas.List.{length-map, map-append}
 use Rattle.std.proofs.lemmas.Option.{slice_get-map, slice_get_within}
 use Rattle.script_reader.specs.Lines.{without_empty_last}

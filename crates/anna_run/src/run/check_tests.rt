@@ -2,7 +2,7 @@
 use super::tests::CONVERGED;
 use super::*;
 use outside::{MemSink, MemSource, SureSink, SureSource};
-use party_epochs::FreeGate;
+use party_run::FreeGate;
 use std::test::Fail;
 
 /// A script, and a report that is legal for it.

@@ -3,7 +3,7 @@ ghost use Rattle.std.specs.Prelude.{None};
 
 use super::*;
 use outside::{Failed, MemSink, MemSource, SureSink, SureSource};
-use party_epochs::FreeGate;
+use party_run::FreeGate;
 use std::test::Fail;
 
 pub(super) const FIRST: &str =

@@ -10,13 +10,14 @@ use Rattle.worker_core.specs.Sealed.{PlainSealed, sealed_of}
 use Rattle.worker_core.specs.Kept.{IsRequest}
 use Rattle.worker_core.specs.Share.{Share}
 use Rattle.worker_core.specs.State.{PlainWorker, kept_request, lists_of}
-use Rattle.drain_steps.specs.Settling.{MayTakeAll, MayTakeIn, TakesAll, TakesInGossip, TakesInReplies, TakesInRequests, column}
+use Rattle.party_turns.specs.Rows.{MayTakeAll, MayTakeIn, TakesAll, column}
+use Rattle.drain_steps.specs.Settling.{TakesInGossip, TakesInReplies, TakesInRequests}
 use Rattle.drain_ledger.specs.Finals.{finals_of}
 use Rattle.drain_ledger.proofs.AsksLemmas.{find_places}
 use Rattle.drain_ledger.proofs.ClosingLemmas.{is_drained}
 use Rattle.drain_ledger.proofs.FrontsSoundLemmas.{were_sound}
 use Rattle.drain_ledger.proofs.MatesLemmas.{all_met, goes_on, heard_out, many_gossip, may_take_gossip, of_mates, told_all}
-use Rattle.drain_steps.proofs.ItemsLemmas.{all_there, at_its_place, made_of_made, mapped, of_mapped, there_too}
+use Rattle.party_turns.proofs.ItemsLemmas.{all_there, at_its_place, made_of_made, mapped, of_mapped, there_too}
 use Rattle.drain_ledger.proofs.RepliesTakenLemmas.{boxes_are, fronts, may_take_replies, replies_making}
 use Rattle.drain_ledger.proofs.RequestsTakenLemmas.{all_came, are_ready, may_take_requests, of_sessions, only_requests, same_key, same_received, sent_is, stays_of_script}
 use Rattle.drain_ledger.proofs.draining.drain.Given.{Over}

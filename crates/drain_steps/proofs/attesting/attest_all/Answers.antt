@@ -3,7 +3,7 @@ use Rattle.std.proofs.lemmas.Option.{slice_get_within}
 use Rattle.worker_core.specs.Kept.{IsRequest}
 use Rattle.worker_core.specs.Share.{Share}
 use Rattle.worker_core.specs.State.{PlainWorker, lists_of}
-use Rattle.drain_steps.proofs.PlacesLemmas.{of_that, one_more_place}
+use Rattle.party_turns.proofs.PlacesLemmas.{of_that, one_more_place}
 use Rattle.drain_steps.proofs.attesting.attest_all.Given.{Over}
 use Rattle.drain_steps.proofs.attesting.attest_all.Goals as goal
 

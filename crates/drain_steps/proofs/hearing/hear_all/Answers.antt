@@ -1,7 +1,7 @@
 use Rattle.std.proofs.Common.{arith}
 use Rattle.drain_steps.specs.Hearing.{HasHeard}
 use Rattle.worker_core.specs.Sealed.{PlainSealed}
-use Rattle.drain_steps.proofs.PlacesLemmas.{all_done, none_done, one_done}
+use Rattle.party_turns.proofs.PlacesLemmas.{all_done, none_done, one_done}
 use Rattle.drain_steps.proofs.hearing.hear_all.Given.{Over}
 use Rattle.drain_steps.proofs.hearing.hear_all.Goals as goal
 

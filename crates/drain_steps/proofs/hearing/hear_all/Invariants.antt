@@ -1,5 +1,5 @@
 use Rattle.drain_steps.specs.Hearing.{HasHeard}
-use Rattle.drain_steps.proofs.PlacesLemmas.{IsDoneBefore}
+use Rattle.party_turns.proofs.PlacesLemmas.{IsDoneBefore}
 use Rattle.drain_steps.proofs.hearing.hear_all.Given as goal
 
 abbrev pub invariant-loop-place : goal.invariant-loop-place

@@ -1,7 +1,7 @@
 use Rattle.std.proofs.Common.{◌≡◌, ◌∷◌, ◌++◌, ◌∙◌, ◌+◌, All, [], arith, if◌then◌else◌, length, map, ap, subst, sym}
 use Rattle.std.proofs.lemmas.List.{length-map, map-append}
 use Rattle.lattice_laws.proofs.ListLemmas.{All-front}
-use Rattle.drain_steps.specs.Settling.{MayTakeAll, TakesAll, for_place}
+use Rattle.party_turns.specs.Rows.{MayTakeAll, TakesAll, for_place}
 use Rattle.drain_steps.proofs.ColumnLemmas.{AreTaken, may_take_row, one_row_less}
 use Rattle.drain_steps.proofs.settling.settle_all.Given.{Over}
 use Rattle.drain_steps.proofs.settling.settle_all.Goals as goal

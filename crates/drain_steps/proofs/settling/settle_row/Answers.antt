@@ -2,8 +2,8 @@ use Rattle.std.proofs.Common.{◌≡◌, ◌∷◌, ◌++◌, ◌<◌, ◌∙◌
 use Rattle.std.proofs.lemmas.Bool.{cases_lt, false≢true}
 use Rattle.std.proofs.lemmas.List.{nil_from_length}
 use Rattle.std.proofs.lemmas.Option.{slice_get-get_or}
-use Rattle.drain_steps.specs.Settling.{index_in}
-use Rattle.drain_steps.proofs.HalfLemmas.{IsHalfDone, all_done, all_left, may_take, one_less}
+use Rattle.party_turns.specs.Rows.{index_in}
+use Rattle.party_turns.proofs.HalfLemmas.{IsHalfDone, all_done, all_left, may_take, one_less}
 use Rattle.drain_steps.proofs.settling.settle_row.Given.{Over}
 use Rattle.drain_steps.proofs.settling.settle_row.Goals as goal
 use Rattle.drain_steps.proofs.settling.settle_row.Goals.{After-place_of-place}

@@ -1,4 +1,4 @@
-use Rattle.drain_steps.proofs.HalfLemmas.{IsHalfDone}
+use Rattle.party_turns.proofs.HalfLemmas.{IsHalfDone}
 use Rattle.drain_steps.proofs.settling.settle_row.Given as goal
 
 abbrev pub invariant-loop-sender : goal.invariant-loop-sender

@@ -3,10 +3,12 @@ use Rattle.std.proofs.lemmas.Bool.{and_from, and_parts}
 use Rattle.std.proofs.lemmas.List.{length-map}
 use Rattle.std.proofs.lemmas.Option.{slice_get_within}
 use Rattle.mail_contract.specs.Boxes.{box_of}
-use Rattle.drain_turns.specs.Ready.{AreMates, steady_of, told_by}
-use Rattle.drain_steps.proofs.ItemsLemmas.{mapped, there_is}
+use Rattle.party_turns.specs.Mates.{AreMates, steady_of}
+use Rattle.drain_turns.specs.Ready.{told_by}
+use Rattle.party_turns.proofs.ItemsLemmas.{mapped, there_is}
 use Rattle.drain_turns.proofs.LeftLemmas.{farther_all, farther_more, farther_still}
-use Rattle.drain_turns.proofs.PassesGoingOn.{all_stay, all_through, places_stay, ready_stays}
+use Rattle.party_turns.proofs.GoingOnLemmas.{all_stay, all_through}
+use Rattle.drain_turns.proofs.PassesGoingOn.{places_stay, ready_stays}
 use Rattle.drain_turns.proofs.PassesLemmas.{done_more, first_left, rested_more, unturned_less}
 use Rattle.drain_turns.proofs.passes.pass.Given.{Over}
 use Rattle.drain_turns.proofs.passes.pass.Goals as goal

@@ -1,8 +1,9 @@
 use Rattle.std.proofs.Common.{◌≡◌, ◌<◌, ◌≤◌, ℕ, Bool, IsTrue, List, slice_get, Some}
 use Rattle.mail_contract.specs.Boxes.{box_of}
 use Rattle.worker_core.specs.State.{PlainWorker}
-use Rattle.drain_turns.specs.Ready.{FindPlaces, HaveGoneOn, HaveNoneLeft, NeverFull, Steady, left_to, steadies}
-use Rattle.drain_turns.specs.Turning.{IsDone}
+use Rattle.drain_turns.specs.Ready.{FindPlaces, HaveNoneLeft, NeverFull, left_to}
+use Rattle.party_turns.specs.Mates.{HaveGoneOn, Steady, steadies}
+use Rattle.party_turns.specs.Turning.{IsDone}
 use Rattle.drain_turns.proofs.LeftLemmas.{Farther}
 use Rattle.drain_turns.proofs.passes.pass.Given.{Over}
 use Rattle.drain_turns.proofs.passes.pass.Given as goal

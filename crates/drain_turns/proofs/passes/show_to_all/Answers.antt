@@ -1,9 +1,10 @@
 use Rattle.std.proofs.Common.{◌∙◌, ◌+◌, ◌<◌, arith, length, refl, subst, sym}
 use Rattle.std.proofs.lemmas.List.{length-map}
 use Rattle.std.proofs.lemmas.Option.{slice_get_within}
-use Rattle.drain_turns.specs.Ready.{steady_of}
-use Rattle.drain_turns.proofs.PassesGoingOn.{all_stay, all_through, ready_stays}
-use Rattle.drain_turns.proofs.ShownLemmas.{knows_more, pair_goes_on}
+use Rattle.party_turns.specs.Mates.{steady_of}
+use Rattle.party_turns.proofs.GoingOnLemmas.{all_stay, all_through}
+use Rattle.drain_turns.proofs.PassesGoingOn.{ready_stays}
+use Rattle.party_turns.proofs.ShownLemmas.{knows_more, pair_goes_on}
 use Rattle.drain_turns.proofs.passes.show_to_all.Goals as goal
 use Rattle.drain_turns.proofs.passes.show_to_all.Goals.{else-other-place, then-other-place}
 use Rattle.drain_turns.proofs.passes.show_to_all.Invariants.{IsShownTo}

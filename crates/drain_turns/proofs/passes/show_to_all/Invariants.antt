@@ -1,6 +1,6 @@
 use Rattle.std.proofs.Common.{◌≡◌, ◌≢◌, ◌<◌, ℕ, List, slice_get, Some}
 use Rattle.worker_core.specs.State.{PlainWorker}
-use Rattle.drain_turns.specs.Ready.{HaveGoneOn, Knows, Steady, steadies}
+use Rattle.party_turns.specs.Mates.{HaveGoneOn, Knows, Steady, steadies}
 use Rattle.drain_turns.proofs.passes.show_to_all.Given.{Over}
 use Rattle.drain_turns.proofs.passes.show_to_all.Given as goal
 

@@ -2,8 +2,8 @@ use Rattle.std.proofs.Common.{◌≡◌, ◌∙◌, ◌++◌, ℕ, List, OnOk, a
 use Rattle.mail_contract.specs.Boxes.{box_of}
 use Rattle.worker_core.specs.State.{PlainWorker}
 use Rattle.drain_turns.specs.Ready.{FindPlaces}
-use Rattle.drain_turns.specs.Turning.{IsDone}
-use Rattle.drain_turns.proofs.PairListsLemmas.{whole}
+use Rattle.party_turns.specs.Turning.{IsDone}
+use Rattle.party_turns.proofs.PairListsLemmas.{whole}
 use Rattle.drain_turns.proofs.passes.turn_all.Given.{Over}
 use Rattle.drain_turns.proofs.passes.turn_all.Goals as goal
 use Rattle.drain_turns.proofs.passes.turn_all.Goals.{After-turn_passes}

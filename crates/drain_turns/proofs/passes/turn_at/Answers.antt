@@ -7,10 +7,12 @@ use Rattle.placement.specs.Config.{IsOneOf}
 use Rattle.mail_contract.specs.Boxes.{FindsNothing, box_of}
 use Rattle.worker_core.specs.Share.{Share}
 use Rattle.worker_core.specs.State.{PlainWorker, dirty, kept_request, lists_of}
-use Rattle.drain_turns.specs.Ready.{AreReady, FindPlaces, FreesPlaces, HaveGoneOn, Hears, Knows, MatesMiss, Steady, left_to, steadies, steady_of}
-use Rattle.drain_turns.specs.Turning.{IsDone, Owes, SomeBack}
-use Rattle.drain_steps.proofs.PlacesLemmas.{now_there}
-use Rattle.drain_turns.proofs.PassesGoingOn.{all_through, places_stay, ready_stays}
+use Rattle.drain_turns.specs.Ready.{AreReady, FindPlaces, FreesPlaces, Hears, MatesMiss, left_to}
+use Rattle.party_turns.specs.Mates.{HaveGoneOn, Knows, Steady, steadies, steady_of}
+use Rattle.party_turns.specs.Turning.{IsDone, Owes, SomeBack}
+use Rattle.party_turns.proofs.PlacesLemmas.{now_there}
+use Rattle.party_turns.proofs.GoingOnLemmas.{all_through}
+use Rattle.drain_turns.proofs.PassesGoingOn.{places_stay, ready_stays}
 use Rattle.drain_turns.proofs.PassesHeldLemmas.{no_reply_held, none_to_take}
 use Rattle.drain_turns.proofs.PassesTurnLemmas.{all_met, hears_mates, one_goes_on, some_missing}
 use Rattle.drain_turns.proofs.passes.turn_at.Given.{Over}

@@ -2,7 +2,7 @@ use Rattle.std.proofs.Common.{◌≡◌, ◌∷◌, ◌++◌, ◌<◌, ◌∙◌
 use Rattle.std.proofs.lemmas.Bool.{cases_lt, false≢true}
 use Rattle.std.proofs.lemmas.List.{nil_from_length}
 use Rattle.std.proofs.lemmas.Option.{slice_get-get_or}
-use Rattle.drain_steps.proofs.HalfLemmas.{IsHalfDone, all_done, all_left, one_less}
+use Rattle.party_turns.proofs.HalfLemmas.{IsHalfDone, all_done, all_left, one_less}
 use Rattle.party_ends.proofs.DealLemmas.{are_given}
 use Rattle.party_ends.proofs.making.deal.Given.{Over}
 use Rattle.party_ends.proofs.making.deal.Goals as goal

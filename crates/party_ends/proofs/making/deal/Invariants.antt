@@ -1,5 +1,5 @@
 use Rattle.std.proofs.Common.{◌≡◌, ◌∷◌, ◌++◌, [], false, length}
-use Rattle.drain_steps.proofs.HalfLemmas.{IsHalfDone}
+use Rattle.party_turns.proofs.HalfLemmas.{IsHalfDone}
 use Rattle.party_ends.proofs.making.deal.Given as goal
 
 abbrev pub invariant-loop-item : goal.invariant-loop-item

@@ -2,7 +2,7 @@ use Rattle.std.proofs.Common.{◌≡◌, ◌∙◌, ◌+◌, ◌<◌, Some, ap, 
 use Rattle.std.proofs.lemmas.List.{length-map, map-set}
 use Rattle.std.proofs.lemmas.Option.{slice_get-get_or}
 use Rattle.mail_contract.specs.Boxes.{weak_box_of}
-use Rattle.drain_steps.proofs.ItemsLemmas.{mapped}
+use Rattle.party_turns.proofs.ItemsLemmas.{mapped}
 use Rattle.party_ends.specs.Dealt.{AreDoneBefore, TakesInOwn}
 use Rattle.party_ends.proofs.OwnsLemmas.{one_done}
 use Rattle.party_ends.proofs.settling.settle_owns.Given.{Over}

@@ -6,17 +6,18 @@ use Rattle.worker_core.specs.State as workers
 use Rattle.run_measure.specs.Laws.{IsPlaced}
 use Rattle.run_measure.specs.Steps.{HasDone, HasServed}
 use Rattle.session_proxy.specs.Share.{Share}
-use Rattle.drain_steps.proofs.ItemsLemmas.{mapped, of_mapped, there_too}
-use Rattle.party_run.proofs.GoesOnLemmas.{goes_on_through}
-use Rattle.party_run.specs.Session.{proxy_of}
-use Rattle.party_steps.specs.Polling.{HasPolled}
-use Rattle.party_steps.specs.Progress.{HasMovedOn}
-use Rattle.party_steps.specs.Turning.{HasTurned}
-use Rattle.party_steps.specs.declared.stepping.Polled.{Polled as Came}
-use Rattle.party_steps.proofs.PlacedLemmas.{may_be_polled}
-use Rattle.party_steps.proofs.PolledRunLemmas.{polled_goes_on}
-use Rattle.party_steps.proofs.TogetherLemmas.{all_stepped, done_more, each_goes}
-use Rattle.party_steps.proofs.TurnedRunLemmas.{turned_goes_on}
+use Rattle.party_turns.proofs.ItemsLemmas.{of_mapped}
+use Rattle.party_turns.specs.Ends.{Ends, mail_of, session_lists, worker_lists}
+use Rattle.party_turns.proofs.GoesOnLemmas.{goes_on_through}
+use Rattle.parties.specs.Session.{proxy_of}
+use Rattle.parties.specs.Polling.{HasPolled}
+use Rattle.parties.specs.Progress.{HasMovedOn}
+use Rattle.parties.specs.Turning.{HasTurned}
+use Rattle.parties.specs.declared.stepping.Polled.{Polled as Came}
+use Rattle.parties.proofs.PlacedLemmas.{may_be_polled}
+use Rattle.parties.proofs.PolledRunLemmas.{polled_goes_on}
+use Rattle.party_turns.proofs.TogetherLemmas.{all_stepped}
+use Rattle.parties.proofs.TurnedRunLemmas.{turned_goes_on}
 use Rattle.party_epochs.specs.Turns.{AreCounted, TakesAtMost}
 use Rattle.party_epochs.proofs.EpochLemmas.{as_many_pieces, each_kept, each_told}
 use Rattle.party_epochs.proofs.TurnsLemmas.{all_take, takes_each}
@@ -25,17 +26,22 @@ use Rattle.party_epochs.proofs.epoch.run_epoch.Goals as goal
 use Rattle.party_epochs.proofs.epoch.run_epoch.Goals.{After-drop-parties-2}
 
 module _ (g : Over) where
+  -- what the ends tell
+  abbrev mail : Ends g.row.P-ReqTx.Denot g.row.P-RepTx.Denot g.row.P-GosTx.Denot g.row.P-ReqRx.Denot g.row.P-GosRx.Denot g.row.P-RepRx.Denot
+      g.row.P-ReqTx-Key.Denot g.row.P-RepTx-Key.Denot g.row.P-GosTx-Key.Denot g.row.P-ReqRx-Key.Denot g.row.P-GosRx-Key.Denot g.row.P-RepRx-Key.Denot
+  mail = mail_of g.P.ReqTx.Tx g.P.RepTx.Tx g.P.GosTx.Tx g.P.ReqRx.Rx g.P.GosRx.GossipRx g.P.RepRx.Rx
+
   abbrev Worker : Type 0
-  Worker = workers.PlainWorker g.row.Q.Denot g.row.T.Denot g.row.O.Denot g.row.G.Denot
+  Worker = workers.PlainWorker g.row.P-ReqRx.Denot g.row.P-RepTx.Denot g.row.P-GosTx.Denot g.row.P-GosRx.Denot
 
   abbrev Proxy : Type 0
-  Proxy = sessions.PlainProxy g.row.S.Denot g.row.R.Denot
+  Proxy = sessions.PlainProxy g.row.P-ReqTx.Denot g.row.P-RepRx.Denot
 
   abbrev of_worker : Worker → workers.Lists
-  of_worker = workers.lists_of g.Q.Rx.received g.T.Tx.sent g.O.Tx.sent g.G.GossipRx.got
+  of_worker = worker_lists mail
 
   abbrev of_session : Proxy → sessions.Lists
-  of_session = sessions.lists_of g.S.Tx.sent g.R.Rx.received
+  of_session = session_lists mail
 
   module _ (c : After-drop-parties-2 g) where
     -- the workers before the epoch and after it, and the proxies of the sessions
@@ -82,20 +88,18 @@ module _ (g : Over) where
 
     -- each worker took its turns,
     turned : (place : ℕ) (was is : Worker) → slice_get those place ≡ Some was → slice_get those_now place ≡ Some is
-        → HasTurned g.Q.Rx.key g.T.Tx.key g.T.Tx.number g.O.Tx.key g.O.Tx.number g.G.GossipRx.key g.Q.Rx.keeps.complete g.Q.Rx.senders g.Q.Rx.received g.Q.Rx.about g.T.Tx.sent
-        g.G.GossipRx.keeps.complete g.G.GossipRx.senders g.G.GossipRx.got g.G.GossipRx.about was is × (was.state.kept ≡ None → HasServed (of_worker was) (of_worker is))
+        → HasTurned g.P.ReqRx.Rx g.P.RepTx.Tx g.P.GosTx.Tx g.P.GosRx.GossipRx was is × (was.state.kept ≡ None → HasServed (of_worker was) (of_worker is))
     turned place was is there also =
         each_kept _
-        (λ was is. HasTurned g.Q.Rx.key g.T.Tx.key g.T.Tx.number g.O.Tx.key g.O.Tx.number g.G.GossipRx.key g.Q.Rx.keeps.complete g.Q.Rx.senders g.Q.Rx.received g.Q.Rx.about g.T.Tx.sent
-        g.G.GossipRx.keeps.complete g.G.GossipRx.senders g.G.GossipRx.got g.G.GossipRx.about was is × (was.state.kept ≡ None → HasServed (of_worker was) (of_worker is)))
+        (λ was is. HasTurned g.P.ReqRx.Rx g.P.RepTx.Tx g.P.GosTx.Tx g.P.GosRx.GossipRx was is × (was.state.kept ≡ None → HasServed (of_worker was) (of_worker is)))
         (λ part. part.worker) (λ before now became. (became.0, became.1)) c.in_ok-turned.turned.items c.run_parts.new.turned.items c.in_ok-run_parts.ensures.turned place was is
         (ap (λ all. slice_get all place) begun ∙ there) (ap (λ all. slice_get all place) (sym ended) ∙ also)
 
     -- and each session was polled
     polled : (place : ℕ) (was is : Proxy) → slice_get proxies place ≡ Some was → slice_get proxies_now place ≡ Some is
-        → HasPolled g.S.Tx.key g.S.Tx.number g.S.Tx.sent g.R.Rx.key g.R.Rx.senders g.R.Rx.received g.R.Rx.about was is
+        → HasPolled g.P.ReqTx.Tx g.P.RepRx.Rx was is
     polled place was is there also =
-        each_kept _ (HasPolled g.S.Tx.key g.S.Tx.number g.S.Tx.sent g.R.Rx.key g.R.Rx.senders g.R.Rx.received g.R.Rx.about)
+        each_kept _ (HasPolled g.P.ReqTx.Tx g.P.RepRx.Rx)
         (λ part. proxy_of part.session) (λ before now became. became.0) c.in_ok-polled.polled.items c.run_parts.new.polled.items c.in_ok-run_parts.ensures.polled place was is
         (ap (λ all. slice_get all place) sessions_begun ∙ there) (ap (λ all. slice_get all place) (sym sessions_ended) ∙ also)
 
@@ -125,7 +129,7 @@ returns-clause-steps g c = record {
       (turned_goes_on (those g c) (those_now g c) (proxies g c) (as_many g c) (λ place was is there also. (turned g c place was is there also).0))
       (polled_goes_on (those_now g c) (proxies g c) (proxies_now g c) (so_many g c) (polled g c));
   gone_on = λ script running.
-      all_stepped g.S.Tx.sent g.T.Tx.sent g.O.Tx.sent g.Q.Rx.received g.G.GossipRx.got g.R.Rx.received (those g c) (those_now g c) (proxies g c) (proxies_now g c) (as_many g c) (so_many g c)
+      all_stepped (mail g) (those g c) (those_now g c) (proxies g c) (proxies_now g c) (as_many g c) (so_many g c)
       (λ place was there. (running.workers_are place was there).sessions ∙ sym running.as_many_sessions)
       (λ place was is there also. (turned g c place was is there also).1)
       (done_each g c (may_be_polled script (those g c) (proxies g c) running));
@@ -136,27 +140,15 @@ returns-clause-each g c =
     ap length (came g c) ∙ length-map c.run_parts.new.polled.items (λ part. part.polled)
     ∙ as_many_pieces _ c.in_ok-polled.polled.items c.run_parts.new.polled.items c.in_ok-run_parts.ensures.polled
     ∙ sym (length-map c.in_ok-polled.polled.items (λ part. part.session)) ∙ ap length (c.in_ok-polled.ensures.sessions ∙ ap (λ vec. vec.items) c.replace-sessions.ensures.value)
+    ∙ sym (length-map c.args.parties.now.sessions.items proxy_of) ∙ sym (length-map (map proxy_of c.args.parties.now.sessions.items) (session_lists (mail g)))
 
 pub returns-clause-moved : goal.returns-clause-moved
-returns-clause-moved g c script running at its was is told there also =
+returns-clause-moved g c running at its was is told there also =
     let from = of_mapped (of_session g) (proxies g c) at was there in
     let to = of_mapped (of_session g) (proxies_now g c) at is also in
     subst (λ was. HasMovedOn its was is) from.2
     (subst (HasMovedOn its (of_session g from.0)) to.2
-    (moved_on g c (may_be_polled script (those g c) (proxies g c) running) at its from.0 to.0 told from.1 to.1))
-
-pub returns-clause-done : goal.returns-clause-done
-returns-clause-done g c script running at its told moved =
-    let may = may_be_polled script (those g c) (proxies g c) running in
-    let part = of_mapped (λ part. part.polled) c.run_parts.new.polled.items at its (ap (λ all. slice_get all at) (sym (came g c)) ∙ told) in
-    let is = proxy_of part.0.session in
-    let after = ap (λ all. slice_get all at) (sessions_ended g c) ∙ mapped (λ part. proxy_of part.session) c.run_parts.new.polled.items at part.0 part.1 in
-    let was = there_too (proxies g c) (proxies_now g c) at is (so_many g c) after in
-    done_more (map (of_session g) (proxies g c)) (map (of_session g) (proxies_now g c))
-    (length-map (proxies_now g c) (of_session g) ∙ so_many g c ∙ sym (length-map (proxies g c) (of_session g)))
-    (each_goes g.S.Tx.sent g.T.Tx.sent g.O.Tx.sent g.Q.Rx.received g.G.GossipRx.got g.R.Rx.received (proxies g c) (proxies_now g c) (done_each g c may))
-    at (of_session g was.0) (of_session g is) (mapped (of_session g) (proxies g c) at was.0 was.1) (mapped (of_session g) (proxies_now g c) at is after)
-    ((moved_on g c may at its was.0 is told was.1 after).moved moved)
+    (moved_on g c (may_be_polled running.0 (those g c) (proxies g c) running.1) at its from.0 to.0 told from.1 to.1))
 
 -- the counts of all parties, workers first
 counts : (g : Over) (c : After-drop-parties-2 g)
@@ -194,7 +186,8 @@ returns-clause-counts g c =
     let polled_now = c.run_parts.new.polled.items in
     let long = ap length (counts g after) ∙ length-append (map (λ part. part.turns) turned_now) (map (λ part. part.turns) polled_now) in
     let workers = length-map turned_now (λ part. part.turns) ∙ as_many_pieces _ c.in_ok-turned.turned.items turned_now c.in_ok-run_parts.ensures.turned
-    ∙ sym (length-map c.in_ok-turned.turned.items (λ part. part.worker)) ∙ ap length (begun g after) in
+    ∙ sym (length-map c.in_ok-turned.turned.items (λ part. part.worker)) ∙ ap length (begun g after) ∙ sym (length-map c.args.parties.now.workers.items (worker_lists (mail g))) in
     let sessions = length-map polled_now (λ part. part.turns) ∙ as_many_pieces _ c.in_ok-polled.polled.items polled_now c.in_ok-run_parts.ensures.polled
-    ∙ sym (length-map c.in_ok-polled.polled.items (λ part. part.session)) ∙ ap length (c.in_ok-polled.ensures.sessions ∙ ap (λ vec. vec.items) c.replace-sessions.ensures.value) in
+    ∙ sym (length-map c.in_ok-polled.polled.items (λ part. part.session)) ∙ ap length (c.in_ok-polled.ensures.sessions ∙ ap (λ vec. vec.items) c.replace-sessions.ensures.value)
+    ∙ sym (length-map c.args.parties.now.sessions.items proxy_of) ∙ sym (length-map (map proxy_of c.args.parties.now.sessions.items) (session_lists (mail g))) in
     omega (arith, long, workers, sessions)

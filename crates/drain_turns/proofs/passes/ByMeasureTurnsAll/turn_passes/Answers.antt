@@ -1,6 +1,7 @@
 use Rattle.std.proofs.Common.{◌≡◌, ◌∙◌, ◌+◌, ◌<◌, ◌≤◌, ℕ, Bool, true, false, if◌then◌else◌, arith, inl, inr, refl, sym}
 use Rattle.std.proofs.lemmas.Bool.{false≢true}
-use Rattle.drain_turns.proofs.PassesGoingOn.{all_through, places_stay, ready_stays}
+use Rattle.party_turns.proofs.GoingOnLemmas.{all_through}
+use Rattle.drain_turns.proofs.PassesGoingOn.{places_stay, ready_stays}
 use Rattle.drain_turns.proofs.passes.ByMeasureTurnsAll.turn_passes.Goals as goal
 
 pub loop-idle-init : goal.loop-idle-init

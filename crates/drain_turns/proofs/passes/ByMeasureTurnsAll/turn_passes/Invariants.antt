@@ -1,8 +1,9 @@
 use Rattle.std.proofs.Common.{◌≡◌, ◌⊎◌, ◌+◌, ℕ, if◌then◌else◌, IsTrue, List, slice_get, Some}
 use Rattle.mail_contract.specs.Boxes.{box_of}
 use Rattle.worker_core.specs.State.{PlainWorker}
-use Rattle.drain_turns.specs.Ready.{FindPlaces, HaveGoneOn, HaveNoneLeft, Steady, left_to_all, steadies}
-use Rattle.drain_turns.specs.Turning.{IsDone}
+use Rattle.drain_turns.specs.Ready.{FindPlaces, HaveNoneLeft, left_to_all}
+use Rattle.party_turns.specs.Mates.{HaveGoneOn, Steady, steadies}
+use Rattle.party_turns.specs.Turning.{IsDone}
 use Rattle.drain_turns.proofs.passes.ByMeasureTurnsAll.turn_passes.Given.{Over}
 use Rattle.drain_turns.proofs.passes.ByMeasureTurnsAll.turn_passes.Given as goal
 

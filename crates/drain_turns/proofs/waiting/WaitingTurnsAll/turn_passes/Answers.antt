@@ -1,4 +1,5 @@
-use Rattle.drain_turns.proofs.PassesGoingOn.{all_stay, all_through, ready_stays}
+use Rattle.party_turns.proofs.GoingOnLemmas.{all_stay, all_through}
+use Rattle.drain_turns.proofs.PassesGoingOn.{ready_stays}
 use Rattle.drain_turns.proofs.waiting.WaitingTurnsAll.turn_passes.Goals as goal
 
 pub loop-init : goal.loop-init

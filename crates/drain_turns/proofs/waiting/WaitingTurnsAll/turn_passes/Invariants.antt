@@ -1,4 +1,4 @@
-use Rattle.drain_turns.specs.Ready.{HaveGoneOn}
+use Rattle.party_turns.specs.Mates.{HaveGoneOn}
 use Rattle.drain_turns.proofs.waiting.WaitingTurnsAll.turn_passes.Given as goal
 
 abbrev pub invariant-loop : goal.invariant-loop

@@ -1,0 +1,5 @@
+use Rattle.parties.proofs.StayStepsLemmas.{stay_steps}
+use Rattle.parties.proofs.parties.PartiesRun.part_all.Goals as goal
+
+pub returns-clause-steps : goal.returns-clause-steps
+returns-clause-steps g c = stay_steps _ _ _ _ c.part_all.ensures.stay

@@ -1,0 +1,11 @@
+-- What contracts see of a session, of whichever level: its proxy.
+use Rattle.session_proxy.specs.State.{PlainProxy}
+use Rattle.parties.specs.declared.session.SessionOver.{SessionOver}
+use Rattle.parties.specs.declared.session.SessionOver.TheVariants as levels
+
+-- The proxy of the session's level, which is that of its client. Beside its ends `T` and `R` the type takes the key of `T`, the senders of
+-- the box `R`, its key, and theirs.
+abbrev pub proxy_of : {T R TK From RK FromK : Type 0} → SessionOver T R TK From RK FromK → PlainProxy T R
+proxy_of (levels.Eventual proxy) = proxy
+proxy_of (levels.Committed proxy) = proxy
+proxy_of (levels.Causal proxy) = proxy

@@ -1,9 +1,0 @@
-pub mod BesideLemmas
-pub mod HeldLemmas
-pub mod LearnedLemmas
-pub mod MateLemmas
-pub mod MeetLemmas
-pub mod MetLemmas
-pub mod PartLemmas
-pub mod StayLemmas
-pub mod Words

@@ -1,3 +1,0 @@
-mod NumberedLemmas
-mod RoundLemmas
-mod ToldLemmas

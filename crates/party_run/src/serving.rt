@@ -1,0 +1,34 @@
+//! A script is served over rings.
+ghost use Rattle.std.specs.Prelude.{IfOk};
+ghost use Rattle.drain_ledger.specs.Drained.{IsDrained, ledger_in};
+ghost use Rattle.placement.specs.Config.{placed};
+ghost use Rattle.session_known.specs.Script.{IsValidScript};
+
+use crate::driver::serve_with;
+use drain_ledger::Drained;
+use lattice_laws::NoMemory;
+use mail_contract::{GossipRx, Rx};
+use mail_rings::RingRx;
+use party_ends::RingPost;
+use party_epochs::Gate;
+use session_known::Script;
+use std::alloc::Global;
+use std::thread::Threads;
+use store_msg::{Batch, Reply, Request};
+
+/// Serves a script in threads, and drains the run. The gate is called before each turn of each party in an epoch.
+/// After `NoMemory` all is dropped.
+pub fn serve<E: Gate + Sync, H: Threads + Sync>(
+    rt: &H,
+    gate: &E,
+    alloc: Global,
+    script: &Script,
+) -> Result<Drained<RingPost>, NoMemory>
+    requires { IsValidScript script.now (placed script.now.config) }
+    ensures { IfOk result (λ drained. IsDrained script.now drained.report
+        (ledger_in ⟦<RingRx<Request> as Rx<Request>>⟧.received
+        ⟦<RingRx<Batch> as GossipRx<Batch>>⟧.got ⟦<RingRx<Reply> as Rx<Reply>>⟧.received
+        drained.workers.items drained.replies.items)) }
+{
+    serve_with(rt, gate, &RingPost, alloc, script)
+}

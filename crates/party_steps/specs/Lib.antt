@@ -1,4 +1,0 @@
-pub mod Pace
-pub mod Polling
-pub mod Progress
-pub mod Turning
