@@ -1,5 +1,5 @@
 -- The sessions, judged one after another.
-use Rattle.std.specs.Prelude.{◌≡◌, ℕ, zero, suc, ◌+◌, ◌<◌, ◌≤◌, List, [], ◌∷◌, ◌++◌, All, drop, length, get_or}
+use Rattle.std.specs.Prelude.{◌≡◌, ℕ, zero, suc, ◌+◌, ◌<◌, ◌≤◌, List, [], ◌∷◌, ◌++◌, All, drop, length, get_or, Option, MatchOption}
 use Rattle.std.specs.List.{AllZip}
 use Rattle.std.proofs.Common.{refl, sym, ap, subst, ◌∙◌, append_assoc, append-nil, inl, inr, arith}
 use Rattle.std.proofs.lemmas.List.{at_drop_more, at_drop_all}
@@ -13,7 +13,7 @@ use Rattle.session_known.specs.Lawful.{AreLawful}
 use Rattle.session_known.specs.Legal.{AreLawfulFrom}
 use Rattle.placement.specs.Config.{IsOneOf}
 use Rattle.session_known.specs.Script.{MayStand, IsValidScript}
-use Rattle.session_known.specs.Session.{start, puts_from}
+use Rattle.session_known.specs.Session.{Client, start, puts_from}
 use Rattle.session_known.specs.declared.report.Answer.{Answer}
 use Rattle.session_known.specs.declared.report.Answer.TheVariants as answers
 use Rattle.session_known.specs.declared.script.Level.{Level}
@@ -22,7 +22,7 @@ use Rattle.session_known.specs.declared.script.Line.TheVariants as lines
 use Rattle.session_known.specs.declared.script.Script.{Script}
 use Rattle.session_known.specs.declared.script.SessionPlan.{SessionPlan}
 use Rattle.anna_check.specs.ByKey.{OfKey, kinds_of, AreByKey}
-use Rattle.anna_check.specs.Judged.{NamesKey, NamesWorker, MayTake, CanBeJudged}
+use Rattle.anna_check.specs.Judged.{NamesKey, NamesWorker, MayTake, CanBeJudged, AnswersFit}
 use Rattle.anna_check.specs.Unlawful.{IsFirstUnlawful, IsFirstUnlawfulFrom}
 
 -- what holds place by place holds at a place
@@ -31,6 +31,17 @@ zip_at R [] ys all i d e within = absurd (omega (arith, within))
 zip_at R (x ∷ xs) [] all i d e within = absurd all
 zip_at R (x ∷ xs) (y ∷ ys) all zero d e within = all.0
 zip_at R (x ∷ xs) (y ∷ ys) all (suc i) d e within = zip_at R xs ys all.1 i d e (omega (arith, within))
+
+-- each session has answers
+pub answers_each : (script : Script) (answered : List (List Answer)) → AnswersFit script answered → length answered ≡ length script.sessions
+answers_each script answered fit = AllZip-long (λ (plan : SessionPlan) (answers : List Answer). AllZip (Fits script plan.level) plan.lines answers) script.sessions answered fit
+
+-- what was found of the lines and the answers of a session is found of the same
+pub same_lawful : (table : List (List ℕ)) (client : Client) {found others : Option ℕ} {given of_session : List Line} {told answered : List Answer} → found ≡ others → given ≡ of_session → told ≡ answered
+    → MatchOption found (AreLawful table client start [] given told) (IsFirstUnlawful table client start [] given told)
+    → MatchOption others (AreLawful table client start [] of_session answered) (IsFirstUnlawful table client start [] of_session answered)
+same_lawful table client found_is lines_are answers_are is =
+    subst (λ (at : Option ℕ × List Line × List Answer). MatchOption at.0 (AreLawful table client start [] at.1 at.2) (IsFirstUnlawful table client start [] at.1 at.2)) (λ j. (found_is j, lines_are j, answers_are j)) is
 
 -- a line that may stand names a key that there is
 key_named : (script : Script) (table : List (List ℕ)) (level : Level) (line : Line) → MayStand script table level line → NamesKey (length script.config.keys) line

@@ -19,6 +19,10 @@ pub record AreJoined (workers : ℕ) (earlier : List (Line × Answer)) (had : Li
   pub workers_are : length had ≡ workers
   pub join : (key worker : ℕ) (clock : List (ℕ × ℕ)) → IsOneOf workers worker → IsClock clock → IsTrue (covers clock (clock_from had key worker)) ↔ All (λ before. IsTrue (covers clock before)) (earlier_from key worker earlier)
 
+-- the line's answer had no clock, of no key from no worker
+abbrev pub HasNoClock : Line → Answer → Type 0
+HasNoClock line answer = (key worker : ℕ) → had_from key worker (line, answer) ≡ None
+
 -- the clock of the key from the worker is that of the line's answer, and it had no other
 abbrev pub IsClockOf : Line → Answer → ℕ → ℕ → List (ℕ × ℕ) → Type 0
 IsClockOf line answer key worker clock = (its_key by : ℕ) → had_from its_key by (line, answer) ≡ cond ((key == its_key) && (worker == by)) (Some clock) None

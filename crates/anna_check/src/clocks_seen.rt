@@ -1,9 +1,8 @@
 //! The clocks that a session had from the workers.
-ghost use Rattle.std.specs.Prelude.{◌≡◌, [], ℕ, ◌==◌, ◌&&◌, cond, List, Some, None, IfOk, IfSome, MatchOption, length};
+ghost use Rattle.std.specs.Prelude.{◌≡◌, [], ℕ, IfOk, IfSome, MatchOption, length};
 ghost use Rattle.clock_lattice.specs.Clock.{covers};
-ghost use Rattle.session_known.specs.Lawful.{had_from};
 ghost use Rattle.placement.specs.Config.{IsOneOf};
-ghost use Rattle.anna_check.specs.ClocksSeen.{AreJoined, HasNoted, HasTakenIn, clock_from};
+ghost use Rattle.anna_check.specs.ClocksSeen.{AreJoined, HasNoClock, IsClockOf, HasNoted, HasTakenIn, clock_from};
 ghost use Rattle.anna_check.specs.Judged.{NamesWorker};
 
 use clock_lattice::{Clock, Needs};
@@ -76,10 +75,8 @@ impl ClocksSeen {
 
 /// The key, the worker and the clock that the line's answer had, if it had one.
 fn clock_had<'a>(line: &Line, answer: &'a Answer) -> Option<(u16, u16, &'a Clock)>
-    ensures had { MatchOption result ((key worker : ℕ)
-        → had_from key worker (line.now, answer.now) ≡ None)
-        (λ had. (key worker : ℕ) → had_from key worker (line.now, answer.now)
-        ≡ cond ((had.0 == key) && (had.1 == worker)) (Some had.2.now) None) }
+    ensures had { MatchOption result (HasNoClock line.now answer.now)
+        (λ had. IsClockOf line.now answer.now had.0 had.1 had.2.now) }
     ensures worker { (workers : ℕ) → NamesWorker workers answer.now
         → IfSome result (λ had. IsOneOf workers had.1) }
 {

@@ -1,5 +1,6 @@
 -- What a run owes, before it is written.
-use Rattle.std.specs.Prelude.{◌≡◌, ℕ, List, Option, Some, None, ⊤}
+use Rattle.std.specs.Prelude.{◌≡◌, ℕ, List, Option, Some, None, Result, IfOk, ⊤}
+use Rattle.lattice_laws.specs.Counts.{Rose}
 use Rattle.big_work.specs.Big.{script_of}
 use Rattle.placement.specs.Config.{placed}
 use Rattle.session_known.specs.Legal.{IsLegal}
@@ -7,7 +8,8 @@ use Rattle.session_known.specs.declared.report.Report as reports
 use Rattle.session_known.specs.declared.script.Script.{Script}
 use Rattle.anna_check.specs.Unlawful.{IsVerdict}
 use Rattle.anna_check.specs.declared.judge.Verdict.{Verdict}
-use Rattle.anna_run.specs.Run.{Made, SourceUse, HasServed, HasWorked, IsFound, Owed, verdict_status, verdict_text}
+use Rattle.script_reader.specs.Grammar.{IsScript}
+use Rattle.anna_run.specs.Run.{AreChecked, Made, SourceUse, HasServed, HasWorked, IsFound, Owed, verdict_status, verdict_text}
 use Rattle.anna_run.specs.declared.run.OutcomeOver.{OutcomeOver}
 use Rattle.anna_run.specs.declared.run.OutcomeOver.TheVariants.{Line, Report, Summary}
 use Rattle.anna_run.specs.declared.run.Status.{Status}
@@ -60,3 +62,36 @@ module _ {D : Type 0} where
   abbrev pub IsReport : OutcomeOver D → Type 0
   IsReport (Report script drained) = ⊤
   IsReport outcome = ⊥
+
+-- so by the answer
+abbrev pub Owes : {D E : Type 0} → (D → Made) → Option Command → SourceUse → Result (OutcomeOver D) E → Type 0
+Owes made command source result = IfOk result (IsOwed made command source)
+
+-- what holds where a source that does not fail holds a script,
+abbrev pub OnScript : SourceUse → Type 0 → Type 0
+OnScript source holds = (input : List ℕ) (script : Script) → source.left_before ≡ Some input → IsScript input script → (Rose source.faults_before source.faults_now → ⊥) → holds
+
+-- and where the words ask to run it
+abbrev pub OnScriptOf : Option Command → SourceUse → Type 0 → Type 0
+OnScriptOf command source holds =
+    (input : List ℕ) (script : Script) → command ≡ Some Run → source.left_before ≡ Some input → IsScript input script → (Rose source.faults_before source.faults_now → ⊥) → holds
+
+-- what holds where bytes say a script and a report after it,
+abbrev pub WhereChecked : List ℕ → (Script → reports.Report → Type 0) → Type 0
+WhereChecked bytes holds = (script : Script) (report : reports.Report) → AreChecked bytes script report → holds script report
+
+-- where a source that does not fail holds them,
+abbrev pub OnReport : SourceUse → (Script → reports.Report → Type 0) → Type 0
+OnReport source holds =
+    (input : List ℕ) (script : Script) (report : reports.Report) → source.left_before ≡ Some input → AreChecked input script report
+    → (Rose source.faults_before source.faults_now → ⊥) → holds script report
+
+-- and where the words ask to judge the report
+abbrev pub OnReportOf : Option Command → SourceUse → (Script → reports.Report → Type 0) → Type 0
+OnReportOf command source holds =
+    (input : List ℕ) (script : Script) (report : reports.Report) → command ≡ Some Check → source.left_before ≡ Some input → AreChecked input script report
+    → (Rose source.faults_before source.faults_now → ⊥) → holds script report
+
+-- the answer says of the report whether it is legal
+abbrev pub Judges : {D E : Type 0} → Result (OutcomeOver D) E → Script → reports.Report → Type 0
+Judges result script report = IfOk result (TellsOf script report)

@@ -3,6 +3,8 @@ use Rattle.std.specs.Prelude.{◌≡◌, ℕ, ◌+◌, ◌<◌, ◌≤◌, ◌�
 use Rattle.std.specs.Global.{Global}
 use Rattle.std.specs.Fmt.{decimal}
 use Rattle.lattice_laws.specs.Counts.{Rose}
+use Rattle.outside.specs.declared.Sink as sinks
+use Rattle.outside.specs.declared.Source as sources
 use Rattle.outside.specs.Outside.{Ends, NoneLeft, Took, TookMost}
 use Rattle.outside.specs.declared.Failed.{Failed}
 use Rattle.placement.specs.Config.{placed}
@@ -19,9 +21,9 @@ use Rattle.anna_check.specs.Unlawful.{IsVerdict}
 use Rattle.anna_check.specs.declared.judge.Verdict.{Verdict}
 use Rattle.anna_check.specs.declared.judge.Verdict.TheVariants as verdicts
 use Rattle.big_work.specs.Big.{script_of, summary_text}
-use Rattle.drain_ledger.specs.Drained.{IsDrained, ledger_in}
-use Rattle.drain_ledger.specs.declared.draining.DrainedOver.{DrainedOver}
-use Rattle.run_ledger.specs.Ledger.{Ledger}
+use Rattle.party_run.specs.Drained.{IsDrained, ledger_in}
+use Rattle.party_run.specs.DrainedOver.{DrainedOver}
+use Rattle.party_run.specs.Ledger.{Ledger}
 use Rattle.store_msg.specs.Reply.{PlainReply}
 use Rattle.store_msg.specs.declared.request.Request.{Request}
 use Rattle.worker_core.specs.State.{Entries}
@@ -45,6 +47,10 @@ pub record SourceUse : Type 0 where
 abbrev pub use_of : {Source : Type 0} → (Source → Option (List ℕ)) → (Source → ℕ) → Source → Source → SourceUse
 use_of left faults old new = record { left_before = left old; left_now = left new; faults_before = faults old; faults_now = faults new }
 
+-- so by all that its trait lets contracts see of it
+abbrev pub used : {Source : Type 0} → sources.Ghosts Source → Source → Source → SourceUse
+used its = use_of its.left its.faults
+
 -- no byte was taken, and no fault counted
 pub record IsUntouched (source : SourceUse) : Type 0 where
   pub left : source.left_now ≡ source.left_before
@@ -59,6 +65,10 @@ pub record SinkUse : Type 0 where
 
 abbrev pub sink_use_of : {Sink : Type 0} → (Sink → Option (List ℕ)) → (Sink → ℕ) → Sink → Sink → SinkUse
 sink_use_of written faults old new = record { written_before = written old; written_now = written new; faults_before = faults old; faults_now = faults new }
+
+-- so by all that its trait lets contracts see of it
+abbrev pub wrote : {Sink : Type 0} → sinks.Ghosts Sink → Sink → Sink → SinkUse
+wrote its = sink_use_of its.written its.faults
 
 -- no byte was written, and no fault counted
 pub record IsUnwritten (sink : SinkUse) : Type 0 where
@@ -106,6 +116,10 @@ TakesNothing (Some Run) = ⊥
 TakesNothing (Some Check) = ⊥
 TakesNothing (Some (Big number)) = ⊤
 TakesNothing None = ⊤
+
+-- where they do the source is left alone
+abbrev pub LeavesAlone : Option Command → SourceUse → Type 0
+LeavesAlone command source = TakesNothing command → IsUntouched source
 
 -- ---- a run
 

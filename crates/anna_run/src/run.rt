@@ -1,15 +1,11 @@
 //! The call that does all that the program does.
-ghost use Rattle.std.specs.Prelude.{◌≡◌, ◌≤◌, ℕ, List, Some, None, IfOk};
-ghost use Rattle.lattice_laws.specs.Counts.{Rose};
-ghost use Rattle.script_reader.specs.Grammar.{IsScript};
+ghost use Rattle.std.specs.Prelude.{◌≡◌, ◌≤◌, Some, IfOk};
 ghost use Rattle.placement.specs.Config.{placed};
 ghost use Rattle.session_known.specs.Form.{HasForm};
 ghost use Rattle.session_known.specs.Script.{IsValidScript};
-ghost use Rattle.session_known.specs.declared.script.Script.{Script};
-ghost use Rattle.session_known.specs.declared.report.Report as reports;
-ghost use Rattle.anna_run.specs.Outcomes.{IsOwed, IsOwedByWork, IsOwedOf, IsReport, TellsOf, TellsVerdict};
+ghost use Rattle.anna_run.specs.Outcomes.{IsOwedByWork, IsOwedOf, IsReport, Judges, OnReport, OnReportOf, OnScript, OnScriptOf, Owes, TellsVerdict, WhereChecked};
+ghost use Rattle.anna_run.specs.Run.{Made, IsBounded, IsComplete, IsEnd, IsExitOf, IsJudged, IsRunOf, IsWorkComplete, KeepsCounts, LeavesAlone, exit_number, ran_of, used, verdict_status, write_status, wrote};
 ghost use Rattle.anna_run.specs.Words.{command_in};
-ghost use Rattle.anna_run.specs.Run.{use_of, sink_use_of, exit_number, verdict_status, made_of, ran_of, write_status, AreChecked, IsUntouched, IsBounded, IsEnd, IsComplete, IsJudged, IsWorkComplete, KeepsCounts, IsRunOf, IsExitOf, TakesNothing};
 
 use crate::texts::{line, refusal, report_refusal, verdict_line};
 use crate::words::{Command, WordsFault, read_words};
@@ -78,8 +74,24 @@ pub enum PartsOver<D: Drop> {
     Rings(D),
 }
 
+/// A run over rings that is drained.
+pub type Rings = Drained<RingPost>;
+
+/// A run that is drained, as contracts see it.
+pub trait Ran {
+    // Its report, and what its parties have in hand.
+    ghost made: { Self → Made };
+}
+
+impl Ran for Rings {
+    ghost use Rattle.anna_run.specs.Run.{made_of};
+
+    ghost made = { made_of ⟦<RingRx<Request> as Rx<Request>>⟧.received
+        ⟦<RingRx<Batch> as GossipRx<Batch>>⟧.got ⟦<RingRx<Reply> as Rx<Reply>>⟧.received };
+}
+
 /// The run that was made.
-pub type Parts = PartsOver<Drained<RingPost>>;
+pub type Parts = PartsOver<Rings>;
 
 /// What a run owes to whoever asked.
 #[derive(Drop)]
@@ -92,7 +104,7 @@ enum OutcomeOver<D: Drop> {
     Line(Status, Vec<u8>),
 }
 
-type Outcome = OutcomeOver<Drained<RingPost>>;
+type Outcome = OutcomeOver<Rings>;
 
 /// Reads a script and runs it.
 fn run_script<S: Source, E: Gate + Sync, H: Threads + Sync>(
@@ -101,15 +113,11 @@ fn run_script<S: Source, E: Gate + Sync, H: Threads + Sync>(
     src: &mut S,
     gate: &E,
 ) -> Result<Outcome, NoMemory>
-    ensures owed { IfOk result (IsOwed (made_of
-        ⟦<RingRx<Request> as Rx<Request>>⟧.received ⟦<RingRx<Batch> as GossipRx<Batch>>⟧.got
-        ⟦<RingRx<Reply> as Rx<Reply>>⟧.received)
-        (Some Command.Run) (use_of S.left S.faults src.old src.new)) }
-    ensures bounded { IsBounded (Some Command.Run) (use_of S.left S.faults src.old src.new) }
+    ensures owed { Owes ⟦<Rings as Ran>⟧.made (Some Command.Run) (used S.Source src.old src.new)
+        result }
+    ensures bounded { IsBounded (Some Command.Run) (used S.Source src.old src.new) }
     ensures count { S.faults src.old ≤ S.faults src.new }
-    ensures complete { (input : List ℕ) (script : Script) → S.left src.old ≡ Some input
-        → IsScript input script
-        → (Rose (S.faults src.old) (S.faults src.new) → ⊥) → IfOk result IsReport }
+    ensures complete { OnScript (used S.Source src.old src.new) (IfOk result IsReport) }
 {
     let bytes = match read_all(alloc, src, MOST_BYTES + 1) {
         Ok(bytes) => bytes,
@@ -137,9 +145,7 @@ fn run_work<E: Gate + Sync, H: Threads + Sync>(
     number: u64,
     gate: &E,
 ) -> Result<Outcome, NoMemory>
-    ensures { IfOk result (IsOwedByWork (made_of
-        ⟦<RingRx<Request> as Rx<Request>>⟧.received ⟦<RingRx<Batch> as GossipRx<Batch>>⟧.got
-        ⟦<RingRx<Reply> as Rx<Reply>>⟧.received) number) }
+    ensures { IfOk result (IsOwedByWork ⟦<Rings as Ran>⟧.made number) }
 {
     let script = big_script(alloc, number)?;
     let drained = serve(rt, gate, alloc, &script)?;
@@ -148,15 +154,11 @@ fn run_work<E: Gate + Sync, H: Threads + Sync>(
 
 /// Reads a script and the report after it, and judges the report.
 fn check_input<S: Source>(alloc: Global, src: &mut S) -> Result<Outcome, NoMemory>
-    ensures owed { IfOk result (IsOwed (made_of
-        ⟦<RingRx<Request> as Rx<Request>>⟧.received ⟦<RingRx<Batch> as GossipRx<Batch>>⟧.got
-        ⟦<RingRx<Reply> as Rx<Reply>>⟧.received)
-        (Some Command.Check) (use_of S.left S.faults src.old src.new)) }
-    ensures bounded { IsBounded (Some Command.Check) (use_of S.left S.faults src.old src.new) }
+    ensures owed { Owes ⟦<Rings as Ran>⟧.made (Some Command.Check) (used S.Source src.old src.new)
+        result }
+    ensures bounded { IsBounded (Some Command.Check) (used S.Source src.old src.new) }
     ensures count { S.faults src.old ≤ S.faults src.new }
-    ensures complete { (input : List ℕ) (script : Script) (report : reports.Report)
-        → S.left src.old ≡ Some input → AreChecked input script report
-        → (Rose (S.faults src.old) (S.faults src.new) → ⊥) → IfOk result (TellsOf script report) }
+    ensures complete { OnReport (used S.Source src.old src.new) (Judges result) }
 {
     let bytes = match read_all(alloc, src, MOST_CHECKED + 1) {
         Ok(bytes) => bytes,
@@ -171,8 +173,7 @@ fn check_input<S: Source>(alloc: Global, src: &mut S) -> Result<Outcome, NoMemor
 /// Judges the report that the bytes say after their script.
 fn check_bytes(alloc: Global, bytes: &[u8]) -> Result<Outcome, NoMemory>
     ensures owed { IfOk result (IsOwedOf bytes.now) }
-    ensures complete { (script : Script) (report : reports.Report)
-        → AreChecked bytes.now script report → IfOk result (TellsOf script report) }
+    ensures complete { WhereChecked bytes.now (Judges result) }
 {
     if bytes.len() > MOST_CHECKED {
         return Ok(Outcome::Line(Status::Refused, refusal(alloc, 0, TOO_LONG)?));
@@ -224,21 +225,15 @@ fn outcome_of<S: Source, E: Gate + Sync, H: Threads + Sync>(
     src: &mut S,
     gate: &E,
 ) -> Result<Outcome, NoMemory>
-    ensures owed { IfOk result (IsOwed (made_of
-        ⟦<RingRx<Request> as Rx<Request>>⟧.received ⟦<RingRx<Batch> as GossipRx<Batch>>⟧.got
-        ⟦<RingRx<Reply> as Rx<Reply>>⟧.received)
-        (command_in words.now) (use_of S.left S.faults src.old src.new)) }
-    ensures bounded { IsBounded (command_in words.now) (use_of S.left S.faults src.old src.new) }
-    ensures untouched { TakesNothing (command_in words.now)
-        → IsUntouched (use_of S.left S.faults src.old src.new) }
+    ensures owed { Owes ⟦<Rings as Ran>⟧.made (command_in words.now) (used S.Source src.old src.new)
+        result }
+    ensures bounded { IsBounded (command_in words.now) (used S.Source src.old src.new) }
+    ensures untouched { LeavesAlone (command_in words.now) (used S.Source src.old src.new) }
     ensures count { S.faults src.old ≤ S.faults src.new }
-    ensures complete { (input : List ℕ) (script : Script) → command_in words.now ≡ Some Command.Run
-        → S.left src.old ≡ Some input → IsScript input script
-        → (Rose (S.faults src.old) (S.faults src.new) → ⊥) → IfOk result IsReport }
-    ensures judges { (input : List ℕ) (script : Script) (report : reports.Report)
-        → command_in words.now ≡ Some Command.Check
-        → S.left src.old ≡ Some input → AreChecked input script report
-        → (Rose (S.faults src.old) (S.faults src.new) → ⊥) → IfOk result (TellsOf script report) }
+    ensures complete { OnScriptOf (command_in words.now)
+        (used S.Source src.old src.new) (IfOk result IsReport) }
+    ensures judges { OnReportOf (command_in words.now)
+        (used S.Source src.old src.new) (Judges result) }
 {
     match read_words(words) {
         Some(Command::Run) => run_script(rt, alloc, src, gate),
@@ -269,31 +264,27 @@ pub fn run<S: Source, K: Sink, E: Gate + Sync, H: Threads + Sync>(
     gate: &E,
 ) -> (Status, Parts)
     // The status says what was owed, and that it was written.
-    ensures ends { IsEnd (command_in words.now) (use_of S.left S.faults src.old src.new)
-        (sink_use_of K.written K.faults sink.old sink.new)
-        (ran_of (made_of
-        ⟦<RingRx<Request> as Rx<Request>>⟧.received ⟦<RingRx<Batch> as GossipRx<Batch>>⟧.got
-        ⟦<RingRx<Reply> as Rx<Reply>>⟧.received)
+    ensures ends { IsEnd (command_in words.now) (used S.Source src.old src.new)
+        (wrote K.Sink sink.old sink.new)
+        (ran_of ⟦<Rings as Ran>⟧.made
         result.1) result.0 }
 
     // No more than one byte more than the input may have is taken, and nothing where no input is asked for.
-    ensures bounded { IsBounded (command_in words.now) (use_of S.left S.faults src.old src.new) }
-    ensures untouched { TakesNothing (command_in words.now)
-        → IsUntouched (use_of S.left S.faults src.old src.new) }
+    ensures bounded { IsBounded (command_in words.now) (used S.Source src.old src.new) }
+    ensures untouched { LeavesAlone (command_in words.now) (used S.Source src.old src.new) }
 
     // A script is run, unless an end failed or memory ran out, and so is the large work of a number.
-    ensures complete { IsComplete (command_in words.now) (use_of S.left S.faults src.old src.new)
-        (sink_use_of K.written K.faults sink.old sink.new) result.0 }
+    ensures complete { IsComplete (command_in words.now) (used S.Source src.old src.new)
+        (wrote K.Sink sink.old sink.new) result.0 }
     ensures works { IsWorkComplete (command_in words.now)
-        (sink_use_of K.written K.faults sink.old sink.new) result.0 }
+        (wrote K.Sink sink.old sink.new) result.0 }
 
     // A report after its script is told to be legal, or not to be, unless an end failed or memory ran out.
-    ensures judges { IsJudged (command_in words.now) (use_of S.left S.faults src.old src.new)
-        (sink_use_of K.written K.faults sink.old sink.new) result.0 }
+    ensures judges { IsJudged (command_in words.now) (used S.Source src.old src.new)
+        (wrote K.Sink sink.old sink.new) result.0 }
 
     // No count of faults falls.
-    ensures counts { KeepsCounts (use_of S.left S.faults src.old src.new)
-        (sink_use_of K.written K.faults sink.old sink.new) }
+    ensures counts { KeepsCounts (used S.Source src.old src.new) (wrote K.Sink sink.old sink.new) }
 {
     match outcome_of(rt, alloc, words, src, gate) {
         Ok(Outcome::Report(script, drained)) => {
@@ -334,11 +325,9 @@ fn run_given<S: Source, K: Sink, E: Gate + Sync, H: Threads + Sync>(
     sink: &mut K,
     gate: &E,
 ) -> (Status, Parts)
-    ensures { IsRunOf words (use_of S.left S.faults src.old src.new)
-        (sink_use_of K.written K.faults sink.old sink.new)
-        (ran_of (made_of
-        ⟦<RingRx<Request> as Rx<Request>>⟧.received ⟦<RingRx<Batch> as GossipRx<Batch>>⟧.got
-        ⟦<RingRx<Reply> as Rx<Reply>>⟧.received)
+    ensures { IsRunOf words (used S.Source src.old src.new)
+        (wrote K.Sink sink.old sink.new)
+        (ran_of ⟦<Rings as Ran>⟧.made
         result.1) result.0 }
 {
     match words {
@@ -357,8 +346,8 @@ pub fn exit_of<S: Source, K: Sink, E: Gate + Sync, H: Threads + Sync>(
     sink: &mut K,
     gate: &E,
 ) -> u8
-    ensures { IsExitOf words (use_of S.left S.faults src.old src.new)
-        (sink_use_of K.written K.faults sink.old sink.new) result }
+    ensures { IsExitOf words (used S.Source src.old src.new)
+        (wrote K.Sink sink.old sink.new) result }
 {
     let (status, _) = run_given(rt, alloc, words, src, sink, gate);
     status.number()

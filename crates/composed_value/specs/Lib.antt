@@ -1,3 +1,4 @@
+pub use Rattle.version_antichain.specs.declared.version.Version
 pub mod Cell
 pub mod CellLaws
 pub mod Keyed

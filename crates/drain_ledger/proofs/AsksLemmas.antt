@@ -22,10 +22,10 @@ use Rattle.worker_core.specs.Share.{Share}
 use Rattle.worker_core.specs.State.{Entries, PlainWorker, lists_of}
 use Rattle.run_ledger.proofs.MessagesLemmas.{each_from}
 use Rattle.run_ledger.specs.Parties.{HasEnded, HaveEnded}
-use Rattle.run_ledger.proofs.EndedSessionsLemmas.{none_sent}
+use Rattle.legal_runs.proofs.EndedSessionsLemmas.{none_sent}
 use Rattle.run_ledger.proofs.GetsLemmas.{gets_in, gets_to}
 use Rattle.run_ledger.proofs.HeldLemmas.{own_taken}
-use Rattle.run_ledger.proofs.SessionsLemmas.{by_number}
+use Rattle.run_ledger.proofs.ByNumberLemmas.{by_number}
 use Rattle.run_ledger.proofs.UnheardLemmas.{few_unheard}
 use Rattle.drain_turns.specs.Ready.{AreReplied, FindPlaces, FreesPlaces}
 use Rattle.party_turns.specs.Turning.{known_sent}

@@ -27,10 +27,10 @@ use Rattle.worker_core.specs.State.{Entries, Lists, PlainWorker, dirty, kept_req
 use Rattle.run_ledger.specs.Came.{Came, IsSettled, IsWhole}
 use Rattle.run_ledger.specs.Ledger.{Ledger, WorkerEnd, no_worker, worker_at}
 use Rattle.run_ledger.specs.Parties.{AreDrained, ArePaired, AreMates, IsSealed, Parties, SealedWorker, end_of, ledger_of, no_sealed, no_session, sealed_at, session_at}
-use Rattle.run_ledger.proofs.DrainedLemmas.{drained_came}
-use Rattle.run_ledger.proofs.LegalLemmas.{legal_and_causal}
-use Rattle.run_ledger.proofs.PartiesLemmas.{at_mapped}
-use Rattle.run_ledger.proofs.SessionsLemmas.{from_first}
+use Rattle.legal_runs.proofs.DrainedLemmas.{drained_came}
+use Rattle.legal_runs.proofs.LegalLemmas.{legal_and_causal}
+use Rattle.legal_runs.proofs.PartiesLemmas.{at_mapped}
+use Rattle.run_ledger.proofs.ByNumberLemmas.{from_first}
 use Rattle.party_turns.specs.Mates.{IsMate}
 use Rattle.drain_ledger.specs.Drained.{IsDrained, end_in, ledger_in}
 use Rattle.drain_ledger.specs.Finals.{cells_of, finals_of}

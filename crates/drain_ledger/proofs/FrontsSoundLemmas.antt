@@ -16,9 +16,9 @@ use Rattle.worker_core.specs.Share.{WasOwn, cells_on, entries_in, own_cell}
 use Rattle.worker_core.specs.State.{Entries, PlainWorker}
 use Rattle.run_ledger.specs.Came.{Came}
 use Rattle.run_ledger.specs.Ledger.{Ledger, WorkerEnd, no_worker, worker_at}
-use Rattle.run_ledger.proofs.HeardLemmas.{cells_all}
-use Rattle.run_ledger.proofs.JoinedSoundLemmas.{joined_sound}
-use Rattle.run_ledger.proofs.SoundLemmas.{IsSoundAt, own_at}
+use Rattle.legal_runs.proofs.HeardLemmas.{cells_all}
+use Rattle.legal_runs.proofs.JoinedSoundLemmas.{joined_sound}
+use Rattle.legal_runs.proofs.SoundLemmas.{IsSoundAt, own_at}
 use Rattle.run_ledger.proofs.WorkersLemmas.{IsWorker, is_worker, worker_came}
 use Rattle.drain_ledger.specs.Drained.{AreFrontsSound, GoesOn, IsDrained, WasHeard, end_in, ledger_in}
 use Rattle.party_turns.proofs.ItemsLemmas.{mapped_or}

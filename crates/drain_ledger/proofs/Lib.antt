@@ -1,3 +1,4 @@
+pub use Rattle.run_ledger.proofs.WorkersLemmas
 pub mod AsksLemmas
 pub mod ClosingLemmas
 pub mod FinalPlacesLemmas

@@ -12,7 +12,7 @@ use Rattle.worker_core.specs.Sealed.{PlainSealed}
 use Rattle.worker_core.specs.Share.{cells_on, entries_in, joined_with, own_cell}
 use Rattle.worker_core.specs.State.{Entries, PlainWorker}
 use Rattle.run_ledger.specs.Came.{Came, IsSettled}
-use Rattle.run_ledger.specs.Laws.{IsLegalAndCausal}
+use Rattle.legal_runs.specs.Laws.{IsLegalAndCausal}
 use Rattle.run_ledger.specs.Ledger.{Ledger, WorkerEnd}
 
 -- what is in hand of a sealed worker, and of all workers and the boxes of replies

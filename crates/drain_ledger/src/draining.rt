@@ -1,10 +1,11 @@
 //! The drain, step by step.
-ghost use Rattle.std.specs.Prelude.{◌≡◌, ◌⊎◌, ℕ, map, slice_get, IfOk, IsFalse, IsTrue, Some};
-ghost use Rattle.drain_ledger.specs.Drained.{AreFrontsSound, GoesOn, IsDrained, ledger_in};
-ghost use Rattle.drain_ledger.specs.Handed.{AreFrontsOfSent, AreOfOneRun};
-ghost use Rattle.drain_turns.specs.Ready.{FreesPlaces, NeverFull};
-ghost use Rattle.worker_core.specs.Sealed.{PlainSealed};
-ghost use Rattle.worker_core.specs.State.{PlainWorker};
+ghost use Rattle.std.specs.Prelude.{◌≡◌, ◌⊎◌, map, IfOk, IsFalse, IsTrue};
+ghost use Rattle.drain_ledger.specs.Handed.{AreFrontsOfSent, AreHandedOver};
+ghost use Rattle.drain_ledger.specs.OverBoxes as over;
+ghost use Rattle.drain_turns.specs.OverWorkers as turned;
+ghost use Rattle.drain_turns.specs.Ready.{FreesPlaces};
+ghost use Rattle.party_turns.specs.Ends.{mail_of};
+ghost use Rattle.party_turns.specs.Places.{AtEach};
 
 use crate::finals::final_cells;
 use drain_steps::{HearsOut, attest_all, hear_all, part_all, seal_all, settle_all};
@@ -48,28 +49,19 @@ pub fn drain<
     sessions: Vec<(Items<Answer>, SessionEndsOver<S, R>)>,
 ) -> Result<DrainedOver<Q, G, R>, NoMemory>
     requires finite { IsFalse P.waits → IsTrue G.keeps.finite }
-    requires room { IsFalse P.waits → NeverFull T O T.fulls O.fulls
+    requires room { IsFalse P.waits → turned.NeverFull T.Tx O.Tx
         ⊎ (FreesPlaces G.keeps × AreFrontsOfSent T.sent R.received workers.items sessions.items) }
-    requires run { AreOfOneRun S.key S.number S.sent T.key T.number O.key O.number
-        Q.key Q.pairs Q.senders Q.received Q.about
-        G.key G.pairs G.senders G.got G.about
-        R.key R.pairs R.received R.about
+    requires run { AreHandedOver (mail_of S.Tx T.Tx O.Tx Q.Rx G.GossipRx R.Rx)
         script.now workers.items sessions.items }
-    ensures drained { IfOk result (λ drained. IsDrained script.now drained.report
-        (ledger_in Q.received G.got R.received drained.workers.items drained.replies.items)) }
-    ensures answers { IfOk result (λ drained. drained.report.answers
-        ≡ map (λ its. its.0) sessions.items) }
-    ensures goes_on { IfOk result (λ drained. (place : ℕ)
-        (before : PlainWorker Q T O G) (now : PlainSealed Q G)
-        → slice_get workers.items place ≡ Some before
-        → slice_get drained.workers.items place ≡ Some now
-        → GoesOn Q.received G.key G.got before now) }
+    ensures drained { IfOk result (λ run. over.IsDrained Q.Rx G.GossipRx R.Rx
+        script.now run.report run.workers.items run.replies.items) }
+    ensures answers { IfOk result (λ run. run.report.answers ≡ map (λ its. its.0) sessions.items) }
+    ensures goes_on { IfOk result
+        (λ run. over.GoOn Q.Rx G.GossipRx workers.items run.workers.items) }
 
     // What a worker had while the run went on, from what it had received and heard by then, was sound.
-    ensures sound { IfOk result (λ drained. (place : ℕ) (worker : PlainWorker Q T O G)
-        → slice_get workers.items place ≡ Some worker
-        → AreFrontsSound script.now drained.report
-        (Q.received worker.ends.requests) (G.got worker.ends.gossip_in)) }
+    ensures sound { IfOk result (λ run.
+        AtEach workers.items (over.AreFrontsSound Q.Rx G.GossipRx script.now run.report)) }
 {
     let alloc = *workers.allocator();
     attest_all(&workers);

@@ -1,7 +1,6 @@
 //! The final cells.
-ghost use Rattle.std.specs.Prelude.{◌≡◌, ◌<◌, ◌+◌, ◌^◌, ◌++◌, [], length, map, slice_index_or, IfOk, OnOk};
-ghost use Rattle.drain_ledger.specs.Finals.{final_where, finals_of, finals_of_key};
-ghost use Rattle.merge_world.specs.Effects.{cells_at};
+ghost use Rattle.std.specs.Prelude.{◌≡◌, ◌<◌, ◌+◌, ◌^◌, ◌++◌, length, IfOk, OnOk};
+ghost use Rattle.drain_ledger.specs.Finals.{final_at, finals_for, finals_of, maps_of, written_down};
 
 use composed_value::Cell;
 use lattice_laws::{Lattice, NoMemory};
@@ -13,13 +12,7 @@ use worker_core::SealedOver;
 
 /// The final cell of a key at a worker.
 fn final_cell(key: u16, worker: u16, cell: &Cell) -> Result<FinalCell, NoMemory>
-    ensures { IfOk result (λ last. last ≡ record {
-      key = key;
-      worker = worker;
-      clock = cell.now.clock;
-      top = cell.now.top;
-      value = cell.now.value;
-    }) }
+    ensures { IfOk result (λ last. last ≡ written_down key worker cell.now) }
 {
     Ok(FinalCell {
         key,
@@ -39,8 +32,7 @@ fn add_final<Q: Rx<Request>, G: GossipRx<Batch>>(
 ) -> Result<(), NoMemory>
     requires within { place < length workers.now }
     requires few { place + 1 < 2 ^ 16 }
-    ensures { OnOk result (finals.new.items ≡ finals.old.items ++ final_where key (place + 1)
-        (cells_at (slice_index_or (map (λ worker. worker.cells) workers.now) place []) key)) }
+    ensures { OnOk result (finals.new.items ≡ finals.old.items ++ final_at key workers.now place) }
 {
     if let Some(cell) = workers[place as usize].cell(key) {
         finals.push(final_cell(key, place + 1, cell)?)?;
@@ -55,8 +47,7 @@ fn add_finals<Q: Rx<Request>, G: GossipRx<Batch>>(
     workers: &[SealedOver<Q, G>],
 ) -> Result<(), NoMemory>
     requires { length workers.now < 2 ^ 16 }
-    ensures { OnOk result (finals.new.items
-        ≡ finals.old.items ++ finals_of_key key (map (λ worker. worker.cells) workers.now)) }
+    ensures { OnOk result (finals.new.items ≡ finals.old.items ++ finals_for key workers.now) }
 {
     for place in 0..workers.len() as u16 {
         add_final(finals, key, workers, place)?;
@@ -72,8 +63,7 @@ pub(crate) fn final_cells<Q: Rx<Request>, G: GossipRx<Batch>>(
 ) -> Result<Vec<FinalCell>, NoMemory>
     requires keys { keys + 1 < 2 ^ 16 }
     requires workers { length workers.now < 2 ^ 16 }
-    ensures { IfOk result (λ finals. finals.items
-        ≡ finals_of keys (map (λ worker. worker.cells) workers.now)) }
+    ensures { IfOk result (λ finals. finals.items ≡ finals_of keys (maps_of workers.now)) }
 {
     let mut finals = Vec::new(alloc);
     for i in 0..keys {

@@ -8,7 +8,7 @@
 //! `specs/Handed.antt` says what is handed over, the workers and ended sessions of one run of a script,
 //! `specs/Drained.antt` what comes of it, and `specs/Finals.antt` what the final cells are.
 //!
-//! The crate stands on `drain_steps` and `drain_turns` for its steps, and on `run_ledger` for the law
+//! The crate stands on `drain_steps` and `drain_turns` for its steps, and on `legal_runs` for the law
 //! that drained parties have a ledger from which their report came, and that it is legal.
 #![tactic(auto)]
 

@@ -1,8 +1,8 @@
 //! Workers tell what they keep.
-ghost use Rattle.std.specs.Prelude.{◌≡◌, ℕ, All, Some, slice_get};
+ghost use Rattle.std.specs.Prelude.{All};
+ghost use Rattle.party_turns.specs.Places.{AtEach};
 ghost use Rattle.worker_core.specs.Kept.{IsRequest};
-ghost use Rattle.worker_core.specs.Share.{Share};
-ghost use Rattle.worker_core.specs.State.{PlainWorker, lists_of};
+ghost use Rattle.worker_core.specs.OverWorkers as over;
 
 use mail_contract::{GossipRx, Rx, Tx};
 use store_msg::{Batch, Reply, Request};
@@ -13,12 +13,9 @@ use worker_core::WorkerOver;
 pub fn attest_all<T: Tx<Reply>, O: Tx<Batch>, Q: Rx<Request>, G: GossipRx<Batch, From = O>>(
     workers: &[WorkerOver<Q, T, O, G>],
 )
-    ensures share { (place : ℕ) (worker : PlainWorker Q T O G)
-        → slice_get workers.now place ≡ Some worker
-        → Share (lists_of Q.received T.sent O.sent G.got worker) }
-    ensures requests { (place : ℕ) (worker : PlainWorker Q T O G)
-        → slice_get workers.now place ≡ Some worker
-        → All (λ message. IsRequest message.1) (Q.received worker.ends.requests) }
+    ensures share { AtEach workers.now (over.Share Q.Rx T.Tx O.Tx G.GossipRx) }
+    ensures requests { AtEach workers.now (λ worker.
+        All (λ message. IsRequest message.1) (Q.received worker.ends.requests)) }
 {
     for i in 0..workers.len() {
         workers[i].attest();

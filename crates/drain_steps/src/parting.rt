@@ -12,11 +12,10 @@ pub fn part_all<A: Drop, S: Tx<Request>, R: Rx<Reply>>(
     alloc: Global,
     sessions: Vec<(A, SessionEndsOver<S, R>)>,
 ) -> Result<(Vec<A>, Vec<Vec<S>>, Vec<R>), NoMemory>
-    ensures answers { IfOk result (λ parts. parts.0.items ≡ map (λ its. its.0) sessions.items) }
-    ensures requests { IfOk result (λ parts. parts.1.items
+    ensures answers { IfOk result (λ all. all.0.items ≡ map (λ its. its.0) sessions.items) }
+    ensures requests { IfOk result (λ all. all.1.items
         ≡ map (λ its. its.1.requests) sessions.items) }
-    ensures replies { IfOk result (λ parts. parts.2.items
-        ≡ map (λ its. its.1.replies) sessions.items) }
+    ensures replies { IfOk result (λ all. all.2.items ≡ map (λ its. its.1.replies) sessions.items) }
 {
     let mut sessions = sessions;
     let mut answers = Vec::with_capacity(alloc, sessions.len())?;

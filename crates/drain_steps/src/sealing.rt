@@ -17,11 +17,11 @@ pub fn seal_all<T: Tx<Reply>, O: Tx<Batch>, Q: Rx<Request>, G: GossipRx<Batch, F
     requires clean { All (λ worker. dirty worker.state ≡ 0) workers.items }
     requires none_held { All (λ worker. worker.state.held ≡ None) workers.items }
     requires none_kept { All (λ worker. kept_request worker.state.kept ≡ []) workers.items }
-    ensures sealed { IfOk result (λ parts. parts.0.items ≡ map sealed_of workers.items) }
-    ensures replies { IfOk result (λ parts. parts.1.items
-        ≡ map (λ worker. worker.ends.replies) workers.items) }
-    ensures gossip { IfOk result (λ parts. parts.2.items
-        ≡ map (λ worker. worker.ends.gossip_out) workers.items) }
+    ensures sealed { IfOk result (λ all. all.0.items ≡ map sealed_of workers.items) }
+    ensures replies { IfOk result (λ all. all.1.items
+        ≡ map (λ its. its.ends.replies) workers.items) }
+    ensures gossip { IfOk result (λ all. all.2.items
+        ≡ map (λ its. its.ends.gossip_out) workers.items) }
 {
     let mut workers = workers;
     let mut sealed = Vec::with_capacity(alloc, workers.len())?;

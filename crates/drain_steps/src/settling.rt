@@ -1,6 +1,7 @@
 //! Senders that have ended are taken in by those that they are for.
 ghost use Rattle.std.specs.Prelude.{◌≡◌, ◌&&◌, ◌==◌, ℕ, ◌+◌, ◌^◌, ◌<◌, ◌≤◌, All, if◌then◌else◌, length, map, slice_get, false, Some};
-ghost use Rattle.party_turns.specs.Rows.{MayTakeAll, TakesAll, column, for_place, index_in};
+ghost use Rattle.party_turns.specs.Places.{BothAtPlaces};
+ghost use Rattle.party_turns.specs.Rows.{MayTakeAll, TakesAll, column, for_place, index_in, rows_in};
 
 use mail_contract::{GossipRx, Rx, Tx, settle_one};
 use store_msg::{Batch, Reply, Request};
@@ -86,13 +87,10 @@ pub fn settle_all<M, P: TakesIn<M>>(parties: &mut Vec<P>, rows: Vec<Vec<P::From>
         ≡ length parties.old.items) rows.items }
     requires may { (place : ℕ) (party : P) → slice_get parties.old.items place ≡ Some party
         → MayTakeAll P.may P.takes
-        (column skips 0 (map (λ senders. senders.items) rows.items) place) party }
+        (column skips 0 (rows_in rows.items) place) party }
     ensures long { length parties.new.items ≡ length parties.old.items }
-    ensures takes { (place : ℕ) (before now : P)
-        → slice_get parties.old.items place ≡ Some before
-        → slice_get parties.new.items place ≡ Some now
-        → TakesAll P.takes
-        (column skips 0 (map (λ senders. senders.items) rows.items) place) before now }
+    ensures takes { BothAtPlaces parties.old.items parties.new.items (λ place. TakesAll P.takes
+        (column skips 0 (rows_in rows.items) place)) }
 {
     let mut rows = rows;
     while let Some(senders) = rows.pop() {
@@ -112,10 +110,8 @@ fn settle_row<M, P: TakesIn<M>>(
     requires may { (place : ℕ) (party : P) → slice_get parties.old.items place ≡ Some party
         → MayTakeAll P.may P.takes (for_place skips row senders.items place) party }
     ensures long { length parties.new.items ≡ length parties.old.items }
-    ensures takes { (place : ℕ) (before now : P)
-        → slice_get parties.old.items place ≡ Some before
-        → slice_get parties.new.items place ≡ Some now
-        → TakesAll P.takes (for_place skips row senders.items place) before now }
+    ensures takes { BothAtPlaces parties.old.items parties.new.items (λ place. TakesAll P.takes
+        (for_place skips row senders.items place)) }
 {
     let mut senders = senders;
     while let Some(sender) = senders.pop() {

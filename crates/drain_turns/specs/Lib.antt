@@ -1,1 +1,2 @@
+pub mod OverWorkers
 pub mod Ready

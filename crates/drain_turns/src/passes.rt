@@ -1,10 +1,9 @@
 //! The workers take their turns, one after another, until nothing is left to do.
-ghost use Rattle.std.specs.Prelude.{◌≡◌, ◌≢◌, ◌⊎◌, ◌<◌, ◌≤◌, ◌+◌, ℕ, false, if◌then◌else◌, length, slice_get, IfOk, IsFalse, IsTrue, OnOk, Some};
-ghost use Rattle.party_turns.specs.Mates.{HaveGoneOn, Knows, StandsOrIsShown, Steady, steadies};
-ghost use Rattle.drain_turns.specs.Ready.{AreReady, FindPlaces, FreesPlaces, HaveNoneLeft, Hears, MatesMiss, NeverFull, left_to, left_to_all};
-ghost use Rattle.party_turns.specs.Turning.{HasGoneOn, IsDone, Owes};
-ghost use Rattle.mail_contract.specs.Boxes.{box_of};
-ghost use Rattle.worker_core.specs.State.{PlainWorker, dirty};
+ghost use Rattle.std.specs.Prelude.{◌≡◌, ◌≢◌, ◌⊎◌, ◌<◌, false, length, IfOk, IsFalse, IsTrue, OnOk};
+ghost use Rattle.drain_turns.specs.OverWorkers as over;
+ghost use Rattle.drain_turns.specs.Ready.{FreesPlaces};
+ghost use Rattle.party_turns.specs.OverWorkers as turned;
+ghost use Rattle.party_turns.specs.Places.{AtEach, AtPlace, OthersSame};
 
 use lattice_laws::NoMemory;
 use mail_contract::{GossipRx, Rx, Tx};
@@ -22,25 +21,12 @@ pub fn turn_all<
     P: TurnsAll<T, O, Q, G>,
 >(by: &P, workers: &mut Vec<WorkerOver<Q, T, O, G>>) -> Result<(), NoMemory>
     requires finite { IsFalse P.waits → IsTrue G.keeps.finite }
-    requires ready { AreReady Q.keeps.complete (λ its. Q.senders (Q.key its)) Q.received Q.about
-        O.key O.number G.key G.pairs G.senders G.about workers.old.items }
-    requires room { IsFalse P.waits → NeverFull T O T.fulls O.fulls
-        ⊎ FindPlaces G.keeps Q.about T.sent (λ its. Q.senders (Q.key its)) workers.old.items }
-    ensures long { length workers.new.items ≡ length workers.old.items }
-    ensures gone_on { (place : ℕ) (before now : PlainWorker Q T O G)
-        → slice_get workers.old.items place ≡ Some before
-        → slice_get workers.new.items place ≡ Some now
-        → HasGoneOn Q.key T.key T.number O.key O.number G.key
-        Q.keeps.complete Q.senders Q.received Q.about T.sent
-        G.keeps.complete G.senders G.got G.about before now }
-    ensures gossip_stands { (place : ℕ) (before now : PlainWorker Q T O G)
-        → slice_get workers.old.items place ≡ Some before
-        → slice_get workers.new.items place ≡ Some now
-        → StandsOrIsShown (length workers.old.items) (place + 1)
-        (G.about before.ends.gossip_in) (G.about now.ends.gossip_in) }
-    ensures done { OnOk result ((place : ℕ) (now : PlainWorker Q T O G)
-        → slice_get workers.new.items place ≡ Some now
-        → IsDone Q.keeps (box_of Q.received Q.answers Q.about) now) }
+    requires ready { over.AreReady Q.Rx O.Tx G.GossipRx workers.old.items }
+    requires room { IsFalse P.waits → over.NeverFull T.Tx O.Tx
+        ⊎ over.FindPlaces Q.Rx T.Tx G.GossipRx workers.old.items }
+    ensures gone_on { over.HaveGoneOn Q.Rx T.Tx O.Tx G.GossipRx
+        workers.old.items workers.new.items }
+    ensures done { OnOk result (AtEach workers.new.items (over.IsDone Q.Rx)) }
 {
     by.turn_passes(workers)
 }
@@ -55,16 +41,11 @@ pub trait TurnsAll<
     /// Turns the workers in passes until each was Idle in one.
     fn turn_passes(&self, workers: &mut [WorkerOver<Q, T, O, G>]) -> Result<(), NoMemory>
         requires finite { IsFalse Self.waits → IsTrue G.keeps.finite }
-        requires ready { AreReady Q.keeps.complete (λ its. Q.senders (Q.key its)) Q.received Q.about
-            O.key O.number G.key G.pairs G.senders G.about workers.old }
-        requires room { IsFalse Self.waits → NeverFull T O T.fulls O.fulls
-            ⊎ FindPlaces G.keeps Q.about T.sent (λ its. Q.senders (Q.key its)) workers.old }
-        ensures gone_on { HaveGoneOn Q.key T.key T.number O.key O.number G.key
-            Q.keeps.complete Q.senders Q.received Q.about T.sent
-            G.keeps.complete G.senders G.got G.about workers.old workers.new }
-        ensures done { OnOk result ((place : ℕ) (now : PlainWorker Q T O G)
-            → slice_get workers.new place ≡ Some now
-            → IsDone Q.keeps (box_of Q.received Q.answers Q.about) now) };
+        requires ready { over.AreReady Q.Rx O.Tx G.GossipRx workers.old }
+        requires room { IsFalse Self.waits → over.NeverFull T.Tx O.Tx
+            ⊎ over.FindPlaces Q.Rx T.Tx G.GossipRx workers.old }
+        ensures gone_on { over.HaveGoneOn Q.Rx T.Tx O.Tx G.GossipRx workers.old workers.new }
+        ensures done { OnOk result (AtEach workers.new (over.IsDone Q.Rx)) };
 }
 
 impl<T: Tx<Reply>, O: Tx<Batch>, Q: Rx<Request>, G: GossipRx<Batch, From = O>> TurnsAll<T, O, Q, G>
@@ -87,24 +68,15 @@ pub(crate) fn pass<
     P: TurnsOut<T, O, Q, G>,
 >(by: &P, workers: &mut [WorkerOver<Q, T, O, G>]) -> Result<bool, NoMemory>
     requires finite { IsFalse P.waits → IsTrue G.keeps.finite }
-    requires ready { AreReady Q.keeps.complete (λ its. Q.senders (Q.key its)) Q.received Q.about
-        O.key O.number G.key G.pairs G.senders G.about workers.old }
-    ensures gone_on { HaveGoneOn Q.key T.key T.number O.key O.number G.key
-        Q.keeps.complete Q.senders Q.received Q.about T.sent
-        G.keeps.complete G.senders G.got G.about workers.old workers.new }
-    ensures done { IfOk result (λ idle. IsTrue idle → (place : ℕ) (now : PlainWorker Q T O G)
-        → slice_get workers.new place ≡ Some now
-        → IsDone Q.keeps (box_of Q.received Q.answers Q.about) now) }
-    ensures rests { FindPlaces G.keeps Q.about T.sent (λ its. Q.senders (Q.key its)) workers.old
-        → OnOk result (HaveNoneLeft (λ its. Q.senders (Q.key its)) Q.received Q.about
-        (steadies O.key O.number O.sent G.key G.got workers.new)) }
-    ensures fell { FindPlaces G.keeps Q.about T.sent (λ its. Q.senders (Q.key its)) workers.old
-        → HaveNoneLeft (λ its. Q.senders (Q.key its)) Q.received Q.about
-        (steadies O.key O.number O.sent G.key G.got workers.old)
-        → IfOk result (λ idle. left_to_all (steadies O.key O.number O.sent G.key G.got workers.new)
-        + (if idle then 0 else 1)
-        ≤ left_to_all (steadies O.key O.number O.sent G.key G.got workers.old)) }
-    ensures never_full { NeverFull T O T.fulls O.fulls → IfOk result IsTrue }
+    requires ready { over.AreReady Q.Rx O.Tx G.GossipRx workers.old }
+    ensures gone_on { over.HaveGoneOn Q.Rx T.Tx O.Tx G.GossipRx workers.old workers.new }
+    ensures done { IfOk result (λ idle. IsTrue idle → AtEach workers.new (over.IsDone Q.Rx)) }
+    ensures rests { over.FindPlaces Q.Rx T.Tx G.GossipRx workers.old
+        → OnOk result (over.HaveNoneLeft Q.Rx O.Tx G.GossipRx workers.new) }
+    ensures fell { over.FindPlaces Q.Rx T.Tx G.GossipRx workers.old
+        → over.HaveNoneLeft Q.Rx O.Tx G.GossipRx workers.old
+        → over.LeavesLess O.Tx G.GossipRx result workers.old workers.new }
+    ensures never_full { over.NeverFull T.Tx O.Tx → IfOk result IsTrue }
 {
     let mut idle = true;
     for place in 0..workers.len() {
@@ -125,37 +97,20 @@ fn turn_at<
 >(by: &P, workers: &mut [WorkerOver<Q, T, O, G>], place: usize) -> Result<bool, NoMemory>
     requires finite { IsFalse P.waits → IsTrue G.keeps.finite }
     requires within { place < length workers.old }
-    requires ready { AreReady Q.keeps.complete (λ its. Q.senders (Q.key its)) Q.received Q.about
-        O.key O.number G.key G.pairs G.senders G.about workers.old }
-    ensures gone_on { HaveGoneOn Q.key T.key T.number O.key O.number G.key
-        Q.keeps.complete Q.senders Q.received Q.about T.sent
-        G.keeps.complete G.senders G.got G.about workers.old workers.new }
-    ensures others { (at : ℕ) → at ≢ place
-        → slice_get (steadies O.key O.number O.sent G.key G.got workers.new) at
-        ≡ slice_get (steadies O.key O.number O.sent G.key G.got workers.old) at }
-    ensures owes { (was now : Steady Q T O.Key G.Key)
-        → slice_get (steadies O.key O.number O.sent G.key G.got workers.old) place ≡ Some was
-        → slice_get (steadies O.key O.number O.sent G.key G.got workers.new) place ≡ Some now
-        → left_to (λ its. Q.senders (Q.key its)) Q.received Q.about was ≡ 0
-        → Owes was.told now.told (dirty was.state) (dirty now.state) }
-    ensures idle { IfOk result (λ idle. IsTrue idle → (now : PlainWorker Q T O G)
-        → slice_get workers.new place ≡ Some now
-        → IsDone Q.keeps (box_of Q.received Q.answers Q.about) now) }
-    ensures rests { FindPlaces G.keeps Q.about T.sent (λ its. Q.senders (Q.key its)) workers.old
-        → OnOk result ((now : Steady Q T O.Key G.Key)
-        → slice_get (steadies O.key O.number O.sent G.key G.got workers.new) place ≡ Some now
-        → left_to (λ its. Q.senders (Q.key its)) Q.received Q.about now ≡ 0) }
-    ensures hears { FreesPlaces G.keeps → OnOk result ((other : ℕ) → other ≢ place
-        → Hears other place (steadies O.key O.number O.sent G.key G.got workers.old)
-        (steadies O.key O.number O.sent G.key G.got workers.new)) }
-    ensures busy { FindPlaces G.keeps Q.about T.sent (λ its. Q.senders (Q.key its)) workers.old
-        → IfOk result (λ idle. idle ≡ false → (was now : Steady Q T O.Key G.Key)
-        → slice_get (steadies O.key O.number O.sent G.key G.got workers.old) place ≡ Some was
-        → slice_get (steadies O.key O.number O.sent G.key G.got workers.new) place ≡ Some now
-        → left_to (λ its. Q.senders (Q.key its)) Q.received Q.about was ≡ 0
-        → (dirty now.state + 1 ≤ dirty was.state)
-        ⊎ MatesMiss place (steadies O.key O.number O.sent G.key G.got workers.old)) }
-    ensures never_full { NeverFull T O T.fulls O.fulls → IfOk result IsTrue }
+    requires ready { over.AreReady Q.Rx O.Tx G.GossipRx workers.old }
+    ensures gone_on { over.HaveGoneOn Q.Rx T.Tx O.Tx G.GossipRx workers.old workers.new }
+    ensures others { OthersSame place
+        (turned.steadies O.Tx G.GossipRx workers.old) (turned.steadies O.Tx G.GossipRx workers.new) }
+    ensures owes { over.OwesAt Q.Rx O.Tx G.GossipRx place workers.old workers.new }
+    ensures idle { IfOk result
+        (λ idle. IsTrue idle → AtPlace workers.new place (over.IsDone Q.Rx)) }
+    ensures rests { over.FindPlaces Q.Rx T.Tx G.GossipRx workers.old
+        → OnOk result (over.HasNoneLeftAt Q.Rx O.Tx G.GossipRx place workers.new) }
+    ensures hears { FreesPlaces G.keeps
+        → OnOk result (over.HearsEach O.Tx G.GossipRx place workers.old workers.new) }
+    ensures busy { over.FindPlaces Q.Rx T.Tx G.GossipRx workers.old
+        → IfOk result (λ idle. idle ≡ false → over.IsBusyAt Q.Rx O.Tx G.GossipRx place workers.old workers.new) }
+    ensures never_full { over.NeverFull T.Tx O.Tx → IfOk result IsTrue }
 {
     show_to_all(workers, place);
     let worker = &mut workers[place];
@@ -170,17 +125,10 @@ fn show_to_all<T: Tx<Reply>, O: Tx<Batch>, Q: Rx<Request>, G: GossipRx<Batch, Fr
     place: usize,
 )
     requires within { place < length workers.old }
-    requires ready { AreReady Q.keeps.complete (λ its. Q.senders (Q.key its)) Q.received Q.about
-        O.key O.number G.key G.pairs G.senders G.about workers.old }
-    ensures gone_on { HaveGoneOn Q.key T.key T.number O.key O.number G.key
-        Q.keeps.complete Q.senders Q.received Q.about T.sent
-        G.keeps.complete G.senders G.got G.about workers.old workers.new }
-    ensures steady { steadies O.key O.number O.sent G.key G.got workers.new
-        ≡ steadies O.key O.number O.sent G.key G.got workers.old }
-    ensures knows { (other : ℕ) (now : PlainWorker Q T O G) (mate : Steady Q T O.Key G.Key)
-        → other ≢ place → slice_get workers.new place ≡ Some now
-        → slice_get (steadies O.key O.number O.sent G.key G.got workers.new) other ≡ Some mate
-        → Knows O.clear O.unseen O.sent G.keeps G.about G.due place other now mate }
+    requires ready { over.AreReady Q.Rx O.Tx G.GossipRx workers.old }
+    ensures gone_on { over.HaveGoneOn Q.Rx T.Tx O.Tx G.GossipRx workers.old workers.new }
+    ensures steady { over.StaySteady O.Tx G.GossipRx workers.old workers.new }
+    ensures knows { over.KnowsEach O.Tx G.GossipRx place workers.new }
 {
     for other in 0..workers.len() {
         if other != place {

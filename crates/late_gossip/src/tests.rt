@@ -1,5 +1,5 @@
 //! A box that hands out late, over rings.
-ghost use Rattle.std.specs.Prelude.{◌≡◌, IfOk};
+ghost use Rattle.std.specs.Prelude.{◌≡◌, IfOk, IsTrue};
 ghost use Rattle.mail_contract.specs.Standing.{AllStand, IsSettled};
 
 use super::*;
@@ -24,32 +24,25 @@ type LateNotes = Late<Note, RingRx<Note>>;
 /// What two takes hand out.
 type Two = [Option<(u16, Note)>; 2];
 
-fn two_taken(late: &mut LateNotes) -> Result<Two, NoMemory>
-    ensures key { ⟦<LateNotes as GossipRx<Note>>⟧.key late.new
-        ≡ ⟦<LateNotes as GossipRx<Note>>⟧.key late.old }
-    ensures standing { AllStand (⟦<LateNotes as GossipRx<Note>>⟧.about late.old)
-        (⟦<LateNotes as GossipRx<Note>>⟧.about late.new) }
+fn two_taken<G: GossipRx<Note>>(mailbox: &mut G) -> Result<Two, NoMemory>
+    ensures key { G.key mailbox.new ≡ G.key mailbox.old }
+    ensures standing { AllStand (G.about mailbox.old) (G.about mailbox.new) }
 {
-    Ok([late.take()?, late.take()?])
+    Ok([mailbox.take()?, mailbox.take()?])
 }
 
-/// And so once the sender, that was apart, is held beside the box.
-fn two_taken_beside(late: &mut LateNotes, tx: &mut RingTx<Note>) -> Result<Two, NoMemory>
-    requires { ⟦<LateNotes as GossipRx<Note>>⟧.pairs
-        (⟦<LateNotes as GossipRx<Note>>⟧.key late.old)
-        (⟦<RingTx<Note> as Tx<Note>>⟧.key tx.old) (⟦<RingTx<Note> as Tx<Note>>⟧.number tx.old) }
-    ensures key { ⟦<LateNotes as GossipRx<Note>>⟧.key late.new
-        ≡ ⟦<LateNotes as GossipRx<Note>>⟧.key late.old }
-    ensures tx_key { ⟦<RingTx<Note> as Tx<Note>>⟧.key tx.new
-        ≡ ⟦<RingTx<Note> as Tx<Note>>⟧.key tx.old }
-    ensures tx_number { ⟦<RingTx<Note> as Tx<Note>>⟧.number tx.new
-        ≡ ⟦<RingTx<Note> as Tx<Note>>⟧.number tx.old }
-    ensures shown { IsSettled (⟦<LateNotes as GossipRx<Note>>⟧.about late.new
-        (⟦<RingTx<Note> as Tx<Note>>⟧.number tx.new)).standing → ⊥ }
+/// And so once the sender, that was apart, is held beside a box that shows its senders.
+fn two_taken_beside<G: GossipRx<Note>>(mailbox: &mut G, tx: &mut G::From) -> Result<Two, NoMemory>
+    requires shows { IsTrue G.keeps.shows }
+    requires pair { G.pairs (G.key mailbox.old) (G.From.key tx.old) (G.From.number tx.old) }
+    ensures key { G.key mailbox.new ≡ G.key mailbox.old }
+    ensures tx_key { G.From.key tx.new ≡ G.From.key tx.old }
+    ensures tx_number { G.From.number tx.new ≡ G.From.number tx.old }
+    ensures shown { IsSettled (G.about mailbox.new (G.From.number tx.new)).standing → ⊥ }
 {
-    late.apart();
-    late.beside(tx);
-    two_taken(late)
+    mailbox.apart();
+    mailbox.beside(tx);
+    two_taken(mailbox)
 }
 
 /// A box over one ring, and its sender.
@@ -67,11 +60,9 @@ fn new_pair(alloc: Global) -> Result<(RingTx<Note>, LateNotes), Fail>
 }
 
 /// Whether three messages were sent.
-fn three_sent(tx: &mut RingTx<Note>) -> bool
-    ensures key { ⟦<RingTx<Note> as Tx<Note>>⟧.key tx.new
-        ≡ ⟦<RingTx<Note> as Tx<Note>>⟧.key tx.old }
-    ensures number { ⟦<RingTx<Note> as Tx<Note>>⟧.number tx.new
-        ≡ ⟦<RingTx<Note> as Tx<Note>>⟧.number tx.old }
+fn three_sent<T: Tx<Note>>(tx: &mut T) -> bool
+    ensures key { T.key tx.new ≡ T.key tx.old }
+    ensures number { T.number tx.new ≡ T.number tx.old }
 {
     tx.send(Note(1)).is_ok() && tx.send(Note(2)).is_ok() && tx.send(Note(3)).is_ok()
 }

@@ -8,6 +8,10 @@ use Rattle.lattice_laws.specs.Maybe.{joined_by}
 abbrev pub plain_entries : {K L P : Type 0} → (L → P) → List (K × L) → List (K × P)
 plain_entries plain entries = map (λ entry. (entry.0, plain entry.1)) entries
 
+-- two lists have the same entries
+abbrev pub AreSame : {K L P : Type 0} → (L → P) → List (K × L) → List (K × L) → Type 0
+AreSame plain entries others = plain_entries plain entries ≡ plain_entries plain others
+
 -- an entry that there can be
 abbrev pub IsEntry : {K P : Type 0} → (K → Type 0) → (P → Type 0) → K × P → Type 0
 IsEntry is_key is_value entry = is_key entry.0 × is_value entry.1

@@ -5,7 +5,7 @@
 ghost use Rattle.std.specs.Prelude.{◌≡◌, ◌↔◌, ◌≤◌, ◌<◌, ◌+◌, ◌∷◌, ◌++◌, [], length, All, IsTrue, IfOk, IfErr, OnOk, OnErr, MatchOption};
 ghost use Rattle.std.specs.Option.{option_map};
 ghost use Rattle.std.specs.FinMap.{find, is_sorted};
-ghost use Rattle.lattice_laws.specs.Entries.{plain_entries, IsEntry, IsPushed, AddsNothing, raised, joined_maps};
+ghost use Rattle.lattice_laws.specs.Entries.{plain_entries, AreSame, IsEntry, IsPushed, AddsNothing, raised, joined_maps};
 ghost use Rattle.lattice_laws.specs.Places.{IsPlaceOf, IsGapFor};
 ghost use Rattle.lattice_laws.specs.Merging.{first_side, IsJoinStep, NeverAtMost, IsPassed};
 
@@ -35,8 +35,7 @@ pub fn raise_entry<K: MapKey, L: AllFit>(
     requires { IsTrue (is_sorted K.cmp (plain_entries L.plain entries.old.items)) }
     ensures ok { OnOk result (plain_entries L.plain entries.new.items
         ≡ raised K.cmp L.joined key (L.plain value) (plain_entries L.plain entries.old.items)) }
-    ensures err { OnErr result
-        (plain_entries L.plain entries.new.items ≡ plain_entries L.plain entries.old.items) }
+    ensures err { OnErr result (AreSame L.plain entries.new.items entries.old.items) }
     ensures ascending { IsTrue (is_sorted K.cmp (plain_entries L.plain entries.new.items)) }
 {
     match place_of(entries, &key) {
@@ -57,8 +56,7 @@ pub fn push_entry<K: MapKey, L: AllFit>(
         (plain_entries L.plain entries.old.items)
         (key, L.plain value)
         (plain_entries L.plain entries.new.items)) }
-    ensures err { OnErr result
-        (plain_entries L.plain entries.new.items ≡ plain_entries L.plain entries.old.items) }
+    ensures err { OnErr result (AreSame L.plain entries.new.items entries.old.items) }
     ensures ascending { IsTrue (is_sorted K.cmp (plain_entries L.plain entries.new.items)) }
 {
     if !comes_last(entries, &key) {
@@ -98,8 +96,7 @@ pub fn copy_entries<K: MapKey, L: AllFit>(
     alloc: Global,
     entries: &[(K, L)],
 ) -> Result<Vec<(K, L)>, NoMemory>
-    ensures { IfOk result
-        (λ copies. plain_entries L.plain copies.items ≡ plain_entries L.plain entries.now) }
+    ensures { IfOk result (λ copies. AreSame L.plain copies.items entries.now) }
 {
     let mut copies = Vec::with_capacity(alloc, entries.len())?;
     for entry in entries {

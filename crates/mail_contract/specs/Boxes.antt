@@ -1,10 +1,10 @@
 -- What a call does to a box, each in one word.
-use Rattle.std.specs.Prelude.{◌≡◌, ◌⊎◌, ℕ, ◌+◌, ◌-◌, ◌*◌, ◌≤◌, length, Bool, IsTrue, IsOk, List, Option, Result}
+use Rattle.std.specs.Prelude.{◌≡◌, ◌⊎◌, ℕ, ◌+◌, ◌-◌, ◌≤◌, length, Bool, IsTrue, IsOk, List, Option, Result}
 use Rattle.lattice_laws.specs.declared.lattice.NoMemory.{NoMemory}
-use Rattle.mail_contract.specs.Got.{HandedOut, AreIn, IsOfSent, AreAllOfSent as AreAllGot, IsOfShown as IsGotOfShown, StayDue, AreDueHandedOut, missing}
+use Rattle.mail_contract.specs.Got.{HandedOut, HandsOutShown, AreIn, StayOfSent, AreAllOfSent as AreAllGot, StayDue, AreDueHandedOut, missing}
 use Rattle.mail_contract.specs.Parts.{Parts}
-use Rattle.mail_contract.specs.Standing.{About, AllStand, AreMet, Learned, OthersStay, Settled, StillAll, left_of_all}
-use Rattle.mail_contract.specs.Takes.{Answers, OnSome, OnNone, Took, Counted, LeftFalls, IsFront, IsFrontOfSent, AreAllOfSent, IsOfShown, IsInTurn, IsNothingLeft, from_sender, last_sender}
+use Rattle.mail_contract.specs.Standing.{About, AllStand, AreMet, Learned, NoMoreLeft, OthersStay, Settled, StillAll, most_of_left}
+use Rattle.mail_contract.specs.Takes.{Answers, OnSome, OnNone, Took, Counted, LeftFalls, IsFront, FrontsStay, AreAllOfSent, TakesShown, TakesInTurn, IsNothingLeft, from_sender}
 
 -- what contracts see of a box, beside its key
 pub record Box (M : Type 0) : Type 0 where
@@ -18,12 +18,12 @@ pub record Takes {M E : Type 0} (keeps : Parts) (senders : ℕ) (answer : Result
   pub received : Took answer before.received now.received
   pub answers : Counted answer before.answers now.answers
   pub standing : AllStand before.about now.about
-  pub told : (sender : ℕ) → IsFrontOfSent keeps.complete before.received before.about sender → IsFrontOfSent keeps.complete now.received now.about sender
+  pub told : FrontsStay keeps.complete (λ (box : Box M). box.received) (λ (box : Box M). box.about) before now
   pub none : OnNone answer (AreAllOfSent keeps.complete now.received now.about)
-  pub bounded : IsTrue keeps.bounded → OnSome answer (λ sender message. IsOfShown now.received now.about sender)
+  pub bounded : IsTrue keeps.bounded → TakesShown answer now.received now.about
   pub left : IsTrue keeps.finite → LeftFalls answer before.about now.about
   pub exact : IsTrue keeps.exact → OnNone answer (IsNothingLeft now.about)
-  pub turns : IsTrue keeps.turns → OnSome answer (λ sender message. IsInTurn senders (last_sender before.received) now.about sender)
+  pub turns : IsTrue keeps.turns → TakesInTurn answer senders before.received now.about
   pub sure : IsTrue keeps.sure → IsOk answer
 
 -- a box was asked once, or not at all
@@ -44,11 +44,11 @@ pub record HandsOut {M E : Type 0} (keeps : Parts) (senders : ℕ) (answer : Res
   pub got : HandedOut answer before.got now.got
   pub answers : Counted answer before.answers now.answers
   pub standing : AllStand before.about now.about
-  pub told : (sender : ℕ) → IsOfSent keeps.complete before.got before.about sender → IsOfSent keeps.complete now.got now.about sender
+  pub told : StayOfSent keeps.complete (λ (box : WeakBox M). box.got) (λ (box : WeakBox M). box.about) before now
   pub none : OnNone answer (AreAllGot keeps.complete now.got now.about)
-  pub bounded : IsTrue keeps.bounded → OnSome answer (λ sender message. IsGotOfShown now.got now.about sender)
+  pub bounded : IsTrue keeps.bounded → HandsOutShown answer now.got now.about
   pub at_most_left : IsTrue keeps.bounded → IsTrue keeps.finite → LeftFalls answer before.about now.about
-  pub left : IsTrue keeps.finite → (sender : ℕ) → IsTrue (before.about sender).met → (now.about sender).left ≤ (before.about sender).left
+  pub left : IsTrue keeps.finite → NoMoreLeft before.about now.about
   pub most : IsTrue keeps.finite → AreMet senders before.about → now.most ≤ before.most
   pub falls : IsTrue keeps.finite → AreMet senders before.about → OnSome answer (λ sender message. now.most + 1 ≤ before.most)
   pub exact : IsTrue keeps.exact → OnNone answer (IsNothingLeft now.about)
@@ -94,7 +94,7 @@ pub record SettlesWeak {M : Type 0} (keeps : Parts) (senders sender : ℕ) (sent
   pub met : IsTrue (now.about sender).met
   pub told : AreIn (before.got sender) sent
   pub left : IsTrue keeps.finite → (now.about sender).left ≤ missing (before.got sender) sent
-  pub most : IsTrue keeps.finite → now.most ≤ 2 * (left_of_all senders now.about + 8)
+  pub most : IsTrue keeps.finite → now.most ≤ most_of_left senders now.about
   pub still_due : StillAll before.due now.due
 
 -- a sender is held beside the weak box
@@ -102,7 +102,7 @@ pub record ShowsWeak {M : Type 0} (keeps : Parts) (senders sender : ℕ) (sent :
   pub got : now.got ≡ before.got
   pub answers : now.answers ≡ before.answers
   pub learned : Learned keeps sender sent before.about now.about
-  pub most : IsTrue keeps.finite → now.most ≤ 2 * (left_of_all senders now.about + 8)
+  pub most : IsTrue keeps.finite → now.most ≤ most_of_left senders now.about
   pub due : IsTrue (now.due sender)
   pub still_due : StillAll before.due now.due
   pub told : IsTrue keeps.complete → AreIn (before.got sender) sent

@@ -2,7 +2,7 @@
 use Rattle.std.specs.Prelude.{◌≡◌, ◌⊎◌, ℕ, ◌+◌, ◌<◌, ◌≤◌, Bool, IsTrue, List, length, slice_get, sum_by, Option, Some, None, Result, Ok, Err}
 use Rattle.std.specs.List.{range_with_len}
 use Rattle.mail_contract.specs.Standing.{About, Standing, OnShown, OfSent}
-use Rattle.mail_contract.specs.Takes.{from_sender}
+use Rattle.mail_contract.specs.Takes.{OnSome, from_sender}
 
 module _ {M : Type 0} where
   -- what was handed out where messages come in order
@@ -60,3 +60,11 @@ module _ {M : Type 0} where
   -- of those that are shown and due all was handed out that they had sent when they were last beside the box
   abbrev pub AreDueHandedOut : (ℕ → ℕ → Option M) → (ℕ → About M) → (ℕ → Bool) → Type 0
   AreDueHandedOut got about due = (sender : ℕ) → IsTrue (due sender) → OnShown (about sender).standing (AreAll (got sender))
+
+-- what was handed out of each sender stays of what it sent, so far as the box tells that
+abbrev pub StayOfSent : {G M : Type 0} → Bool → (G → ℕ → ℕ → Option M) → (G → ℕ → About M) → G → G → Type 0
+StayOfSent complete got about before now = (sender : ℕ) → IsOfSent complete (got before) (about before) sender → IsOfSent complete (got now) (about now) sender
+
+-- of a shown sender no message is handed out but those that it had sent when it was last beside the box
+abbrev pub HandsOutShown : {M E : Type 0} → Result (Option (ℕ × M)) E → (ℕ → ℕ → Option M) → (ℕ → About M) → Type 0
+HandsOutShown answer got about = OnSome answer (λ sender message. IsOfShown got about sender)

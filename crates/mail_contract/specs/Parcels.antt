@@ -1,7 +1,7 @@
 -- What plain mail's parcels do to a box, and to several senders.
 use Rattle.std.specs.Prelude.{◌≡◌, ℕ, List, [], drop, length, map, slice_index_or, slice_set, Result}
 use Rattle.mail_contract.specs.Carried.{Carried}
-use Rattle.mail_contract.specs.Plain.{Follows, IsCause, IsLeft, OnDelivered, with_parcel}
+use Rattle.mail_contract.specs.Plain.{Becomes, Follows, IsCause, LeavesParcel, with_parcel}
 use Rattle.mail_contract.specs.Standing.{About}
 use Rattle.mail_contract.specs.Takes.{Answers}
 use Rattle.mail_contract.specs.declared.parcels.ParcelFault.{ParcelFault}
@@ -9,8 +9,8 @@ use Rattle.mail_contract.specs.declared.parcels.ParcelFault.{ParcelFault}
 -- A parcel is delivered to a box, or comes back, and nothing has changed. What was handed out stays in any case.
 pub record Delivers {Q M R U : Type 0} (key : Q → List (List M)) (handed_out : Q → R) (answers : Q → Answers) (about : Q → ℕ → About M) (parcel : Carried M) (result : Result U (ParcelFault M)) (before now : Q) : Type 0 where
   pub cause : IsCause (Follows (key before) (about before) parcel) parcel result
-  pub delivered : OnDelivered result (key now ≡ with_parcel parcel (key before)) (key now ≡ key before)
-  pub left : OnDelivered result (IsLeft parcel (about before) (about now)) (about now ≡ about before)
+  pub delivered : Becomes result key (with_parcel parcel) before now
+  pub left : LeavesParcel result parcel about before now
   pub handed_out_stays : handed_out now ≡ handed_out before
   pub answers_stay : answers now ≡ answers before
 

@@ -47,6 +47,10 @@ module _ {M U : Type 0} where
   OnDelivered (Ok done) holds otherwise = holds
   OnDelivered (Err fault) holds otherwise = otherwise
 
+-- what is seen changes so where a parcel is taken in, and stays where it comes back
+abbrev pub Becomes : {A B M U : Type 0} → Result U (ParcelFault M) → (A → B) → (B → B) → A → A → Type 0
+Becomes result seen change before now = OnDelivered result (seen now ≡ change (seen before)) (seen now ≡ seen before)
+
 -- what was delivered of a sender, from 1
 abbrev pub delivered : {M : Type 0} → List (List M) → ℕ → List M
 delivered lanes sender = slice_index_or ([] ∷ lanes) sender []
@@ -66,6 +70,10 @@ with_parcel parcel lanes = slice_set lanes (parcel.sender - 1) (delivered lanes 
 pub record IsLeft {M : Type 0} (parcel : Carried M) (before now : ℕ → About M) : Type 0 where
   pub here : now parcel.sender ≡ record (before parcel.sender) { left = (before parcel.sender).left + length parcel.messages }
   pub others : OthersStay parcel.sender before now
+
+-- by the answer
+abbrev pub LeavesParcel : {Q M U : Type 0} → Result U (ParcelFault M) → Carried M → (Q → ℕ → About M) → Q → Q → Type 0
+LeavesParcel result parcel about before now = OnDelivered result (IsLeft parcel (about before) (about now)) (about now ≡ about before)
 
 -- a sender that has sent nothing
 abbrev pub nothing_sent : {M : Type 0} → About M

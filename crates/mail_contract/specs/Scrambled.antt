@@ -2,7 +2,9 @@
 use Rattle.std.specs.Prelude.{◌≡◌, ◌⊎◌, ℕ, suc, ◌+◌, ◌*◌, ◌/◌, ◌%◌, ◌^◌, ◌<◌, ◌≤◌, ◌==◌, if◌then◌else◌, not, Bool, true, false, List, [], ◌∷◌, ◌++◌, length, slice_get, slice_set, sum_by, Option, Some, None, IfSome, Result, Ok, Err, OnOk}
 use Rattle.std.specs.List.{remove}
 use Rattle.lattice_laws.specs.Counts.{Rose}
+use Rattle.mail_contract.specs.Standing.{About, AreMet, left_of_all}
 use Rattle.mail_contract.specs.Takes.{Answers, from_sender}
+use Rattle.mail_contract.specs.declared.rx.Rx as boxes
 use Rattle.mail_contract.specs.declared.scramble.Held.{Held}
 
 -- the generator, and what a state of it draws
@@ -42,6 +44,10 @@ module _ {M : Type 0} where
   abbrev pub times_of_all : List (Held M) → ℕ
   times_of_all held = sum_by times held
 
+  -- how often messages may be handed out: twice each that is left, and those that are held
+  abbrev pub times_left : ℕ → (ℕ → About M) → List (Held M) → ℕ
+  times_left senders about held = 2 * left_of_all senders about + times_of_all held
+
   -- each held message is one that the box handed out, and they are held in the order in which it did
   pub record AreHeld (senders : ℕ) (received : List (ℕ × M)) (held : List (Held M)) : Type 0 where
     pub from_one : (i : ℕ) → IfSome (slice_get held i) (λ item. 1 ≤ item.sender)
@@ -59,6 +65,10 @@ module _ {M : Type 0} where
     pub arrived : List (ℕ × M)
     pub received : now ≡ before ++ arrived
     pub filled_are : filled ≡ held ++ arriving (length before) arrived
+
+  -- a copy of a held message, none of which was handed out before, is one that the draw asks for; the message is marked
+  abbrev pub IsMarked : ℕ → M → Held M → Held M → Type 0
+  IsMarked draw copy item marked = (copy ≡ item.message) × IsCopied draw × (item.again ≡ false) × (marked ≡ record item { again = true })
 
   -- the drawn one of the held messages is handed out; it stays where it was not handed out before and the draw asks for a copy
   pub record IsDealt (filled : List (Held M)) (draw sender : ℕ) (message : M) (now : List (Held M)) : Type 0 where
@@ -85,3 +95,10 @@ module _ {M : Type 0} where
     pub fills : Fills received received_now held filled
     pub full : OnOk result (IsFull filled before now)
     pub dealt : DealtBy result filled state held_now state_now
+
+module _ {Q M S QK SK : Type 0} (its : boxes.Ghosts Q M S QK SK) where
+  -- where every sender is met, messages may be handed out as often as before
+  abbrev pub TimesStay : Q → Q → List (Held M) → List (Held M) → Type 0
+  TimesStay before now held held_now =
+      let senders = its.senders (its.key before) in
+      AreMet senders (its.about before) → times_left senders (its.about now) held_now ≡ times_left senders (its.about before) held

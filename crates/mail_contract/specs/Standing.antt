@@ -1,5 +1,5 @@
 -- What a box knows of a sender.
-use Rattle.std.specs.Prelude.{◌≡◌, ◌≢◌, ℕ, ◌≤◌, Bool, IsFalse, IsTrue, List, sum_by, if◌then◌else◌, Option, Some, None, IfSome, ⊤}
+use Rattle.std.specs.Prelude.{◌≡◌, ◌≢◌, ℕ, ◌+◌, ◌*◌, ◌≤◌, Bool, IsFalse, IsTrue, List, sum_by, if◌then◌else◌, Option, Some, None, IfSome, ⊤}
 use Rattle.std.specs.List.{range_with_len}
 use Rattle.mail_contract.specs.Parts.{Parts}
 
@@ -77,3 +77,11 @@ module _ {M : Type 0} where
   -- how many messages of so many senders are left
   abbrev pub left_of_all : ℕ → (ℕ → About M) → ℕ
   left_of_all senders about = sum_by (λ sender. (about sender).left) (range_with_len 1 senders)
+
+  -- how often messages are handed out at most where so many are left: each of them twice, and eight that are held
+  abbrev pub most_of_left : ℕ → (ℕ → About M) → ℕ
+  most_of_left senders about = 2 * (left_of_all senders about + 8)
+
+  -- of no sender more messages are left than before, where it was known how many are
+  abbrev pub NoMoreLeft : (ℕ → About M) → (ℕ → About M) → Type 0
+  NoMoreLeft before now = (sender : ℕ) → IsTrue (before sender).met → (now sender).left ≤ (before sender).left

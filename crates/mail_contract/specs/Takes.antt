@@ -64,6 +64,11 @@ module _ {M : Type 0} where
   abbrev pub IsOfShown : List (ℕ × M) → (ℕ → About M) → ℕ → Type 0
   IsOfShown received about sender = OnShown (about sender).standing (λ sent. IsFront (from_sender sender received) sent)
 
+-- what was received of each sender stays the front of what it sent, so far as the box tells that
+abbrev pub FrontsStay : {Q M : Type 0} → Bool → (Q → List (ℕ × M)) → (Q → ℕ → About M) → Q → Q → Type 0
+FrontsStay complete received about before now =
+    (sender : ℕ) → IsFrontOfSent complete (received before) (about before) sender → IsFrontOfSent complete (received now) (about now) sender
+
 -- after the turn of the last, 0 where there was none, the turn of one comes before that of another; turns go up, and begin again
 abbrev pub ComesBefore : ℕ → ℕ → ℕ → Type 0
 ComesBefore last one other = ((last < one) × (one < other)) ⊎ ((other ≤ last) × ((last < one) ⊎ (one < other)))
@@ -75,3 +80,12 @@ last_sender messages = slice_index_or (0 ∷ map (λ message. message.0) message
 -- of each other sender whose turn came before, nothing is left
 abbrev pub IsInTurn : {M : Type 0} → ℕ → ℕ → (ℕ → About M) → ℕ → Type 0
 IsInTurn senders last about sender = (other : ℕ) → 1 ≤ other → other ≤ senders → ComesBefore last other sender → (about other).left ≡ 0
+
+module _ {M E : Type 0} where
+  -- of a shown sender no message is taken but those that it had sent when it was last beside the box
+  abbrev pub TakesShown : Result (Option (ℕ × M)) E → List (ℕ × M) → (ℕ → About M) → Type 0
+  TakesShown answer received about = OnSome answer (λ sender message. IsOfShown received about sender)
+
+  -- a message is taken only in the turn of its sender, after what was received before
+  abbrev pub TakesInTurn : Result (Option (ℕ × M)) E → ℕ → List (ℕ × M) → (ℕ → About M) → Type 0
+  TakesInTurn answer senders received about = OnSome answer (λ sender message. IsInTurn senders (last_sender received) about sender)

@@ -1,7 +1,8 @@
 //! The calls of a box, each with its contract in one word.
 ghost use Rattle.std.specs.Prelude.{◌≡◌};
-ghost use Rattle.mail_contract.specs.Boxes.{HandsOut, Settles, SettlesWeak, Takes, box_of, weak_box_of};
-ghost use Rattle.mail_contract.specs.Parcels.{Delivers};
+ghost use Rattle.mail_contract.specs.OverBoxes as boxes;
+ghost use Rattle.mail_contract.specs.OverWeakBoxes as weak;
+ghost use Rattle.mail_contract.specs.OverPlain as plain;
 ghost use Rattle.mail_contract.specs.Standing.{IsSettled};
 
 use crate::{GossipRx, Message, Parcel, ParcelFault, PlainRx, Rx};
@@ -10,9 +11,7 @@ use lattice_laws::NoMemory;
 /// Takes a message out of a box, with its sender's number.
 pub fn take_one<M, Q: Rx<M>>(requests: &mut Q) -> Result<Option<(u16, M)>, NoMemory>
     ensures key { Q.key requests.new ≡ Q.key requests.old }
-    ensures takes { Takes Q.keeps (Q.senders (Q.key requests.old)) result
-        (box_of Q.received Q.answers Q.about requests.old)
-        (box_of Q.received Q.answers Q.about requests.new) }
+    ensures takes { boxes.Takes Q.Rx result requests.old requests.new }
 {
     requests.take()
 }
@@ -20,9 +19,7 @@ pub fn take_one<M, Q: Rx<M>>(requests: &mut Q) -> Result<Option<(u16, M)>, NoMem
 /// Takes a message out of a weak box, with its sender's number.
 pub fn take_weak<M, G: GossipRx<M>>(gossip: &mut G) -> Result<Option<(u16, M)>, NoMemory>
     ensures key { G.key gossip.new ≡ G.key gossip.old }
-    ensures hands_out { HandsOut G.keeps (G.senders (G.key gossip.old)) result
-        (weak_box_of G.got G.answers G.about G.due G.most gossip.old)
-        (weak_box_of G.got G.answers G.about G.due G.most gossip.new) }
+    ensures hands_out { weak.HandsOut G.GossipRx result gossip.old gossip.new }
 {
     gossip.take()
 }
@@ -32,9 +29,7 @@ pub fn settle_one<M, Q: Rx<M>>(requests: &mut Q, ended: Q::From)
     requires pair { Q.pairs (Q.key requests.old) (Q.From.key ended) (Q.From.number ended) }
     requires once { IsSettled (Q.about requests.old (Q.From.number ended)).standing → ⊥ }
     ensures key { Q.key requests.new ≡ Q.key requests.old }
-    ensures settles { Settles Q.keeps (Q.From.number ended) (Q.From.sent ended)
-        (box_of Q.received Q.answers Q.about requests.old)
-        (box_of Q.received Q.answers Q.about requests.new) }
+    ensures settles { boxes.Settles Q.Rx Q.From.Tx ended requests.old requests.new }
 {
     requests.settle(ended)
 }
@@ -44,10 +39,7 @@ pub fn settle_weak<M, G: GossipRx<M>>(gossip: &mut G, ended: G::From)
     requires pair { G.pairs (G.key gossip.old) (G.From.key ended) (G.From.number ended) }
     requires once { IsSettled (G.about gossip.old (G.From.number ended)).standing → ⊥ }
     ensures key { G.key gossip.new ≡ G.key gossip.old }
-    ensures settles { SettlesWeak G.keeps (G.senders (G.key gossip.old))
-        (G.From.number ended) (G.From.sent ended)
-        (weak_box_of G.got G.answers G.about G.due G.most gossip.old)
-        (weak_box_of G.got G.answers G.about G.due G.most gossip.new) }
+    ensures settles { weak.Settles G.GossipRx G.From.Tx ended gossip.old gossip.new }
 {
     gossip.settle(ended)
 }
@@ -57,8 +49,7 @@ pub fn deliver<M: Message>(
     messages: &mut PlainRx<M>,
     parcel: Parcel<M>,
 ) -> Result<(), ParcelFault<M>>
-    ensures delivers { Delivers ⟦<PlainRx<M> as Rx<M>>⟧.key ⟦<PlainRx<M> as Rx<M>>⟧.received
-        ⟦<PlainRx<M> as Rx<M>>⟧.answers ⟦<PlainRx<M> as Rx<M>>⟧.about
+    ensures delivers { plain.Delivers ⟦<PlainRx<M> as Rx<M>>⟧
         parcel result messages.old messages.new }
 {
     messages.deliver(parcel)

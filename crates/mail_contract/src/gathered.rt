@@ -1,7 +1,10 @@
 //! A box of several senders, made of a lane for each.
-ghost use Rattle.std.specs.Prelude.{◌≡◌, ℕ, ◌+◌, ◌^◌, ◌<◌, ◌≤◌, IsTrue, [], ◌∷◌, length, map, slice_index_or};
-ghost use Rattle.mail_contract.specs.Lanes.{AreCounted, Scanned, IsDry, IsGiven, about_of, at_place, lane_apart};
-ghost use Rattle.mail_contract.specs.Takes.{ComesBefore, OnSome, OnNone};
+ghost use Rattle.std.specs.Prelude.{◌≡◌, ℕ, ◌^◌, ◌<◌, ◌≤◌, [], ◌∷◌, length, map, slice_index_or};
+ghost use Rattle.mail_contract.specs.Fresh.{NeverAsked, NoneReceived};
+ghost use Rattle.mail_contract.specs.Lanes.{AreCounted, Scanned, about_of, at_place, lane_apart};
+ghost use Rattle.mail_contract.specs.OverLanes.{AreAllDry, AreDryBefore, AreDryFrom, Gives};
+ghost use Rattle.mail_contract.specs.Seen.{Stays};
+ghost use Rattle.mail_contract.specs.Takes.{OnSome, OnNone};
 
 use crate::{GossipRx, Lane, Rx, Tx};
 use lattice_laws::NoMemory;
@@ -31,9 +34,8 @@ impl<M, L: Lane<M>> Gathered<M, L> {
         requires unused { (place : ℕ)
             → (at_place (map L.lane lanes.items) place).taken ≡ [] }
         ensures key { ⟦<Gathered<M, L> as Rx<M>>⟧.key result ≡ map L.key lanes.items }
-        ensures received { ⟦<Gathered<M, L> as Rx<M>>⟧.received result ≡ [] }
-        ensures answers { ⟦<Gathered<M, L> as Rx<M>>⟧.answers result
-            ≡ record { nones = 0; somes = 0 } }
+        ensures received { NoneReceived ⟦<Gathered<M, L> as Rx<M>>⟧ result }
+        ensures answers { NeverAsked ⟦<Gathered<M, L> as Rx<M>>⟧ result }
         ensures about { ⟦<Gathered<M, L> as Rx<M>>⟧.about result
             ≡ about_of (map L.lane lanes.items) }
     {
@@ -54,16 +56,12 @@ fn scan<M, L: Lane<M>>(
     to: usize,
 ) -> Result<Option<(usize, M)>, NoMemory>
     requires { (from ≤ to) × (to ≤ length lanes.old.items) }
-    ensures keys { map L.key lanes.new.items ≡ map L.key lanes.old.items }
+    ensures keys { Stays (map L.key) lanes.old.items lanes.new.items }
     ensures lanes { Scanned result (map L.lane lanes.old.items) (map L.lane lanes.new.items) }
     ensures within { OnSome result (λ place _. (from ≤ place) × (place < to)) }
-    ensures given { OnSome result (λ place _. IsGiven L.keeps
-        (at_place (map L.lane lanes.old.items) place)
-        (at_place (map L.lane lanes.new.items) place)) }
-    ensures passed { OnSome result (λ place _. (other : ℕ) → from ≤ other → other < place
-        → IsDry L.keeps (at_place (map L.lane lanes.old.items) other)) }
-    ensures dry { OnNone result ((place : ℕ) → from ≤ place → place < to
-        → IsDry L.keeps (at_place (map L.lane lanes.old.items) place)) }
+    ensures given { Gives L.Lane result lanes.old.items lanes.new.items }
+    ensures passed { OnSome result (λ place _. AreDryFrom L.Lane lanes.old.items from place) }
+    ensures dry { OnNone result (AreDryFrom L.Lane lanes.old.items from to) }
 {
     for i in from..to {
         let lane = &mut lanes[i];
@@ -90,16 +88,11 @@ fn last_of(order: &[u16]) -> usize
 /// turns: it begins at a place, and goes round once.
 fn next<M, L: Lane<M>>(lanes: &mut Vec<L>, start: usize) -> Result<Option<(usize, M)>, NoMemory>
     requires { start ≤ length lanes.old.items }
-    ensures keys { map L.key lanes.new.items ≡ map L.key lanes.old.items }
+    ensures keys { Stays (map L.key) lanes.old.items lanes.new.items }
     ensures lanes { Scanned result (map L.lane lanes.old.items) (map L.lane lanes.new.items) }
-    ensures given { OnSome result (λ place _. IsGiven L.keeps
-        (at_place (map L.lane lanes.old.items) place)
-        (at_place (map L.lane lanes.new.items) place)) }
-    ensures passed { OnSome result (λ place _. (other : ℕ) → other < length lanes.old.items
-        → ComesBefore start (other + 1) (place + 1)
-        → IsDry L.keeps (at_place (map L.lane lanes.old.items) other)) }
-    ensures dry { OnNone result ((place : ℕ) → place < length lanes.old.items
-        → IsDry L.keeps (at_place (map L.lane lanes.old.items) place)) }
+    ensures given { Gives L.Lane result lanes.old.items lanes.new.items }
+    ensures passed { OnSome result (λ place _. AreDryBefore L.Lane lanes.old.items start place) }
+    ensures dry { OnNone result (AreAllDry L.Lane lanes.old.items) }
 {
     let end = lanes.len();
     if let Some(found) = scan(lanes, start, end)? {
@@ -110,7 +103,7 @@ fn next<M, L: Lane<M>>(lanes: &mut Vec<L>, start: usize) -> Result<Option<(usize
 
 /// Parts every lane.
 fn part_all<M, L: Lane<M>>(lanes: &mut Vec<L>)
-    ensures keys { map L.key lanes.new.items ≡ map L.key lanes.old.items }
+    ensures keys { Stays (map L.key) lanes.old.items lanes.new.items }
     ensures lanes { map L.lane lanes.new.items ≡ map lane_apart (map L.lane lanes.old.items) }
 {
     for i in 0..lanes.len() {

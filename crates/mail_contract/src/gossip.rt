@@ -1,9 +1,10 @@
 //! The weak end of a receiver.
-ghost use Rattle.std.specs.Prelude.{◌≡◌, ℕ, ◌+◌, ◌*◌, ◌≤◌, Bool, IsOk, IsTrue, List, Option, Result};
+ghost use Rattle.std.specs.Prelude.{◌≡◌, ℕ, ◌+◌, ◌≤◌, Bool, IsOk, IsTrue, List, Option, Result};
 ghost use Rattle.lattice_laws.specs.declared.lattice.NoMemory.{NoMemory};
-ghost use Rattle.mail_contract.specs.Got.{HandedOut, AreIn, IsOfSent, AreAllOfSent, IsOfShown, StayDue, AreDueHandedOut, missing};
+ghost use Rattle.mail_contract.specs.Beside.{FindsPlaceWeak, HasSent, IsLearned, IsTakenIn, LearnsUnseenWeak, LeavesWeak};
+ghost use Rattle.mail_contract.specs.Got.{HandedOut, HandsOutShown, StayOfSent, AreAllOfSent, StayDue, AreDueHandedOut};
 ghost use Rattle.mail_contract.specs.Parts.{Parts};
-ghost use Rattle.mail_contract.specs.Standing.{About, Learned, Settled, IsSettled, AllPart, AllStand, AreMet, OthersStay, StillAll, left_of_all};
+ghost use Rattle.mail_contract.specs.Standing.{About, IsSettled, AllPart, AllStand, AreMet, NoMoreLeft, OthersStay, StillAll, most_of_left};
 ghost use Rattle.mail_contract.specs.Takes.{Answers, OnSome, OnNone, Counted, IsNothingLeft, LeftFalls};
 
 use crate::Tx;
@@ -57,17 +58,14 @@ pub trait GossipRx<M>: Drop {
         ensures got { HandedOut result (got self.old) (got self.new) }
         ensures answers { Counted result (answers self.old) (answers self.new) }
         ensures standing { AllStand (about self.old) (about self.new) }
-        ensures told { (sender : ℕ)
-            → IsOfSent keeps.complete (got self.old) (about self.old) sender
-            → IsOfSent keeps.complete (got self.new) (about self.new) sender }
+        ensures told { StayOfSent keeps.complete got about self.old self.new }
         ensures none { OnNone result
             (AreAllOfSent keeps.complete (got self.new) (about self.new)) }
-        ensures bounded { IsTrue keeps.bounded → OnSome result (λ sender _.
-            IsOfShown (got self.new) (about self.new) sender) }
+        ensures bounded { IsTrue keeps.bounded
+            → HandsOutShown result (got self.new) (about self.new) }
         ensures at_most_left { IsTrue keeps.bounded → IsTrue keeps.finite
             → LeftFalls result (about self.old) (about self.new) }
-        ensures left { IsTrue keeps.finite → (sender : ℕ) → IsTrue (about self.old sender).met
-            → (about self.new sender).left ≤ (about self.old sender).left }
+        ensures left { IsTrue keeps.finite → NoMoreLeft (about self.old) (about self.new) }
         ensures most { IsTrue keeps.finite → AreMet (senders (key self.old)) (about self.old)
             → most self.new ≤ most self.old }
         ensures falls { IsTrue keeps.finite → AreMet (senders (key self.old)) (about self.old)
@@ -89,14 +87,13 @@ pub trait GossipRx<M>: Drop {
         ensures got { got self.new ≡ got self.old }
         ensures answers { answers self.new ≡ answers self.old }
         ensures others { OthersStay (Self.From.number ended) (about self.old) (about self.new) }
-        ensures settled { (about self.new (Self.From.number ended)).standing
-            ≡ Settled (Self.From.sent ended) }
+        ensures settled { IsTakenIn Self.From.Tx ended (about self.new) }
         ensures met { IsTrue (about self.new (Self.From.number ended)).met }
-        ensures told { AreIn (got self.old (Self.From.number ended)) (Self.From.sent ended) }
-        ensures left { IsTrue keeps.finite → (about self.new (Self.From.number ended)).left
-            ≤ missing (got self.old (Self.From.number ended)) (Self.From.sent ended) }
-        ensures most { IsTrue keeps.finite → most self.new
-            ≤ 2 * (left_of_all (senders (key self.old)) (about self.new) + 8) }
+        ensures told { HasSent Self.From.Tx ended (got self.old) }
+        ensures left { IsTrue keeps.finite
+            → LeavesWeak Self.From.Tx ended (got self.old) (about self.new) }
+        ensures most { IsTrue keeps.finite
+            → most self.new ≤ most_of_left (senders (key self.old)) (about self.new) }
         ensures still_due { StillAll (due self.old) (due self.new) };
 
     /// Holds a sender beside the box, so that each learns what the other has. Takes no memory.
@@ -105,23 +102,20 @@ pub trait GossipRx<M>: Drop {
         ensures key { key self.new ≡ key self.old }
         ensures got { got self.new ≡ got self.old }
         ensures answers { answers self.new ≡ answers self.old }
-        ensures learned { Learned keeps (Self.From.number tx.old) (Self.From.sent tx.old)
-            (about self.old) (about self.new) }
+        ensures learned { IsLearned Self.From.Tx keeps tx.old (about self.old) (about self.new) }
         ensures tx_key { Self.From.key tx.new ≡ Self.From.key tx.old }
         ensures tx_number { Self.From.number tx.new ≡ Self.From.number tx.old }
         ensures tx_sent { Self.From.sent tx.new ≡ Self.From.sent tx.old }
         ensures tx_fulls { Self.From.fulls tx.new ≡ Self.From.fulls tx.old }
-        ensures most { IsTrue keeps.finite → most self.new
-            ≤ 2 * (left_of_all (senders (key self.old)) (about self.new) + 8) }
+        ensures most { IsTrue keeps.finite
+            → most self.new ≤ most_of_left (senders (key self.old)) (about self.new) }
         ensures due { IsTrue (due self.new (Self.From.number tx.old)) }
         ensures still_due { StillAll (due self.old) (due self.new) }
-        ensures told { IsTrue keeps.complete
-            → AreIn (got self.old (Self.From.number tx.old)) (Self.From.sent tx.old) }
-        ensures roomy { IsTrue keeps.roomy → Self.From.unseen tx.new
-            ≤ missing (got self.old (Self.From.number tx.old)) (Self.From.sent tx.old) }
+        ensures told { IsTrue keeps.complete → HasSent Self.From.Tx tx.old (got self.old) }
+        ensures roomy { IsTrue keeps.roomy
+            → LearnsUnseenWeak Self.From.Tx (got self.old) tx.old tx.new }
         ensures freed { IsTrue keeps.freed
-            → missing (got self.old (Self.From.number tx.old)) (Self.From.sent tx.old) ≡ 0
-            → Self.From.clear tx.new };
+            → FindsPlaceWeak Self.From.Tx (got self.old) tx.old tx.new };
 
     /// Nobody is beside the box any longer: no sender is shown. Takes no memory.
     fn apart(&mut self)

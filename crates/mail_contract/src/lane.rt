@@ -1,5 +1,6 @@
 //! The box of one sender, of which boxes of several are made.
-ghost use Rattle.std.specs.Prelude.{◌≡◌, ℕ, ◌-◌, ◌≤◌, IsFalse, IsTrue, length, min};
+ghost use Rattle.std.specs.Prelude.{◌≡◌, ℕ, ◌≤◌, IsFalse, IsTrue};
+ghost use Rattle.mail_contract.specs.Beside.{FindsPlaceBy, LearnsUnseenBy};
 ghost use Rattle.mail_contract.specs.Lanes.{Lane as Taken, Drew, IsDry, IsGiven, OnDrawn, OnDry, lane_apart, with_sender};
 ghost use Rattle.mail_contract.specs.Parts.{Parts};
 ghost use Rattle.mail_contract.specs.Standing.{Shown, IsSettled};
@@ -59,11 +60,10 @@ pub trait Lane<M>: Drop {
         ensures met { IsTrue (lane self.new).met }
         ensures told { IsTrue keeps.complete
             → IsFront (lane self.old).taken (Self.From.sent tx.old) }
-        ensures roomy { IsTrue keeps.roomy → Self.From.unseen tx.new
-            ≡ min 64 (length (Self.From.sent tx.old) - length (lane self.old).taken) }
+        ensures roomy { IsTrue keeps.roomy
+            → LearnsUnseenBy Self.From.Tx (lane self.old).taken tx.old tx.new }
         ensures freed { IsTrue keeps.freed
-            → length (Self.From.sent tx.old) ≤ length (lane self.old).taken
-            → Self.From.clear tx.new };
+            → FindsPlaceBy Self.From.Tx (lane self.old).taken tx.old tx.new };
 
     /// Its sender is no longer beside it. Takes no memory.
     fn part(&mut self)

@@ -1,8 +1,10 @@
 //! Mail for one thread, which a driver carries by hand: parcels from each sender to its box.
 ghost use Rattle.std.specs.Prelude.{◌≡◌, ℕ, ◌+◌, ◌-◌, ◌≤◌, List, [], length, map, take, drop, replicate, IfOk, Err};
-ghost use Rattle.std.specs.List.{range_with_len};
+ghost use Rattle.mail_contract.specs.Fresh.{AllShow, AreNumbered, KnowsOfNone, NeverAsked, NoneReceived, NoneSent};
 ghost use Rattle.mail_contract.specs.Lanes.{nothing};
-ghost use Rattle.mail_contract.specs.Plain.{Follows, IsCause, IsLeft, OnDelivered, nothing_sent, with_parcel};
+ghost use Rattle.mail_contract.specs.OverPlain.{Follows, parcel_since};
+ghost use Rattle.mail_contract.specs.Plain.{Becomes, IsCause, LeavesParcel, with_parcel};
+ghost use Rattle.mail_contract.specs.Seen.{Stays};
 
 use crate::{Gathered, Lane, Message, Refused, Rx, Tx};
 use lattice_laws::NoMemory;
@@ -106,18 +108,11 @@ impl<M: Message> PlainTx<M> {
 
     /// Gives up what was sent since the last parcel, maybe nothing. Takes no memory.
     pub fn parcel(&mut self) -> Parcel<M>
-        ensures number { ⟦<PlainTx<M> as Tx<M>>⟧.number self.new
-            ≡ ⟦<PlainTx<M> as Tx<M>>⟧.number self.old }
-        ensures sent { ⟦<PlainTx<M> as Tx<M>>⟧.sent self.new
-            ≡ ⟦<PlainTx<M> as Tx<M>>⟧.sent self.old }
+        ensures number { Stays ⟦<PlainTx<M> as Tx<M>>⟧.number self.old self.new }
+        ensures sent { Stays ⟦<PlainTx<M> as Tx<M>>⟧.sent self.old self.new }
         ensures given { ⟦<PlainTx<M> as Tx<M>>⟧.key self.new
             ≡ ⟦<PlainTx<M> as Tx<M>>⟧.sent self.old }
-        ensures parcel { result ≡ record {
-          sender = ⟦<PlainTx<M> as Tx<M>>⟧.number self.old;
-          begin = length (⟦<PlainTx<M> as Tx<M>>⟧.key self.old);
-          messages = drop (length (⟦<PlainTx<M> as Tx<M>>⟧.key self.old))
-              (⟦<PlainTx<M> as Tx<M>>⟧.sent self.old);
-        } }
+        ensures parcel { result ≡ parcel_since ⟦<PlainTx<M> as Tx<M>>⟧ self.old }
     {
         let begin = self.given;
         let messages = std::mem::replace(&mut self.waiting, Vec::new(self.alloc));
@@ -143,20 +138,13 @@ pub enum ParcelFault<M> {
 impl<M: Message> Gathered<M, PlainLane<M>> {
     /// Takes a parcel in, whose messages are left to take then.
     pub fn deliver(&mut self, parcel: Parcel<M>) -> Result<(), ParcelFault<M>>
-        ensures cause { IsCause (Follows (⟦<PlainRx<M> as Rx<M>>⟧.key self.old)
-            (⟦<PlainRx<M> as Rx<M>>⟧.about self.old) parcel) parcel result }
-        ensures delivered { OnDelivered result
-            (⟦<PlainRx<M> as Rx<M>>⟧.key self.new
-            ≡ with_parcel parcel (⟦<PlainRx<M> as Rx<M>>⟧.key self.old))
-            (⟦<PlainRx<M> as Rx<M>>⟧.key self.new ≡ ⟦<PlainRx<M> as Rx<M>>⟧.key self.old) }
-        ensures left { OnDelivered result
-            (IsLeft parcel (⟦<PlainRx<M> as Rx<M>>⟧.about self.old)
-            (⟦<PlainRx<M> as Rx<M>>⟧.about self.new))
-            (⟦<PlainRx<M> as Rx<M>>⟧.about self.new ≡ ⟦<PlainRx<M> as Rx<M>>⟧.about self.old) }
-        ensures received { ⟦<PlainRx<M> as Rx<M>>⟧.received self.new
-            ≡ ⟦<PlainRx<M> as Rx<M>>⟧.received self.old }
-        ensures answers { ⟦<PlainRx<M> as Rx<M>>⟧.answers self.new
-            ≡ ⟦<PlainRx<M> as Rx<M>>⟧.answers self.old }
+        ensures cause { IsCause (Follows ⟦<PlainRx<M> as Rx<M>>⟧ parcel self.old) parcel result }
+        ensures delivered { Becomes result ⟦<PlainRx<M> as Rx<M>>⟧.key
+            (with_parcel parcel) self.old self.new }
+        ensures left { LeavesParcel result parcel ⟦<PlainRx<M> as Rx<M>>⟧.about
+            self.old self.new }
+        ensures received { Stays ⟦<PlainRx<M> as Rx<M>>⟧.received self.old self.new }
+        ensures answers { Stays ⟦<PlainRx<M> as Rx<M>>⟧.answers self.old self.new }
     {
         let sender = parcel.sender as usize;
         if sender == 0 || sender > self.lanes.len() {
@@ -169,12 +157,11 @@ impl<M: Message> Gathered<M, PlainLane<M>> {
 
 /// So many senders that have sent nothing.
 fn new_senders<M: Message>(alloc: Global, senders: u16) -> Result<Vec<PlainTx<M>>, NoMemory>
-    ensures numbers { IfOk result (λ txs. map (⟦<PlainTx<M> as Tx<M>>⟧.number) txs.items
-        ≡ range_with_len 1 senders) }
-    ensures sent { IfOk result (λ txs. map (⟦<PlainTx<M> as Tx<M>>⟧.sent) txs.items
-        ≡ replicate senders []) }
-    ensures given { IfOk result (λ txs. map (⟦<PlainTx<M> as Tx<M>>⟧.key) txs.items
-        ≡ replicate senders []) }
+    ensures numbers { IfOk result (λ txs.
+        AreNumbered ⟦<PlainTx<M> as Tx<M>>⟧ senders txs.items) }
+    ensures sent { IfOk result (λ txs. NoneSent ⟦<PlainTx<M> as Tx<M>>⟧ senders txs.items) }
+    ensures given { IfOk result (λ txs.
+        AllShow ⟦<PlainTx<M> as Tx<M>>⟧.key [] senders txs.items) }
 {
     let mut txs = Vec::new(alloc);
     for place in 0..senders {
@@ -185,10 +172,10 @@ fn new_senders<M: Message>(alloc: Global, senders: u16) -> Result<Vec<PlainTx<M>
 
 /// So many lanes to which nothing was delivered.
 fn new_lanes<M: Message>(alloc: Global, senders: u16) -> Result<Vec<PlainLane<M>>, NoMemory>
-    ensures delivered { IfOk result (λ lanes. map (⟦<PlainLane<M> as Lane<M>>⟧.key) lanes.items
-        ≡ replicate senders []) }
-    ensures lanes { IfOk result (λ lanes. map (⟦<PlainLane<M> as Lane<M>>⟧.lane) lanes.items
-        ≡ replicate senders nothing) }
+    ensures delivered { IfOk result (λ lanes.
+        AllShow ⟦<PlainLane<M> as Lane<M>>⟧.key [] senders lanes.items) }
+    ensures lanes { IfOk result (λ lanes.
+        AllShow ⟦<PlainLane<M> as Lane<M>>⟧.lane nothing senders lanes.items) }
 {
     let mut lanes = Vec::new(alloc);
     for _ in 0..senders {
@@ -202,19 +189,16 @@ pub fn plain<M: Message>(
     alloc: Global,
     senders: u16,
 ) -> Result<(Vec<PlainTx<M>>, PlainRx<M>), NoMemory>
-    ensures numbers { IfOk result (λ ends. map (⟦<PlainTx<M> as Tx<M>>⟧.number) ends.0.items
-        ≡ range_with_len 1 senders) }
-    ensures sent { IfOk result (λ ends. map (⟦<PlainTx<M> as Tx<M>>⟧.sent) ends.0.items
-        ≡ replicate senders []) }
-    ensures given { IfOk result (λ ends. map (⟦<PlainTx<M> as Tx<M>>⟧.key) ends.0.items
-        ≡ replicate senders []) }
+    ensures numbers { IfOk result (λ ends.
+        AreNumbered ⟦<PlainTx<M> as Tx<M>>⟧ senders ends.0.items) }
+    ensures sent { IfOk result (λ ends. NoneSent ⟦<PlainTx<M> as Tx<M>>⟧ senders ends.0.items) }
+    ensures given { IfOk result (λ ends.
+        AllShow ⟦<PlainTx<M> as Tx<M>>⟧.key [] senders ends.0.items) }
     ensures delivered { IfOk result (λ ends. ⟦<PlainRx<M> as Rx<M>>⟧.key ends.1
         ≡ replicate senders []) }
-    ensures received { IfOk result (λ ends. ⟦<PlainRx<M> as Rx<M>>⟧.received ends.1 ≡ []) }
-    ensures answers { IfOk result (λ ends. ⟦<PlainRx<M> as Rx<M>>⟧.answers ends.1
-        ≡ record { nones = 0; somes = 0 }) }
-    ensures about { IfOk result (λ ends. (sender : ℕ)
-        → ⟦<PlainRx<M> as Rx<M>>⟧.about ends.1 sender ≡ nothing_sent) }
+    ensures received { IfOk result (λ ends. NoneReceived ⟦<PlainRx<M> as Rx<M>>⟧ ends.1) }
+    ensures answers { IfOk result (λ ends. NeverAsked ⟦<PlainRx<M> as Rx<M>>⟧ ends.1) }
+    ensures about { IfOk result (λ ends. KnowsOfNone ⟦<PlainRx<M> as Rx<M>>⟧ ends.1) }
 {
     let txs = new_senders(alloc, senders)?;
     let lanes = new_lanes(alloc, senders)?;

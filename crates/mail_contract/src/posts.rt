@@ -1,7 +1,9 @@
 //! Sending by one of several senders.
-ghost use Rattle.std.specs.Prelude.{◌≡◌, ◌≢◌, ◌<◌, ◌≤◌, ◌+◌, ℕ, length, map, slice_get, slice_index_or, min, IsTrue, Some};
-ghost use Rattle.mail_contract.specs.Parcels.{GivesUp};
-ghost use Rattle.mail_contract.specs.Sends.{FullsAfter, OnFull, OnRefused, OnSent, Posted};
+ghost use Rattle.std.specs.Prelude.{◌<◌, ◌≤◌, length, map, IsTrue};
+ghost use Rattle.mail_contract.specs.OverPlain.{GivesUp};
+ghost use Rattle.mail_contract.specs.OverSenders.{CountsFulls, CountsUnseen, NotClearAt, OthersStay, Posts, StillClearAt, unseen_at};
+ghost use Rattle.mail_contract.specs.Seen.{Stays};
+ghost use Rattle.mail_contract.specs.Sends.{OnFull, OnRefused};
 
 use crate::{Message, Parcel, PlainTx, Refused, Tx};
 
@@ -9,26 +11,20 @@ use crate::{Message, Parcel, PlainTx, Refused, Tx};
 /// sent; the other senders stay as they are.
 pub fn post<M, T: Tx<M>>(senders: &mut Vec<T>, place: usize, message: M) -> Result<(), Refused<M>>
     requires { place < length senders.old.items }
-    ensures keys { map T.key senders.new.items ≡ map T.key senders.old.items }
-    ensures numbers { map T.number senders.new.items ≡ map T.number senders.old.items }
-    ensures sent { Posted result message place
-        (map T.sent senders.old.items) (map T.sent senders.new.items) }
-    ensures fulls { FullsAfter result place
-        (map T.fulls senders.old.items) (map T.fulls senders.new.items) }
-    ensures others { (other : ℕ) → other ≢ place
-        → slice_get senders.new.items other ≡ slice_get senders.old.items other }
-    ensures not_clear { OnFull result ((sender : T)
-        → slice_get senders.old.items place ≡ Some sender → T.clear sender → ⊥) }
+    ensures keys { Stays (map T.key) senders.old.items senders.new.items }
+    ensures numbers { Stays (map T.number) senders.old.items senders.new.items }
+    ensures sent { Posts T.Tx result message place senders.old.items senders.new.items }
+    ensures fulls { CountsFulls T.Tx result place senders.old.items senders.new.items }
+    ensures others { OthersStay place senders.old.items senders.new.items }
+    ensures not_clear { OnFull result (NotClearAt T.Tx senders.old.items place) }
     ensures no_room { IsTrue T.roomy
-        → OnFull result (64 ≤ slice_index_or (map T.unseen senders.old.items) place 0) }
+        → OnFull result (64 ≤ unseen_at T.Tx senders.old.items place) }
     ensures unseen { IsTrue T.roomy
-        → OnSent result (slice_index_or (map T.unseen senders.new.items) place 0
-        ≡ min 64 (slice_index_or (map T.unseen senders.old.items) place 0 + 1)) }
+        → CountsUnseen T.Tx result place senders.old.items senders.new.items }
     ensures still_unseen { OnRefused result
-        (map T.unseen senders.new.items ≡ map T.unseen senders.old.items) }
-    ensures still_clear { OnRefused result ((was now : T)
-        → slice_get senders.old.items place ≡ Some was
-        → slice_get senders.new.items place ≡ Some now → T.clear was → T.clear now) }
+        (Stays (map T.unseen) senders.old.items senders.new.items) }
+    ensures still_clear { OnRefused result
+        (StillClearAt T.Tx senders.old.items senders.new.items place) }
 {
     let sender = &mut senders[place];
     sender.send(message)
@@ -37,8 +33,7 @@ pub fn post<M, T: Tx<M>>(senders: &mut Vec<T>, place: usize, message: M) -> Resu
 /// The sender at a place, from 0, gives up what it sent since its last parcel. Takes no memory.
 pub fn parcel_of<M: Message>(senders: &mut Vec<PlainTx<M>>, place: usize) -> Parcel<M>
     requires { place < length senders.old.items }
-    ensures { GivesUp ⟦<PlainTx<M> as Tx<M>>⟧.number ⟦<PlainTx<M> as Tx<M>>⟧.sent
-        ⟦<PlainTx<M> as Tx<M>>⟧.key place result senders.old.items senders.new.items }
+    ensures { GivesUp ⟦<PlainTx<M> as Tx<M>>⟧ place result senders.old.items senders.new.items }
 {
     let sender = &mut senders[place];
     sender.parcel()

@@ -1,8 +1,9 @@
 //! The end of a receiver.
-ghost use Rattle.std.specs.Prelude.{◌≡◌, ℕ, ◌+◌, ◌-◌, ◌≤◌, IsOk, IsTrue, List, length, min};
+ghost use Rattle.std.specs.Prelude.{◌≡◌, ℕ, ◌≤◌, IsOk, IsTrue, List};
+ghost use Rattle.mail_contract.specs.Beside.{FindsPlace, IsFrontOf, IsLearned, IsTakenIn, LearnsUnseen, Leaves};
 ghost use Rattle.mail_contract.specs.Parts.{Parts};
-ghost use Rattle.mail_contract.specs.Standing.{About, Learned, Settled, IsSettled, AllPart, AllStand, OthersStay};
-ghost use Rattle.mail_contract.specs.Takes.{Answers, OnSome, OnNone, Took, Counted, LeftFalls, IsFront, IsFrontOfSent, AreAllOfSent, IsOfShown, IsInTurn, IsNothingLeft, from_sender, last_sender};
+ghost use Rattle.mail_contract.specs.Standing.{About, IsSettled, AllPart, AllStand, OthersStay};
+ghost use Rattle.mail_contract.specs.Takes.{Answers, OnSome, OnNone, Took, Counted, LeftFalls, FrontsStay, AreAllOfSent, IsNothingLeft, TakesInTurn, TakesShown};
 
 use crate::Tx;
 use lattice_laws::NoMemory;
@@ -42,18 +43,15 @@ pub trait Rx<M>: Drop {
         ensures received { Took result (received self.old) (received self.new) }
         ensures answers { Counted result (answers self.old) (answers self.new) }
         ensures standing { AllStand (about self.old) (about self.new) }
-        ensures told { (sender : ℕ)
-            → IsFrontOfSent keeps.complete (received self.old) (about self.old) sender
-            → IsFrontOfSent keeps.complete (received self.new) (about self.new) sender }
+        ensures told { FrontsStay keeps.complete received about self.old self.new }
         ensures none { OnNone result
             (AreAllOfSent keeps.complete (received self.new) (about self.new)) }
-        ensures bounded { IsTrue keeps.bounded → OnSome result (λ sender _.
-            IsOfShown (received self.new) (about self.new) sender) }
+        ensures bounded { IsTrue keeps.bounded
+            → TakesShown result (received self.new) (about self.new) }
         ensures left { IsTrue keeps.finite → LeftFalls result (about self.old) (about self.new) }
         ensures exact { IsTrue keeps.exact → OnNone result (IsNothingLeft (about self.new)) }
-        ensures turns { IsTrue keeps.turns → OnSome result (λ sender _.
-            IsInTurn (senders (key self.old)) (last_sender (received self.old))
-            (about self.new) sender) }
+        ensures turns { IsTrue keeps.turns
+            → TakesInTurn result (senders (key self.old)) (received self.old) (about self.new) }
         ensures sure { IsTrue keeps.sure → IsOk result };
 
     /// Takes in a sender that has ended. It tells that what was received of it is the front of what
@@ -65,14 +63,11 @@ pub trait Rx<M>: Drop {
         ensures received { received self.new ≡ received self.old }
         ensures answers { answers self.new ≡ answers self.old }
         ensures others { OthersStay (Self.From.number ended) (about self.old) (about self.new) }
-        ensures settled { (about self.new (Self.From.number ended)).standing
-            ≡ Settled (Self.From.sent ended) }
+        ensures settled { IsTakenIn Self.From.Tx ended (about self.new) }
         ensures met { IsTrue (about self.new (Self.From.number ended)).met }
-        ensures told { IsFront (from_sender (Self.From.number ended) (received self.old))
-            (Self.From.sent ended) }
-        ensures left { IsTrue keeps.finite → (about self.new (Self.From.number ended)).left
-            ≡ length (Self.From.sent ended)
-            - length (from_sender (Self.From.number ended) (received self.old)) };
+        ensures told { IsFrontOf Self.From.Tx ended (received self.old) }
+        ensures left { IsTrue keeps.finite
+            → Leaves Self.From.Tx ended (received self.old) (about self.new) };
 
     /// Holds a sender beside the box, so that each learns what the other has: the sender what was
     /// taken, the box what was sent. Takes no memory.
@@ -81,22 +76,16 @@ pub trait Rx<M>: Drop {
         ensures key { key self.new ≡ key self.old }
         ensures received { received self.new ≡ received self.old }
         ensures answers { answers self.new ≡ answers self.old }
-        ensures learned { Learned keeps (Self.From.number tx.old) (Self.From.sent tx.old)
-            (about self.old) (about self.new) }
+        ensures learned { IsLearned Self.From.Tx keeps tx.old (about self.old) (about self.new) }
         ensures tx_key { Self.From.key tx.new ≡ Self.From.key tx.old }
         ensures tx_number { Self.From.number tx.new ≡ Self.From.number tx.old }
         ensures tx_sent { Self.From.sent tx.new ≡ Self.From.sent tx.old }
         ensures tx_fulls { Self.From.fulls tx.new ≡ Self.From.fulls tx.old }
-        ensures told { IsTrue keeps.complete
-            → IsFront (from_sender (Self.From.number tx.old) (received self.old))
-            (Self.From.sent tx.old) }
-        ensures roomy { IsTrue keeps.roomy → Self.From.unseen tx.new
-            ≡ min 64 (length (Self.From.sent tx.old)
-            - length (from_sender (Self.From.number tx.old) (received self.old))) }
+        ensures told { IsTrue keeps.complete → IsFrontOf Self.From.Tx tx.old (received self.old) }
+        ensures roomy { IsTrue keeps.roomy
+            → LearnsUnseen Self.From.Tx (received self.old) tx.old tx.new }
         ensures freed { IsTrue keeps.freed
-            → length (Self.From.sent tx.old)
-            ≤ length (from_sender (Self.From.number tx.old) (received self.old))
-            → Self.From.clear tx.new };
+            → FindsPlace Self.From.Tx (received self.old) tx.old tx.new };
 
     /// Nobody is beside the box any longer: no sender is shown. Takes no memory.
     fn apart(&mut self)

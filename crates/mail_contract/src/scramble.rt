@@ -1,11 +1,12 @@
 //! Gossip in disorder.
-ghost use Rattle.std.specs.Prelude.{◌≡◌, ℕ, ◌+◌, ◌*◌, ◌<◌, ◌≤◌, IsTrue, [], false, true, List, None, length, take, MatchOption, IfOk, OnOk};
+ghost use Rattle.std.specs.Prelude.{◌≡◌, ℕ, ◌<◌, ◌≤◌, IsTrue, [], List, length, take, MatchOption, IfOk, OnOk};
 ghost use Rattle.std.specs.Vec.{vec_capacity};
 ghost use Rattle.std.proofs.Props.{props};
-ghost use Rattle.mail_contract.specs.Scrambled.{AreHeld, Fills, IsCopied, IsDealt, IsFull, draw_of, got_of_held, next_state, times_of_all};
-ghost use Rattle.mail_contract.specs.Standing.{AllStand, AreMet, OfSent, left_of_all};
+ghost use Rattle.mail_contract.specs.Fresh.{NeverAskedWeak, NoneGot};
+ghost use Rattle.mail_contract.specs.Scrambled.{AreHeld, Fills, IsDealt, IsFull, IsMarked, TimesStay, draw_of, got_of_held, next_state};
+ghost use Rattle.mail_contract.specs.Standing.{AllStand, NoMoreLeft, OfSent};
 ghost use Rattle.mail_contract.specs.declared.scramble.Held.{Held};
-ghost use Rattle.mail_contract.specs.Takes.{AreAllOfSent, IsFrontOfSent, IsNothingLeft, from_sender};
+ghost use Rattle.mail_contract.specs.Takes.{AreAllOfSent, FrontsStay, IsNothingLeft, from_sender};
 
 use crate::{GossipRx, Message, Rx, Tx};
 use lattice_laws::NoMemory;
@@ -38,8 +39,8 @@ pub fn next_of(state: u64) -> u64
 /// A copy of a held message, where the draw asks for one, none was handed out before, and there is memory for
 /// it; it is marked then.
 fn copied<M: Message>(item: &mut Held<M>, draw: u64) -> Option<M>
-    ensures { MatchOption result (item.new ≡ item.old) (λ copy. (copy ≡ item.old.message)
-        × IsCopied draw × (item.old.again ≡ false) × (item.new ≡ record item.old { again = true })) }
+    ensures { MatchOption result (item.new ≡ item.old) (λ copy. IsMarked draw copy item.old
+        item.new) }
 {
     if draw / 8 % 2 == 0 || item.again {
         return None;
@@ -89,15 +90,10 @@ fn fill<M, R: Rx<M>>(
     ensures got { got_of_held held.new.items (R.received inner.new)
         ≡ got_of_held held.old.items (R.received inner.old) }
     ensures standing { AllStand (R.about inner.old) (R.about inner.new) }
-    ensures told { (sender : ℕ)
-        → IsFrontOfSent R.keeps.complete (R.received inner.old) (R.about inner.old) sender
-        → IsFrontOfSent R.keeps.complete (R.received inner.new) (R.about inner.new) sender }
-    ensures left { IsTrue R.keeps.finite → (sender : ℕ) → IsTrue (R.about inner.old sender).met
-        → (R.about inner.new sender).left ≤ (R.about inner.old sender).left }
-    ensures most { IsTrue R.keeps.finite → AreMet (R.senders (R.key inner.old)) (R.about inner.old)
-        → 2 * left_of_all (R.senders (R.key inner.old)) (R.about inner.new) + times_of_all held.new.items
-        ≡ 2 * left_of_all (R.senders (R.key inner.old)) (R.about inner.old)
-        + times_of_all held.old.items }
+    ensures told { FrontsStay R.keeps.complete R.received R.about inner.old inner.new }
+    ensures left { IsTrue R.keeps.finite → NoMoreLeft (R.about inner.old) (R.about inner.new) }
+    ensures most { IsTrue R.keeps.finite
+        → TimesStay R.Rx inner.old inner.new held.old.items held.new.items }
     ensures full { OnOk result
         (IsFull held.new.items (R.answers inner.old) (R.answers inner.new)) }
     ensures dry { OnOk result (length held.new.items < 8
@@ -172,8 +168,7 @@ impl<M: Message, R: Rx<M>> Draws<M> for Scramble<M, R> {
 
 impl<M: Message, R: Rx<M>> GossipRx<M> for Scramble<M, R> {
     ghost use Rattle.std.specs.Prelude.{◌+◌, ◌*◌, [], ◌∷◌, true, false};
-    ghost use Rattle.mail_contract.specs.Scrambled.{Deals, got_of_held, times_of_all};
-    ghost use Rattle.mail_contract.specs.Standing.{left_of_all};
+    ghost use Rattle.mail_contract.specs.Scrambled.{Deals, got_of_held, times_left};
 
     type From = R::From;
 
@@ -200,8 +195,8 @@ impl<M: Message, R: Rx<M>> GossipRx<M> for Scramble<M, R> {
         (R.received now.inner) (R.answers before.inner) (R.answers now.inner)
         before.held.items before.state now.held.items now.state };
 
-    ghost most = { λ scramble. 2 * left_of_all (R.senders (R.key scramble.inner))
-        (R.about scramble.inner) + times_of_all scramble.held.items };
+    ghost most = { λ scramble. times_left (R.senders (R.key scramble.inner))
+        (R.about scramble.inner) scramble.held.items };
 
     ghost keeps = { record R.keeps { bounded = false; turns = false; advances = R.keeps.complete; sure = false } };
 
@@ -234,10 +229,8 @@ impl<M: Message, R: Rx<M>> Scramble<M, R> {
         requires { R.received inner ≡ [] }
         ensures key { IfOk result (λ scramble.
             ⟦<Scramble<M, R> as GossipRx<M>>⟧.key scramble ≡ (R.key inner, number)) }
-        ensures got { IfOk result (λ scramble. (sender place : ℕ)
-            → ⟦<Scramble<M, R> as GossipRx<M>>⟧.got scramble sender place ≡ None) }
-        ensures answers { IfOk result (λ scramble.
-            ⟦<Scramble<M, R> as GossipRx<M>>⟧.answers scramble ≡ record { nones = 0; somes = 0 }) }
+        ensures got { IfOk result (NoneGot ⟦<Scramble<M, R> as GossipRx<M>>⟧) }
+        ensures answers { IfOk result (NeverAskedWeak ⟦<Scramble<M, R> as GossipRx<M>>⟧) }
         ensures about { IfOk result (λ scramble.
             ⟦<Scramble<M, R> as GossipRx<M>>⟧.about scramble ≡ R.about inner) }
         ensures held { IfOk result (λ scramble. ⟦<Scramble<M, R> as Draws<M>>⟧.held scramble ≡ []) }

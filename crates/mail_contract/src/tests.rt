@@ -1,5 +1,5 @@
 //! Plain mail and the scramble over it.
-ghost use Rattle.std.specs.Prelude.{◌≡◌};
+ghost use Rattle.mail_contract.specs.Seen.{Stays};
 
 use super::*;
 use std::alloc::Global;
@@ -33,8 +33,7 @@ fn taken<R: Rx<Note>>(
 
 /// Sends a message and carries it.
 fn carry(tx: &mut PlainTx<Note>, rx: &mut PlainRx<Note>, note: u32) -> Result<(), NoMemory>
-    ensures { ⟦<PlainRx<Note> as Rx<Note>>⟧.received rx.new
-        ≡ ⟦<PlainRx<Note> as Rx<Note>>⟧.received rx.old }
+    ensures { Stays ⟦<PlainRx<Note> as Rx<Note>>⟧.received rx.old rx.new }
 {
     if tx.send(Note(note)).is_err() {
         return Err(NoMemory);

@@ -1,13 +1,14 @@
 -- Ends of mail over rings.
-use Rattle.std.specs.Prelude.{◌-◌, Bool, true, false, [], ◌++◌, length, Option, Some, None}
+use Rattle.std.specs.Prelude.{◌≡◌, ℕ, ◌-◌, ◌≤◌, Bool, true, false, [], ◌++◌, length, Option, Some, None}
 use denote.RawPtr.{Ptr}
 use Rattle.rtrb.specs.Shared.{Names}
 use Rattle.rtrb.specs.Ring.{sent, received, known_items}
 use Rattle.rtrb.specs.declared.producer.Producer.{Producer}
 use Rattle.rtrb.specs.declared.consumer.Consumer.{Consumer}
-use Rattle.mail_contract.specs.Lanes.{Lane}
+use Rattle.mail_contract.specs.Lanes.{Lane, about_lane}
 use Rattle.mail_contract.specs.Parts.{Parts}
 use Rattle.mail_contract.specs.Standing.{Apart, Shown, Settled}
+use Rattle.mail_contract.specs.declared.rx.Rx as boxes
 use Rattle.mail_rings.specs.declared.tx.RingTx.{RingTx}
 
 -- rings keep all but that a box makes room for the order in which it takes
@@ -53,3 +54,7 @@ module _ {M A P : Type 0} where
 -- a ring of which nothing was taken, and which knows nothing of its sender
 abbrev pub new_lane : {M : Type 0} → Lane M
 new_lane = record { taken = []; standing = Apart; met = false; left = 0 }
+
+-- a box of so many new rings knows nothing of its senders
+abbrev pub KnowsNothing : {Q M S QK SK : Type 0} → boxes.Ghosts Q M S QK SK → ℕ → Q → Type 0
+KnowsNothing its senders mailbox = (sender : ℕ) → 1 ≤ sender → sender ≤ senders → its.about mailbox sender ≡ about_lane new_lane

@@ -4,10 +4,9 @@
 //! contract of [`mail_contract`], but that a take makes room for the order in which it takes.
 #![tactic(auto)]
 
-ghost use Rattle.std.specs.Prelude.{◌≡◌, ℕ, ◌≤◌, [], map, replicate, IfOk};
-ghost use Rattle.std.specs.List.{range_with_len};
-ghost use Rattle.mail_contract.specs.Lanes.{about_lane};
-ghost use Rattle.mail_rings.specs.Rings.{new_lane};
+ghost use Rattle.std.specs.Prelude.{◌≡◌, ◌≤◌, map, IfOk};
+ghost use Rattle.mail_contract.specs.Fresh.{AllShow, AreNumbered, NeverAsked, NoneReceived, NoneSent};
+ghost use Rattle.mail_rings.specs.Rings.{KnowsNothing};
 
 mod lane;
 mod tx;
@@ -32,25 +31,22 @@ pub fn rings<M: Message + Send>(
     senders: u16,
 ) -> Result<(Vec<RingTx<M>>, RingRx<M>), NoMemory>
     requires { 1 ≤ senders }
-    ensures numbers { IfOk result (λ ends. map (⟦<RingTx<M> as Tx<M>>⟧.number) ends.0.items
-        ≡ range_with_len 1 senders) }
-    ensures sent { IfOk result (λ ends. map (⟦<RingTx<M> as Tx<M>>⟧.sent) ends.0.items
-        ≡ replicate senders []) }
-    ensures fulls { IfOk result (λ ends. map (⟦<RingTx<M> as Tx<M>>⟧.fulls) ends.0.items
-        ≡ replicate senders 0) }
-    ensures unseen { IfOk result (λ ends. map (⟦<RingTx<M> as Tx<M>>⟧.unseen) ends.0.items
-        ≡ replicate senders 0) }
+    ensures numbers { IfOk result
+        (λ ends. AreNumbered ⟦<RingTx<M> as Tx<M>>⟧ senders ends.0.items) }
+    ensures sent { IfOk result (λ ends. NoneSent ⟦<RingTx<M> as Tx<M>>⟧ senders ends.0.items) }
+    ensures fulls { IfOk result (λ ends. AllShow ⟦<RingTx<M> as Tx<M>>⟧.fulls 0 senders
+        ends.0.items) }
+    ensures unseen { IfOk result (λ ends. AllShow ⟦<RingTx<M> as Tx<M>>⟧.unseen 0 senders
+        ends.0.items) }
 
     // Each sender and the box are of one making.
     ensures pairs { IfOk result (λ ends. map (⟦<RingTx<M> as Tx<M>>⟧.key) ends.0.items
         ≡ ⟦<RingRx<M> as Rx<M>>⟧.key ends.1) }
-    ensures received { IfOk result (λ ends. ⟦<RingRx<M> as Rx<M>>⟧.received ends.1 ≡ []) }
-    ensures answers { IfOk result (λ ends. ⟦<RingRx<M> as Rx<M>>⟧.answers ends.1
-        ≡ record { nones = 0; somes = 0 }) }
+    ensures received { IfOk result (λ ends. NoneReceived ⟦<RingRx<M> as Rx<M>>⟧ ends.1) }
+    ensures answers { IfOk result (λ ends. NeverAsked ⟦<RingRx<M> as Rx<M>>⟧ ends.1) }
 
     // Of no sender is anything known yet.
-    ensures about { IfOk result (λ ends. (sender : ℕ) → 1 ≤ sender → sender ≤ senders
-        → ⟦<RingRx<M> as Rx<M>>⟧.about ends.1 sender ≡ about_lane new_lane) }
+    ensures about { IfOk result (λ ends. KnowsNothing ⟦<RingRx<M> as Rx<M>>⟧ senders ends.1) }
 {
     let mut txs = Vec::new(alloc);
     let mut lanes = Vec::new(alloc);

@@ -1,6 +1,6 @@
 //! Rings on one thread, and on several.
-ghost use Rattle.std.specs.Prelude.{◌≡◌};
-ghost use Rattle.mail_contract.specs.Standing.{AllStand};
+ghost use Rattle.mail_contract.specs.OverBoxes.{StandingStays};
+ghost use Rattle.mail_contract.specs.Seen.{Stays};
 
 use super::*;
 use mail_contract::Refused;
@@ -41,9 +41,8 @@ fn a_full_ring(rt: HostRuntime) -> Result<(), Fail> {
 
 /// Sends the numbers from 0, and says how many were sent.
 fn send_all(tx: &mut RingTx<Note>) -> u32
-    ensures key { ⟦<RingTx<Note> as Tx<Note>>⟧.key tx.new ≡ ⟦<RingTx<Note> as Tx<Note>>⟧.key tx.old }
-    ensures number { ⟦<RingTx<Note> as Tx<Note>>⟧.number tx.new
-        ≡ ⟦<RingTx<Note> as Tx<Note>>⟧.number tx.old }
+    ensures key { Stays ⟦<RingTx<Note> as Tx<Note>>⟧.key tx.old tx.new }
+    ensures number { Stays ⟦<RingTx<Note> as Tx<Note>>⟧.number tx.old tx.new }
 {
     let mut next = 0;
     for _ in 0..TURNS {
@@ -60,9 +59,8 @@ fn send_all(tx: &mut RingTx<Note>) -> u32
 
 /// Takes from two senders, and says of each whether its numbers came in order, from 0, and how many did.
 fn take_all(rx: &mut RingRx<Note>, counts: &mut [u32; 3], most: u32) -> bool
-    ensures key { ⟦<RingRx<Note> as Rx<Note>>⟧.key rx.new ≡ ⟦<RingRx<Note> as Rx<Note>>⟧.key rx.old }
-    ensures standing { AllStand (⟦<RingRx<Note> as Rx<Note>>⟧.about rx.old)
-        (⟦<RingRx<Note> as Rx<Note>>⟧.about rx.new) }
+    ensures key { Stays ⟦<RingRx<Note> as Rx<Note>>⟧.key rx.old rx.new }
+    ensures standing { StandingStays ⟦<RingRx<Note> as Rx<Note>>⟧ rx.old rx.new }
 {
     for _ in 0..TURNS {
         if counts[1].saturating_add(counts[2]) >= most {
@@ -90,17 +88,12 @@ fn side_by_side<R: Threads + Sync>(
     second: &mut RingTx<Note>,
     counts: &mut [u32; 3],
 ) -> (u32, u32, bool)
-    ensures key { ⟦<RingRx<Note> as Rx<Note>>⟧.key rx.new ≡ ⟦<RingRx<Note> as Rx<Note>>⟧.key rx.old }
-    ensures standing { AllStand (⟦<RingRx<Note> as Rx<Note>>⟧.about rx.old)
-        (⟦<RingRx<Note> as Rx<Note>>⟧.about rx.new) }
-    ensures first_key { ⟦<RingTx<Note> as Tx<Note>>⟧.key first.new
-        ≡ ⟦<RingTx<Note> as Tx<Note>>⟧.key first.old }
-    ensures first_number { ⟦<RingTx<Note> as Tx<Note>>⟧.number first.new
-        ≡ ⟦<RingTx<Note> as Tx<Note>>⟧.number first.old }
-    ensures second_key { ⟦<RingTx<Note> as Tx<Note>>⟧.key second.new
-        ≡ ⟦<RingTx<Note> as Tx<Note>>⟧.key second.old }
-    ensures second_number { ⟦<RingTx<Note> as Tx<Note>>⟧.number second.new
-        ≡ ⟦<RingTx<Note> as Tx<Note>>⟧.number second.old }
+    ensures key { Stays ⟦<RingRx<Note> as Rx<Note>>⟧.key rx.old rx.new }
+    ensures standing { StandingStays ⟦<RingRx<Note> as Rx<Note>>⟧ rx.old rx.new }
+    ensures first_key { Stays ⟦<RingTx<Note> as Tx<Note>>⟧.key first.old first.new }
+    ensures first_number { Stays ⟦<RingTx<Note> as Tx<Note>>⟧.number first.old first.new }
+    ensures second_key { Stays ⟦<RingTx<Note> as Tx<Note>>⟧.key second.old second.new }
+    ensures second_number { Stays ⟦<RingTx<Note> as Tx<Note>>⟧.number second.old second.new }
 {
     let mut sent = (0, 0);
     let mut in_order = true;

@@ -6,9 +6,8 @@
 //! wait for a thread that is in the midst of a step.
 #![tactic(auto)]
 
-ghost use Rattle.std.specs.Prelude.{◌≡◌, ℕ, ◌≤◌, [], map, replicate, true, IfOk};
-ghost use Rattle.std.specs.List.{range_with_len};
-ghost use Rattle.mail_contract.specs.Standing.{Apart};
+ghost use Rattle.std.specs.Prelude.{◌≡◌, ◌≤◌, IfOk};
+ghost use Rattle.mail_contract.specs.Fresh.{AllShow, AreNumbered, KnowsOfNone, NeverAsked, NoneReceived, NoneSent};
 
 mod line;
 mod rule;
@@ -30,22 +29,19 @@ pub fn queue<M: Message + Send, R: Wait + Copy>(
     senders: u16,
 ) -> Result<(Vec<QueueTx<M, R>>, QueueRx<M, R>), NoMemory>
     requires { 1 ≤ senders }
-    ensures numbers { IfOk result (λ ends. map (⟦<QueueTx<M, R> as Tx<M>>⟧.number) ends.0.items
-        ≡ range_with_len 1 senders) }
-    ensures sent { IfOk result (λ ends. map (⟦<QueueTx<M, R> as Tx<M>>⟧.sent) ends.0.items
-        ≡ replicate senders []) }
+    ensures numbers { IfOk result (λ ends.
+        AreNumbered ⟦<QueueTx<M, R> as Tx<M>>⟧ senders ends.0.items) }
+    ensures sent { IfOk result (λ ends. NoneSent ⟦<QueueTx<M, R> as Tx<M>>⟧ senders ends.0.items) }
 
     // Each sender and the box are of one making.
-    ensures pairs { IfOk result (λ ends. map (⟦<QueueTx<M, R> as Tx<M>>⟧.key) ends.0.items
-        ≡ replicate senders (⟦<QueueRx<M, R> as Rx<M>>⟧.key ends.1).0) }
+    ensures pairs { IfOk result (λ ends. AllShow ⟦<QueueTx<M, R> as Tx<M>>⟧.key
+        (⟦<QueueRx<M, R> as Rx<M>>⟧.key ends.1).0 senders ends.0.items) }
     ensures senders { IfOk result (λ ends. (⟦<QueueRx<M, R> as Rx<M>>⟧.key ends.1).1 ≡ senders) }
-    ensures received { IfOk result (λ ends. ⟦<QueueRx<M, R> as Rx<M>>⟧.received ends.1 ≡ []) }
-    ensures answers { IfOk result (λ ends. ⟦<QueueRx<M, R> as Rx<M>>⟧.answers ends.1
-        ≡ record { nones = 0; somes = 0 }) }
+    ensures received { IfOk result (λ ends. NoneReceived ⟦<QueueRx<M, R> as Rx<M>>⟧ ends.1) }
+    ensures answers { IfOk result (λ ends. NeverAsked ⟦<QueueRx<M, R> as Rx<M>>⟧ ends.1) }
 
     // Of no sender is anything known yet.
-    ensures about { IfOk result (λ ends. (sender : ℕ) → ⟦<QueueRx<M, R> as Rx<M>>⟧.about ends.1 sender
-        ≡ record { standing = Apart; met = true; left = 0 }) }
+    ensures about { IfOk result (λ ends. KnowsOfNone ⟦<QueueRx<M, R> as Rx<M>>⟧ ends.1) }
 {
     let mut rx = QueueRx::new(rt, alloc)?;
     let mut txs = Vec::new(alloc);

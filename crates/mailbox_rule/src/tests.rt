@@ -1,6 +1,6 @@
 //! A mailbox on one thread, and on several.
-ghost use Rattle.std.specs.Prelude.{◌≡◌};
-ghost use Rattle.mail_contract.specs.Standing.{AllStand};
+ghost use Rattle.mail_contract.specs.OverBoxes.{StandingStays};
+ghost use Rattle.mail_contract.specs.Seen.{Stays};
 
 use super::*;
 use std::test::Fail;
@@ -43,10 +43,8 @@ fn messages_come_in_the_order_in_which_they_were_sent(rt: HostRuntime) -> Result
 
 /// Sends the numbers from 0, and says how many were sent.
 fn send_all<R: Wait + Copy>(mut tx: QueueTx<Note, R>) -> (QueueTx<Note, R>, u32)
-    ensures key { ⟦<QueueTx<Note, R> as Tx<Note>>⟧.key result.0
-        ≡ ⟦<QueueTx<Note, R> as Tx<Note>>⟧.key tx }
-    ensures number { ⟦<QueueTx<Note, R> as Tx<Note>>⟧.number result.0
-        ≡ ⟦<QueueTx<Note, R> as Tx<Note>>⟧.number tx }
+    ensures key { Stays ⟦<QueueTx<Note, R> as Tx<Note>>⟧.key tx result.0 }
+    ensures number { Stays ⟦<QueueTx<Note, R> as Tx<Note>>⟧.number tx result.0 }
 {
     for number in 0..MANY {
         if tx.send(Note(number)).is_err() {
@@ -62,14 +60,10 @@ fn send_both<R: Threads + Wait + Copy + Send + Sync>(
     first: QueueTx<Note, R>,
     second: QueueTx<Note, R>,
 ) -> ((QueueTx<Note, R>, u32), (QueueTx<Note, R>, u32))
-    ensures first_key { ⟦<QueueTx<Note, R> as Tx<Note>>⟧.key result.0.0
-        ≡ ⟦<QueueTx<Note, R> as Tx<Note>>⟧.key first }
-    ensures first_number { ⟦<QueueTx<Note, R> as Tx<Note>>⟧.number result.0.0
-        ≡ ⟦<QueueTx<Note, R> as Tx<Note>>⟧.number first }
-    ensures second_key { ⟦<QueueTx<Note, R> as Tx<Note>>⟧.key result.1.0
-        ≡ ⟦<QueueTx<Note, R> as Tx<Note>>⟧.key second }
-    ensures second_number { ⟦<QueueTx<Note, R> as Tx<Note>>⟧.number result.1.0
-        ≡ ⟦<QueueTx<Note, R> as Tx<Note>>⟧.number second }
+    ensures first_key { Stays ⟦<QueueTx<Note, R> as Tx<Note>>⟧.key first result.0.0 }
+    ensures first_number { Stays ⟦<QueueTx<Note, R> as Tx<Note>>⟧.number first result.0.0 }
+    ensures second_key { Stays ⟦<QueueTx<Note, R> as Tx<Note>>⟧.key second result.1.0 }
+    ensures second_number { Stays ⟦<QueueTx<Note, R> as Tx<Note>>⟧.number second result.1.0 }
 {
     join(rt, move || send_all(first), move || send_all(second))
 }
@@ -87,10 +81,8 @@ fn take_all<R: Wait + Copy>(
     mut counts: Counts,
     most: u32,
 ) -> (QueueRx<Note, R>, Counts)
-    ensures key { ⟦<QueueRx<Note, R> as Rx<Note>>⟧.key result.0
-        ≡ ⟦<QueueRx<Note, R> as Rx<Note>>⟧.key rx }
-    ensures standing { AllStand (⟦<QueueRx<Note, R> as Rx<Note>>⟧.about rx)
-        (⟦<QueueRx<Note, R> as Rx<Note>>⟧.about result.0) }
+    ensures key { Stays ⟦<QueueRx<Note, R> as Rx<Note>>⟧.key rx result.0 }
+    ensures standing { StandingStays ⟦<QueueRx<Note, R> as Rx<Note>>⟧ rx result.0 }
 {
     for _ in 0..TURNS {
         if counts.of[1].saturating_add(counts.of[2]) >= most {

@@ -1,3 +1,4 @@
+pub use Rattle.composed_value.specs.Cell
 pub mod Back
 pub mod Effects
 pub mod Heard

@@ -13,6 +13,7 @@ mod private_map;
 mod run;
 mod world;
 
+pub use composed_value::Cell;
 pub use event::Event;
 pub use private_map::{KeyCells, PrivateMap};
 pub use run::run_world;

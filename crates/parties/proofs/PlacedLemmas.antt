@@ -17,7 +17,7 @@ use Rattle.session_proxy.specs.State.{PlainProxy, lists_of}
 use Rattle.store_msg.specs.Reply.{PlainReply}
 use Rattle.store_msg.specs.declared.request.Request.{Request}
 use Rattle.worker_core.specs.State.{PlainWorker}
-use Rattle.run_ledger.proofs.ReplicasLemmas.{table_has_replicas}
+use Rattle.session_proxy.proofs.ReplicasLemmas.{table_has_replicas}
 use Rattle.party_turns.proofs.ItemsLemmas.{at_its_place, of_mapped, there_is}
 use Rattle.run_measure.specs.Laws.{AreOfWorkers, IsOfWorkers, IsPlaced}
 use Rattle.party_turns.specs.Running.{AreRunning, IsSessionOf}

@@ -1,3 +1,7 @@
+pub use Rattle.run_measure.specs.Laws
+pub use Rattle.run_measure.specs.Steps
+pub use Rattle.run_waiting.specs.Told
+pub use Rattle.run_waiting.specs.Waiting
 pub mod Beside
 pub mod Pace
 pub mod Polling

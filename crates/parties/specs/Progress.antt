@@ -1,7 +1,15 @@
 -- How far steps bring a session, by what it took, sent and answered.
-use Rattle.std.specs.Prelude.{◌≡◌, ◌+◌, ◌≤◌, false, if◌then◌else◌, IsTrue}
+use Rattle.std.specs.Prelude.{◌≡◌, ℕ, ◌+◌, ◌≤◌, false, if◌then◌else◌, IfOk, IsTrue, Result}
+use Rattle.mail_contract.specs.declared.rx.Rx as boxes
+use Rattle.mail_contract.specs.declared.tx.Tx as senders
+use Rattle.session_proxy.specs.OverProxies.{lists_of}
+use Rattle.session_proxy.specs.Share.{Share}
 use Rattle.session_proxy.specs.State as sessions
+use Rattle.store_msg.specs.Reply.{PlainReply}
+use Rattle.store_msg.specs.declared.request.Request.{Request}
+use Rattle.parties.specs.Polling.{HasWaited}
 use Rattle.parties.specs.declared.stepping.Polled.{Polled}
+use Rattle.run_measure.specs.Laws.{IsPlaced}
 use Rattle.run_measure.specs.Pace.{IsPaced}
 use Rattle.run_measure.specs.Steps.{HasDone, done}
 use Rattle.run_waiting.specs.Waiting.{AreToAsks, AwaitsMissing}
@@ -16,3 +24,17 @@ pub record HasMovedOn (polled : Polled) (before now : sessions.Lists) : Type 0 w
   pub rested : IsTrue polled.rested → IsTrue polled.moved
   pub paced : IsPaced (if polled.rested then 1 else 0) before.course now.course
   pub awaits : AwaitsMissing before → AreToAsks before → AwaitsMissing now
+
+-- a poll in which the session moved, or after which it has ended
+abbrev pub CameAlong : {E : Type 0} → Result Polled E → Type 0
+CameAlong result = IfOk result (λ polled. polled.ended ≡ false → IsTrue polled.moved)
+
+-- over what the traits of its ends tell: a session that kept its share moves on
+module _ {T R S TK RK SK : Type 0} (asks : senders.Ghosts T Request TK) (heard : boxes.Ghosts R PlainReply S RK SK) where
+  abbrev pub MovesOn : {E : Type 0} → Result Polled E → sessions.PlainProxy T R → sessions.PlainProxy T R → Type 0
+  MovesOn result before now =
+      IsPlaced (lists_of asks heard before) → Share (lists_of asks heard before) → IfOk result (λ polled. HasMovedOn polled (lists_of asks heard before) (lists_of asks heard now))
+
+  -- where it neither moved nor ended, this is what its ends told then
+  abbrev pub WaitsUnmoved : {E : Type 0} → Result Polled E → ℕ → sessions.PlainProxy T R → Type 0
+  WaitsUnmoved result most before = IfOk result (λ polled. polled.moved ≡ false → polled.ended ≡ false → 1 ≤ most → HasWaited asks heard before)

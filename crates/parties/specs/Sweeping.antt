@@ -38,6 +38,10 @@ AreServed at all those =
     (its : sessions.Lists) → slice_get those at ≡ Some its
     → AwaitsMissing its × ((place : ℕ) (worker : workers.Lists) → slice_get all place ≡ Some worker → HasServedAll (at + 1) its (place + 1) worker)
 
+-- what holds where boxes show all, and each worker that has served the session at a place is beside it
+abbrev pub IfServedBeside : Parts → Parts → (ℕ → Type 0) → ℕ → List workers.Lists → List sessions.Lists → Type 0 → Type 0
+IfServedBeside requests replies is_beside at all those holds = FreeBoth requests replies → ((place : ℕ) → is_beside place) → AreServed at all those → holds
+
 -- every line of the session at a place is answered,
 abbrev pub HasEnded : List sessions.Lists → ℕ → Type 0
 HasEnded those at = (its : sessions.Lists) → slice_get those at ≡ Some its → length its.course.answers ≡ length its.course.lines

@@ -2,8 +2,8 @@
 ghost use Rattle.std.specs.Prelude.{ℕ};
 
 use crate::parting::part_all;
-use crate::showing::show_told;
-use crate::steps::{poll_beside, turn_shown};
+use crate::showing::{show_all, show_worker};
+use crate::steps::{poll_session, turn_worker};
 use crate::{Polled, Run, Session};
 use lattice_laws::NoMemory;
 use party_turns::Tells;
@@ -106,7 +106,7 @@ impl<P: Mail> Run for Parties<P> {
     }
 
     fn show_all(&mut self) {
-        show_told(self);
+        show_all(self);
     }
 
     fn part_all(&mut self) {
@@ -114,11 +114,14 @@ impl<P: Mail> Run for Parties<P> {
     }
 
     fn turn_worker(&mut self, place: usize) -> Result<(), NoMemory> {
-        turn_shown(self, place)
+        show_worker(self, place);
+        turn_worker(self, place)?;
+        self.workers[place].attest();
+        Ok(())
     }
 
     fn poll_session(&mut self, place: usize, most: u32) -> Result<Polled, NoMemory> {
-        poll_beside(self, place, most)
+        poll_session(self, place, most)
     }
 
     ghost no_steps = { λ run. steps_still run.workers.items (map proxy_of run.sessions.items) };

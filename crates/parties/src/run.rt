@@ -1,8 +1,9 @@
 //! A run, to whoever takes its steps one at a time.
-ghost use Rattle.std.specs.Prelude.{◌≡◌, ◌≢◌, ◌<◌, ◌≤◌, ℕ, All, false, IfOk, IsTrue, List, length, OnOk, slice_get, Some};
+ghost use Rattle.std.specs.Prelude.{◌≡◌, ◌≢◌, ◌<◌, ◌≤◌, ℕ, All, IfOk, IsTrue, List, length, OnOk};
 ghost use Rattle.mail_contract.specs.Parts.{Parts};
-ghost use Rattle.parties.specs.Progress.{HasMovedOn};
-ghost use Rattle.parties.specs.Sweeping.{AllToAsks, AreServed, FreeBoth, HasEnded, HasServedEach};
+ghost use Rattle.parties.specs.Progress.{HasMovedOn, CameAlong};
+ghost use Rattle.parties.specs.Sweeping.{AllToAsks, FreeBoth, HasEnded, HasServedEach, IfServedBeside};
+ghost use Rattle.party_turns.specs.Places.{BothAt, OthersSame};
 ghost use Rattle.run_measure.specs.Steps.{HaveAllGoneOn};
 ghost use Rattle.run_waiting.specs.Told.{AreAllTold};
 ghost use Rattle.run_waiting.specs.Waiting.{AreSigned};
@@ -88,8 +89,7 @@ pub trait Run {
         requires none_kept { none_kept self.old }
         requires signed { All AreSigned (session_lists self.old) }
         ensures sessions { session_lists self.new ≡ session_lists self.old }
-        ensures others { (other : ℕ) → other ≢ place
-            → slice_get (worker_lists self.new) other ≡ slice_get (worker_lists self.old) other }
+        ensures others { OthersSame place (worker_lists self.old) (worker_lists self.new) }
         ensures steps { OnOk result (step_on self.old self.new) }
         ensures served { OnOk result
             (HasServedEach place (worker_lists self.new) (session_lists self.new)) };
@@ -99,21 +99,17 @@ pub trait Run {
     fn poll_session(&mut self, place: usize, most: u32) -> Result<Polled, NoMemory>
         requires { place < length (session_lists self.old) }
         ensures workers { worker_lists self.new ≡ worker_lists self.old }
-        ensures others { (other : ℕ) → other ≢ place
-            → slice_get (session_lists self.new) other ≡ slice_get (session_lists self.old) other }
+        ensures others { OthersSame place (session_lists self.old) (session_lists self.new) }
         ensures beside { (worker other : ℕ) → other ≢ place
             → are_beside worker other self.old → are_beside worker other self.new }
         ensures steps { OnOk result (step_on self.old self.new) }
         ensures ended { IfOk result (λ came. IsTrue came.ended
             → HasEnded (session_lists self.new) place) }
-        ensures moved { is_running self.old → IfOk result (λ came. (was now : sessions.Lists)
-            → slice_get (session_lists self.old) place ≡ Some was
-            → slice_get (session_lists self.new) place ≡ Some now → HasMovedOn came was now) }
+        ensures moved { is_running self.old → IfOk result (λ came.
+            BothAt (session_lists self.old) (session_lists self.new) place (HasMovedOn came)) }
         ensures served { is_running self.old → none_kept self.old → 1 ≤ most
-            → FreeBoth keeps_requests keeps_replies
-            → ((worker : ℕ) → are_beside worker place self.old)
-            → AreServed place (worker_lists self.old) (session_lists self.old)
-            → IfOk result (λ came. came.ended ≡ false → IsTrue came.moved) };
+            → IfServedBeside keeps_requests keeps_replies (λ worker. are_beside worker place self.old)
+            place (worker_lists self.old) (session_lists self.old) (CameAlong result) };
 
     // Steps may be none, or some and then others.
     ghost no_steps: { (run : Self) → step_on run run };

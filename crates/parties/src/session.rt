@@ -1,12 +1,12 @@
 //! A session of any level.
 ghost use Rattle.std.specs.Prelude.{◌≡◌, ◌≤◌, ◌<◌, ◌^◌, All, IfOk, [], false, length};
-ghost use Rattle.mail_contract.specs.Boxes.{FindsNothing, MayTake, box_of};
+ghost use Rattle.mail_contract.specs.OverBoxes as boxes;
 ghost use Rattle.mail_contract.specs.Standing.{AllPart};
 ghost use Rattle.session_known.specs.Script.{AreEnded};
 ghost use Rattle.session_proxy.specs.Lines.{AreReplicas, MayRun};
-ghost use Rattle.session_proxy.specs.Polls.{EndsWhereAnswered, Polls, WantsRoom, counts_of};
-ghost use Rattle.session_proxy.specs.Share.{Share};
-ghost use Rattle.session_proxy.specs.State.{IsFixed, KeysStay, lists_of, opening};
+ghost use Rattle.session_proxy.specs.OverProxies as over;
+ghost use Rattle.session_proxy.specs.Polls.{EndsWhereAnswered};
+ghost use Rattle.session_proxy.specs.State.{IsFixed, opening};
 ghost use Rattle.parties.specs.Session.{proxy_of};
 
 use lattice_laws::{Items, NoMemory};
@@ -56,8 +56,7 @@ impl<T: Tx<Request>, R: Rx<Reply>> SessionOver<T, R> {
           course = opening (record { session = me; level = level }) placement lines;
           ends = ends;
         }) }
-        ensures share { IfOk result (λ session.
-            Share (lists_of T.sent R.received (proxy_of session))) }
+        ensures share { IfOk result (λ session. over.Share T.Tx R.Rx (proxy_of session)) }
     {
         match level {
             Level::Eventual => {
@@ -80,20 +79,12 @@ impl<T: Tx<Request>, R: Rx<Reply>> SessionOver<T, R> {
     /// `NoMemory` the answers and what was sent are as before, and a reply that was taken is kept: a later
     /// call works on it.
     pub fn poll(&mut self) -> Result<Progress, NoMemory>
-        ensures share { Share (lists_of T.sent R.received (proxy_of self.new)) }
+        ensures share { over.Share T.Tx R.Rx (proxy_of self.new) }
         ensures fixed { IsFixed (proxy_of self.old).course (proxy_of self.new).course }
-        ensures keys { KeysStay T.key T.number R.key (proxy_of self.old) (proxy_of self.new) }
-        ensures polls { Polls result
-            (lists_of T.sent R.received (proxy_of self.old))
-            (lists_of T.sent R.received (proxy_of self.new))
-            (counts_of T.fulls R.answers (proxy_of self.old))
-            (counts_of T.fulls R.answers (proxy_of self.new))
-            (WantsRoom T.clear T.roomy T.unseen (proxy_of self.old).ends.requests.items)
-            (FindsNothing R.keeps
-            (box_of R.received R.answers R.about (proxy_of self.new).ends.replies)) }
-        ensures takes { MayTake R.keeps (R.senders (R.key (proxy_of self.old).ends.replies))
-            (box_of R.received R.answers R.about (proxy_of self.old).ends.replies)
-            (box_of R.received R.answers R.about (proxy_of self.new).ends.replies) }
+        ensures keys { over.KeysStay T.Tx R.Rx (proxy_of self.old) (proxy_of self.new) }
+        ensures polls { over.Polls T.Tx R.Rx result (proxy_of self.old) (proxy_of self.new) }
+        ensures takes { boxes.MayTake R.Rx
+            (proxy_of self.old).ends.replies (proxy_of self.new).ends.replies }
         ensures ended { EndsWhereAnswered result (proxy_of self.old).course }
     {
         match self {
@@ -127,10 +118,9 @@ impl<T: Tx<Request>, R: Rx<Reply>> SessionOver<T, R> {
 
     /// Nobody is beside the box of replies any longer. Takes no memory.
     pub fn apart(&mut self)
-        ensures share { Share (lists_of T.sent R.received (proxy_of self.new)) }
+        ensures share { over.Share T.Tx R.Rx (proxy_of self.new) }
         ensures course { (proxy_of self.new).course ≡ (proxy_of self.old).course }
-        ensures requests { (proxy_of self.new).ends.requests
-            ≡ (proxy_of self.old).ends.requests }
+        ensures requests { (proxy_of self.new).ends.requests ≡ (proxy_of self.old).ends.requests }
         ensures key { R.key (proxy_of self.new).ends.replies
             ≡ R.key (proxy_of self.old).ends.replies }
         ensures received { R.received (proxy_of self.new).ends.replies
@@ -150,7 +140,7 @@ impl<T: Tx<Request>, R: Rx<Reply>> SessionOver<T, R> {
     /// The answers and the ends; every line is answered. Takes no memory.
     pub fn finish(self) -> (Items<Answer>, SessionEndsOver<T, R>)
         requires { length (proxy_of self).course.answers ≡ length (proxy_of self).course.lines }
-        ensures share { Share (lists_of T.sent R.received (proxy_of self)) }
+        ensures share { over.Share T.Tx R.Rx (proxy_of self) }
         ensures answers { result.0 ≡ (proxy_of self).course.answers }
         ensures ends { result.1 ≡ (proxy_of self).ends }
     {

@@ -1,6 +1,5 @@
 //! Workers are held beside sessions and beside each other.
 ghost use Rattle.std.specs.Prelude.{◌≡◌, ◌≢◌, ◌+◌, ◌<◌, ◌^◌, ℕ, IsTrue, length};
-ghost use Rattle.parties.specs.Sweeping.{AllToAsks, FreeBoth};
 ghost use Rattle.run_waiting.specs.Told.{AreAllTold};
 
 use crate::Run;
@@ -8,23 +7,8 @@ use crate::parties::{Parties, Words};
 use party_turns::show_pair;
 use store_msg::Mail;
 
-/// Holds all parties of a run beside each other, so that what was taken is told to be a front of what was sent; and
-/// each reply that a session took is then known to be to an ask of it. Takes no memory.
-pub(crate) fn show_told<P: Mail>(parties: &mut Parties<P>)
-    requires free { FreeBoth P.ReqRx.keeps P.RepRx.keeps }
-    requires running { ⟦<Parties<P> as Run>⟧.is_running parties.old }
-    requires none_kept { ⟦<Parties<P> as Run>⟧.none_kept parties.old }
-    ensures stay { ⟦<Parties<P> as Words>⟧.stay parties.old parties.new }
-    ensures beside { (place at : ℕ) → ⟦<Parties<P> as Run>⟧.are_beside place at parties.new }
-    ensures told { AreAllTold (⟦<Parties<P> as Run>⟧.worker_lists parties.new)
-        (⟦<Parties<P> as Run>⟧.session_lists parties.new) }
-    ensures to_asks { AllToAsks (⟦<Parties<P> as Run>⟧.session_lists parties.new) }
-{
-    show_all(parties);
-}
-
 /// Holds every worker, ascending, beside every session and every other worker. Takes no memory.
-fn show_all<P: Mail>(parties: &mut Parties<P>)
+pub(crate) fn show_all<P: Mail>(parties: &mut Parties<P>)
     requires few { (length parties.old.workers.items + 1 < 2 ^ 16)
         × (length parties.old.sessions.items + 1 < 2 ^ 16) }
     requires ends { ⟦<Parties<P> as Words>⟧.have_ends parties.old }

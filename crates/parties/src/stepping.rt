@@ -1,15 +1,11 @@
 //! One party takes several steps.
-ghost use Rattle.std.specs.Prelude.{◌≡◌, ◌≤◌, false, IfOk, IsTrue, None, OnOk};
+ghost use Rattle.std.specs.Prelude.{◌≡◌, IfOk, IsTrue, None, OnOk};
 ghost use Rattle.parties.specs.Pace.{RoseAtMost};
-ghost use Rattle.parties.specs.Polling.{HasPolled, HasWaited, IsAllAnswered};
-ghost use Rattle.parties.specs.Progress.{HasMovedOn};
+ghost use Rattle.parties.specs.Polling.{HasPolled, IsAllAnswered};
+ghost use Rattle.parties.specs.Progress.{MovesOn, WaitsUnmoved};
 ghost use Rattle.parties.specs.Session.{proxy_of};
 ghost use Rattle.parties.specs.Turning.{HasTurned};
-ghost use Rattle.run_measure.specs.Laws.{IsPlaced};
-ghost use Rattle.run_measure.specs.Steps.{HasServed};
-ghost use Rattle.session_proxy.specs.Share.{Share};
-ghost use Rattle.session_proxy.specs.State as sessions;
-ghost use Rattle.worker_core.specs.State as workers;
+ghost use Rattle.party_turns.specs.OverWorkers as turned;
 
 use crate::{Pace, SessionOver};
 use lattice_laws::NoMemory;
@@ -28,9 +24,8 @@ pub fn turn_often<
 >(pace: &mut A, worker: &mut WorkerOver<Q, T, O, G>, most: u32) -> Result<(), NoMemory>
     ensures counted { RoseAtMost most (A.steps pace.old) (A.steps pace.new) }
     ensures turned { HasTurned Q.Rx T.Tx O.Tx G.GossipRx worker.old worker.new }
-    ensures served { worker.old.state.kept ≡ None → OnOk result (HasServed
-        (workers.lists_of Q.received T.sent O.sent G.got worker.old)
-        (workers.lists_of Q.received T.sent O.sent G.got worker.new)) }
+    ensures served { worker.old.state.kept ≡ None → OnOk result (turned.HasServed Q.Rx T.Tx O.Tx
+        G.GossipRx worker.old worker.new) }
 {
     worker.attest();
     for _ in 0..most {
@@ -69,13 +64,8 @@ pub fn poll_often<S: Tx<Request>, R: Rx<Reply>, A: Pace>(
     ensures polled { HasPolled S.Tx R.Rx (proxy_of session.old) (proxy_of session.new) }
     ensures ended { IfOk result (λ polled. IsTrue polled.ended
         → IsAllAnswered (proxy_of session.new)) }
-    ensures moved { IsPlaced (sessions.lists_of S.sent R.received (proxy_of session.old))
-        → Share (sessions.lists_of S.sent R.received (proxy_of session.old))
-        → IfOk result (λ polled. HasMovedOn polled
-        (sessions.lists_of S.sent R.received (proxy_of session.old))
-        (sessions.lists_of S.sent R.received (proxy_of session.new))) }
-    ensures waited { IfOk result (λ polled. polled.moved ≡ false → polled.ended ≡ false → 1 ≤ most
-        → HasWaited S.Tx R.Rx (proxy_of session.old)) }
+    ensures moved { MovesOn S.Tx R.Rx result (proxy_of session.old) (proxy_of session.new) }
+    ensures waited { WaitsUnmoved S.Tx R.Rx result most (proxy_of session.old) }
 {
     let mut moved = false;
     for _ in 0..most {

@@ -1,9 +1,12 @@
 -- Boxes are made one after another, and the senders of each are dealt to rows.
-use Rattle.std.specs.Prelude.{◌≡◌, ℕ, ◌<◌, ◌≤◌, Bool, List, [], ◌∷◌, ◌++◌, All, length, slice_get, Option, Some, None}
-use Rattle.std.specs.List.{remove}
+use Rattle.std.specs.Prelude.{◌≡◌, ℕ, ◌<◌, ◌≤◌, Bool, List, [], ◌∷◌, ◌++◌, All, length, map, slice_get, Option, Some, None, Vec}
+use Rattle.std.specs.Global.{Global}
+use Rattle.std.specs.List.{remove, zip}
 use Rattle.mail_contract.specs.Boxes.{SettlesWeak, WeakBox}
 use Rattle.mail_contract.specs.Parts.{Parts}
 use Rattle.mail_contract.specs.Standing.{About}
+use Rattle.store_msg.specs.declared.ends.SessionEndsOver.{SessionEndsOver}
+use Rattle.store_msg.specs.declared.ends.WorkerEndsOver.{WorkerEndsOver}
 use Rattle.party_turns.specs.Rows.{MayTakeIn}
 use Rattle.party_turns.specs.Making.{AreOfOneMaking, IsBoxOf, IsWeakBoxOf}
 
@@ -34,6 +37,14 @@ pub record AreNew {S P M K SK : Type 0} (sender_key : S → SK) (number : S → 
   pub boxes_are : length boxes ≡ many_boxes
   pub making : AreOfOneMaking sender_key number pairs key about skips rows boxes
   pub nothing_sent : All (All (λ sender. sent sender ≡ [])) rows
+
+-- the ends of sessions, and of workers, from those of each kind in the order of their owners
+abbrev pub session_ends : {S R : Type 0} → List (Vec S Global) → List R → List (SessionEndsOver S R)
+session_ends requests replies = map (λ its. record { requests = its.0; replies = its.1 }) (zip requests replies)
+
+abbrev pub worker_ends : {Q T O G : Type 0} → List Q → List (Vec T Global) → List (Vec O Global) → List G → List (WorkerEndsOver Q T O G)
+worker_ends requests replies gossip_out gossip_in =
+    map (λ its. record { requests = its.0.0; replies = its.0.1; gossip_out = its.1.0; gossip_in = its.1.1 }) (zip (zip requests replies) (zip gossip_out gossip_in))
 
 -- A box has received nothing, and none of its senders but those of the run is left to take in.
 abbrev pub IsEmptyBoxOf : {P M K : Type 0} → (ℕ → Type 0) → (P → K) → (K → ℕ) → (P → List (ℕ × M)) → (P → ℕ → About M) → P → Type 0

@@ -1,4 +1,5 @@
 pub mod AllEnds
 pub mod Dealt
 pub mod Fresh
+pub mod OverBoxes
 pub mod Parties

@@ -1,5 +1,8 @@
 -- The workers and the sessions of a script before their first step.
 use Rattle.std.specs.Prelude.{◌≡◌, ℕ, ◌+◌, List, [], All, length, slice_get, Option, Some, None}
+use Rattle.mail_contract.specs.declared.gossip.GossipRx as weak
+use Rattle.mail_contract.specs.declared.rx.Rx as boxes
+use Rattle.mail_contract.specs.declared.tx.Tx as senders
 use Rattle.session_known.specs.Accepted.{client_of}
 use Rattle.session_known.specs.declared.script.Script.{Script}
 use Rattle.session_known.specs.declared.script.SessionPlan.{SessionPlan}
@@ -19,6 +22,11 @@ pub record AreUnusedOfWorker {Q T O G : Type 0} (received : Q → List (ℕ × R
   pub none_got : (sender place : ℕ) → got ends.gossip_in sender place ≡ None
   pub none_replied : All (λ sender. replied sender ≡ []) ends.replies.items
   pub none_told : All (λ sender. told sender ≡ []) ends.gossip_out.items
+
+-- so by all that their traits let contracts see of them
+abbrev pub IsUnused : {S Q T O G SK QK TK OK GK : Type 0} → boxes.Ghosts Q Request S QK SK → senders.Ghosts T PlainReply TK → senders.Ghosts O Entries OK → weak.Ghosts G Entries O GK OK
+    → ℕ → WorkerEndsOver Q T O G → Type 0
+IsUnused requests replies told gossip = AreUnusedOfWorker requests.received gossip.got replies.sent told.sent
 
 -- The ends of a session: it has a sender of requests for each of so many workers, and nothing has gone through any of them.
 pub record AreUnusedOfSession {S R : Type 0} (asked : S → List Request) (heard : R → List (ℕ × PlainReply)) (workers : ℕ) (ends : SessionEndsOver S R) : Type 0 where

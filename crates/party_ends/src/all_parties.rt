@@ -1,8 +1,7 @@
 //! All ends of a run's parties, of one making.
-ghost use Rattle.std.specs.Prelude.{◌≡◌, ℕ, ◌+◌, ◌≤◌, false, true, All, map, slice_get, IfOk, Some};
-ghost use Rattle.party_turns.specs.Mates.{IsMate};
-ghost use Rattle.party_ends.specs.AllEnds.{AreAllEnds, AreNumbered};
-ghost use Rattle.party_ends.specs.Dealt.{AreNew, IsEmptyBoxOf, IsEmptyWeakBoxOf};
+ghost use Rattle.std.specs.Prelude.{◌≤◌, All, IfOk};
+ghost use Rattle.party_ends.specs.AllEnds.{AreAllEnds};
+ghost use Rattle.party_ends.specs.OverBoxes as over;
 ghost use Rattle.placement.specs.Config.{IsOneOf};
 
 use crate::assembling::{session_ends, worker_ends};
@@ -22,11 +21,9 @@ fn make_rows<M, S: Tx<M>, Q: Rx<M, From = S>, P: MakesMail<M, Mailbox = Q>>(
     boxes: u16,
     rows: u16,
 ) -> Result<(Vec<Vec<S>>, Vec<Q>), NoMemory>
-    ensures new { IfOk result (λ made. AreNew S.key S.number S.sent
-        Q.pairs Q.key Q.about false rows boxes
-        (map (λ row. row.items) made.0.items) made.1.items) }
-    ensures empty { IfOk result (λ made. All (IsEmptyBoxOf (IsOneOf rows)
-        Q.key Q.senders Q.received Q.about) made.1.items) }
+    ensures new { IfOk result (λ made. over.AreNew S.Tx Q.Rx rows boxes made.0.items made.1.items) }
+    ensures empty { IfOk result
+        (λ made. All (over.IsEmptyOf S.Tx Q.Rx (IsOneOf rows)) made.1.items) }
 {
     if rows == 0 {
         let spare = spare_boxes(post, alloc, boxes)?;
@@ -42,14 +39,11 @@ fn make_mates<M, O: Tx<M>, G: GossipRx<M, From = O>, P: MakesGossip<M, Mailbox =
     mates: u16,
 ) -> Result<(Vec<Vec<O>>, Vec<G>), NoMemory>
     requires { 1 ≤ mates }
-    ensures new { IfOk result (λ made. AreNew O.key O.number O.sent
-        G.pairs G.key G.about true mates mates
-        (map (λ row. row.items) made.0.items) made.1.items) }
-    ensures empty { IfOk result (λ made. (place : ℕ) (mailbox : G)
-        → slice_get made.1.items place ≡ Some mailbox
-        → IsEmptyWeakBoxOf (IsMate mates (place + 1)) G.key G.senders G.got G.about mailbox) }
-    ensures made_with { IfOk result (λ made. AreNumbered (P.numbers post.now)
-        (map (λ its. G.made_with (G.key its)) made.1.items)) }
+    ensures new { IfOk result (λ made. over.AreFresh O.Tx G.GossipRx
+        mates made.0.items made.1.items) }
+    ensures empty { IfOk result (λ made. over.AreEmptyOfMates O.Tx G.GossipRx mates made.1.items) }
+    ensures made_with { IfOk result (λ made. over.AreNumbered G.GossipRx
+        (P.numbers post.now) (λ its. its) made.1.items) }
 {
     let (rows, boxes) = make_all_weak(post, alloc, mates, mates)?;
     let mut rows = rows;
@@ -73,8 +67,8 @@ pub fn all_ends<P: MakesPost>(
     requires { 1 ≤ workers }
     ensures ends { IfOk result (λ ends. AreAllEnds ⟦<P as Tells>⟧.mail
         workers sessions ends.0.items ends.1.items) }
-    ensures made_with { IfOk result (λ ends. AreNumbered (P.numbers post.now)
-        (map (λ its. P.GosRx.made_with (P.GosRx.key its.gossip_in)) ends.0.items)) }
+    ensures made_with { IfOk result (λ ends. over.AreNumbered P.GosRx.GossipRx
+        (P.numbers post.now) (λ its. its.gossip_in) ends.0.items) }
 {
     let (asks, requests) = make_rows::<Request, P::ReqTx, P::ReqRx, P>(
         post, alloc, workers, sessions,

@@ -1,6 +1,6 @@
 //! The ends of each party are put together.
-ghost use Rattle.std.specs.Prelude.{◌≡◌, map, IfOk};
-ghost use Rattle.std.specs.List.{zip};
+ghost use Rattle.std.specs.Prelude.{◌≡◌, IfOk};
+ghost use Rattle.party_ends.specs.Dealt.{session_ends, worker_ends};
 
 use lattice_laws::NoMemory;
 use std::alloc::Global;
@@ -12,9 +12,7 @@ pub(crate) fn session_ends<S: Drop, R: Drop>(
     requests: Vec<Vec<S>>,
     replies: Vec<R>,
 ) -> Result<Vec<SessionEndsOver<S, R>>, NoMemory>
-    ensures { IfOk result (λ ends. ends.items
-        ≡ map (λ its. record { requests = its.0; replies = its.1 })
-        (zip requests.items replies.items)) }
+    ensures { IfOk result (λ ends. ends.items ≡ session_ends requests.items replies.items) }
 {
     let ends = requests
         .into_iter()
@@ -33,12 +31,8 @@ pub(crate) fn worker_ends<Q: Drop, T: Drop, O: Drop, G: Drop>(
     gossip_out: Vec<Vec<O>>,
     gossip_in: Vec<G>,
 ) -> Result<Vec<WorkerEndsOver<Q, T, O, G>>, NoMemory>
-    ensures { IfOk result (λ ends. ends.items ≡ map (λ its. record {
-      requests = its.0.0;
-      replies = its.0.1;
-      gossip_out = its.1.0;
-      gossip_in = its.1.1;
-    }) (zip (zip requests.items replies.items) (zip gossip_out.items gossip_in.items))) }
+    ensures { IfOk result (λ ends. ends.items ≡ worker_ends
+        requests.items replies.items gossip_out.items gossip_in.items) }
 {
     let ends = requests
         .into_iter()

@@ -1,7 +1,7 @@
 //! All parties of a run, before their first step.
 ghost use Rattle.std.specs.Prelude.{◌≡◌, ◌<◌, false, All, length, map, IfOk};
-ghost use Rattle.party_ends.specs.AllEnds.{AreNumbered};
-ghost use Rattle.party_ends.specs.Parties.{AreMadeOf, AreUnusedOfSession, AreUnusedOfWorker, IsNewSession, IsNewWorker};
+ghost use Rattle.party_ends.specs.OverBoxes as over;
+ghost use Rattle.party_ends.specs.Parties.{AreMadeOf, AreUnusedOfSession, IsNewSession, IsNewWorker, IsUnused};
 ghost use Rattle.parties.specs.Session.{proxy_of};
 ghost use Rattle.placement.specs.Config.{placed};
 ghost use Rattle.session_known.specs.Script.{IsValidScript};
@@ -26,8 +26,7 @@ fn new_worker<Q: Rx<Request>, T: Tx<Reply>, O: Tx<Batch>, G: GossipRx<Batch, Fro
 ) -> Result<WorkerOver<Q, T, O, G>, NoMemory>
     requires valid { IsValidScript script.now placement.now }
     requires within { place < script.now.config.workers }
-    requires unused { AreUnusedOfWorker Q.received G.got T.sent O.sent
-        script.now.config.workers ends }
+    requires unused { IsUnused Q.Rx T.Tx O.Tx G.GossipRx script.now.config.workers ends }
     ensures { IfOk result (IsNewWorker script.now placement.now place ends) }
 {
     let kinds = Items::new(script.kinds.as_slice().to_vec(alloc)?);
@@ -49,8 +48,8 @@ fn new_workers<Q: Rx<Request>, T: Tx<Reply>, O: Tx<Batch>, G: GossipRx<Batch, Fr
 ) -> Result<Vec<WorkerOver<Q, T, O, G>>, NoMemory>
     requires valid { IsValidScript script.now placement.now }
     requires many { length ends.items ≡ script.now.config.workers }
-    requires unused { All (AreUnusedOfWorker Q.received G.got T.sent O.sent
-        script.now.config.workers) ends.items }
+    requires unused { All (IsUnused Q.Rx T.Tx O.Tx G.GossipRx script.now.config.workers)
+        ends.items }
     ensures { IfOk result (λ workers. AreMadeOf (IsNewWorker script.now placement.now)
         ends.items workers.items) }
 {
@@ -62,41 +61,13 @@ fn new_workers<Q: Rx<Request>, T: Tx<Reply>, O: Tx<Batch>, G: GossipRx<Batch, Fr
     Ok(workers)
 }
 
-/// An equal line.
-fn copy_line(line: &Line) -> Result<Line, NoMemory>
-    ensures { IfOk result (λ copy. copy ≡ line.now) }
-{
-    Ok(match line {
-        Line::Put { key, payload } => Line::Put {
-            key: *key,
-            payload: payload.copy()?,
-        },
-        Line::Get { key, worker } => Line::Get {
-            key: *key,
-            worker: *worker,
-        },
-        Line::Await {
-            key,
-            session,
-            count,
-        } => Line::Await {
-            key: *key,
-            session: *session,
-            count: *count,
-        },
-        Line::Begin => Line::Begin,
-        Line::Commit => Line::Commit,
-        Line::Abort => Line::Abort,
-    })
-}
-
 /// Equal lines, in the same order.
 fn copy_lines(alloc: Global, lines: &[Line]) -> Result<Items<Line>, NoMemory>
     ensures { IfOk result (λ copies. copies ≡ lines.now) }
 {
     let mut copies = Items::new(Vec::new(alloc));
     for line in lines {
-        copies.push(copy_line(line)?)?;
+        copies.push(line.copy()?)?;
     }
     Ok(copies)
 }
@@ -154,9 +125,8 @@ pub fn new_parties<P: MakesPost>(
     ensures none_kept { IfOk result ⟦<Parties<P> as Run>⟧.none_kept }
     ensures none_waits { IfOk result (λ parties. All (λ proxy. proxy.course.waits ≡ false)
         (map proxy_of parties.sessions.items)) }
-    ensures made_with { IfOk result (λ parties. AreNumbered (P.numbers post.now)
-        (map (λ worker. P.GosRx.made_with (P.GosRx.key worker.ends.gossip_in))
-        parties.workers.items)) }
+    ensures made_with { IfOk result (λ parties. over.AreNumbered P.GosRx.GossipRx
+        (P.numbers post.now) (λ worker. worker.ends.gossip_in) parties.workers.items) }
 {
     let placement = Placement::build(alloc, &script.config)?;
     let many = script.sessions.as_slice().len() as u16;

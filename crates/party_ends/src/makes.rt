@@ -1,6 +1,6 @@
 //! How a box and its senders are made.
 ghost use Rattle.std.specs.Prelude.{◌≡◌, ℕ, ◌≤◌, List, IfOk};
-ghost use Rattle.party_ends.specs.Fresh.{IsFresh, IsFreshWeak};
+ghost use Rattle.party_ends.specs.OverBoxes as over;
 
 use lattice_laws::NoMemory;
 use mail_contract::{GossipRx, Rx};
@@ -19,10 +19,8 @@ pub trait MakesMail<M> {
         senders: u16,
     ) -> Result<(Vec<<Self::Mailbox as Rx<M>>::From>, Self::Mailbox), NoMemory>
         requires { 1 ≤ senders }
-        ensures { IfOk result (λ ends. IsFresh
-            Self.Mailbox.From.number Self.Mailbox.From.sent Self.Mailbox.From.key
-            Self.Mailbox.key Self.Mailbox.pairs Self.Mailbox.senders
-            Self.Mailbox.received Self.Mailbox.about senders ends.0.items ends.1) };
+        ensures { IfOk result (λ ends. over.IsFresh Self.Mailbox.From.Tx Self.Mailbox.Rx
+            senders ends.0.items ends.1) };
 }
 
 /// Makes weak boxes of one kind of mail.
@@ -42,10 +40,8 @@ pub trait MakesGossip<M> {
         senders: u16,
     ) -> Result<(Vec<<Self::Mailbox as GossipRx<M>>::From>, Self::Mailbox), NoMemory>
         requires { 1 ≤ senders }
-        ensures fresh { IfOk result (λ ends. IsFreshWeak
-            Self.Mailbox.From.number Self.Mailbox.From.sent Self.Mailbox.From.key
-            Self.Mailbox.key Self.Mailbox.pairs Self.Mailbox.senders
-            Self.Mailbox.got Self.Mailbox.about senders ends.0.items ends.1) }
+        ensures fresh { IfOk result (λ ends. over.IsFreshWeak
+            Self.Mailbox.From.Tx Self.Mailbox.GossipRx senders ends.0.items ends.1) }
         ensures made_with { IfOk result (λ ends.
             Self.Mailbox.made_with (Self.Mailbox.key ends.1) ≡ numbers self.now owner) };
 }

@@ -1,9 +1,9 @@
 //! Boxes of one kind of mail are made, and their senders dealt to rows: in each row stand the senders of
 //! one number, in the order of their boxes.
-ghost use Rattle.std.specs.Prelude.{◌≡◌, ◌≤◌, [], length, map, replicate, IfOk, OnOk};
-ghost use Rattle.party_ends.specs.AllEnds.{AreNumbered};
-ghost use Rattle.party_ends.specs.Dealt.{AreGiven, AreMade};
-ghost use Rattle.party_ends.specs.Fresh.{IsFresh, IsFreshWeak};
+ghost use Rattle.std.specs.Prelude.{◌≡◌, ◌≤◌, [], length, replicate, IfOk, OnOk};
+ghost use Rattle.party_ends.specs.Dealt.{AreGiven};
+ghost use Rattle.party_ends.specs.OverBoxes as over;
+ghost use Rattle.party_turns.specs.Rows.{rows_in};
 
 use crate::{MakesGossip, MakesMail};
 use lattice_laws::NoMemory;
@@ -13,8 +13,7 @@ use std::alloc::Global;
 /// Gives each row an item more, at its end: the one at its own place.
 fn deal<X: Drop>(rows: &mut Vec<Vec<X>>, items: Vec<X>) -> Result<(), NoMemory>
     requires { length items.items ≡ length rows.old.items }
-    ensures { OnOk result (AreGiven items.items
-        (map (λ row. row.items) rows.old.items) (map (λ row. row.items) rows.new.items)) }
+    ensures { OnOk result (AreGiven items.items (rows_in rows.old.items) (rows_in rows.new.items)) }
 {
     let mut items = items;
     while let Some(item) = items.pop() {
@@ -26,7 +25,7 @@ fn deal<X: Drop>(rows: &mut Vec<Vec<X>>, items: Vec<X>) -> Result<(), NoMemory>
 
 /// So many rows, with nothing in them.
 fn empty_rows<X: Drop>(alloc: Global, rows: u16) -> Result<Vec<Vec<X>>, NoMemory>
-    ensures { IfOk result (λ made. map (λ row. row.items) made.items ≡ replicate rows []) }
+    ensures { IfOk result (λ made. rows_in made.items ≡ replicate rows []) }
 {
     let mut made = Vec::new(alloc);
     for _ in 0..rows {
@@ -43,10 +42,7 @@ pub(crate) fn make_all<M, S: Tx<M>, Q: Rx<M, From = S>, P: MakesMail<M, Mailbox 
     senders: u16,
 ) -> Result<(Vec<Vec<S>>, Vec<Q>), NoMemory>
     requires { 1 ≤ senders }
-    ensures { IfOk result (λ made. AreMade
-        (IsFresh S.number S.sent S.key Q.key Q.pairs
-        Q.senders Q.received Q.about senders)
-        boxes senders (map (λ row. row.items) made.0.items) made.1.items) }
+    ensures { IfOk result (λ made. over.AreMade S.Tx Q.Rx boxes senders made.0.items made.1.items) }
 {
     let mut rows = empty_rows(alloc, senders)?;
     let mut made = Vec::new(alloc);
@@ -66,12 +62,10 @@ pub(crate) fn make_all_weak<M, O: Tx<M>, G: GossipRx<M, From = O>, P: MakesGossi
     senders: u16,
 ) -> Result<(Vec<Vec<O>>, Vec<G>), NoMemory>
     requires { 1 ≤ senders }
-    ensures made { IfOk result (λ made. AreMade
-        (IsFreshWeak O.number O.sent O.key G.key G.pairs
-        G.senders G.got G.about senders)
-        boxes senders (map (λ row. row.items) made.0.items) made.1.items) }
-    ensures made_with { IfOk result (λ made. AreNumbered (P.numbers post.now)
-        (map (λ its. G.made_with (G.key its)) made.1.items)) }
+    ensures made { IfOk result (λ made. over.AreMadeWeak O.Tx G.GossipRx
+        boxes senders made.0.items made.1.items) }
+    ensures made_with { IfOk result (λ made. over.AreNumbered G.GossipRx
+        (P.numbers post.now) (λ its. its) made.1.items) }
 {
     let mut rows = empty_rows(alloc, senders)?;
     let mut made = Vec::new(alloc);

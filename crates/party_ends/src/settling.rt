@@ -1,7 +1,8 @@
 //! Senders that are for nobody are taken in at once.
-ghost use Rattle.std.specs.Prelude.{◌≡◌, ℕ, List, All, length, map, slice_get, IfOk, Some};
-ghost use Rattle.mail_contract.specs.Boxes.{weak_box_of};
-ghost use Rattle.party_ends.specs.Dealt.{AreDoneBefore, IsEmptyBoxOf, MayTakeInOwn, TakesInOwn};
+ghost use Rattle.std.specs.Prelude.{◌≡◌, All, length, IfOk};
+ghost use Rattle.party_ends.specs.Dealt.{AreDoneBefore};
+ghost use Rattle.party_ends.specs.OverBoxes as over;
+ghost use Rattle.party_turns.specs.Rows.{rows_in};
 ghost use Rattle.placement.specs.Config.{IsOneOf};
 
 use crate::MakesMail;
@@ -10,18 +11,13 @@ use mail_contract::{GossipRx, Rx, Tx, settle_one, settle_weak};
 use std::alloc::Global;
 
 /// Takes in the sender at a place of a row. The others are left in the row.
-fn settle_own<M, O: Tx<M>, G: GossipRx<M, From = O>>(
-    row: &mut Vec<O>,
-    place: usize,
-    mailbox: &mut G,
-)
-    requires { MayTakeInOwn O.key O.number G.pairs G.key G.about place row.old.items mailbox.old }
-    ensures { TakesInOwn O.number O.sent G.key G.senders G.keeps
-        (weak_box_of G.got G.answers G.about G.due G.most)
-        place row.old.items row.new.items mailbox.old mailbox.new }
+fn settle_own<M, O: Tx<M>, G: GossipRx<M, From = O>>(row: &mut Vec<O>, place: usize, inbox: &mut G)
+    requires { over.MayTakeInOwn O.Tx G.GossipRx place row.old.items inbox.old }
+    ensures { over.TakesInOwn O.Tx G.GossipRx
+        place row.old.items row.new.items inbox.old inbox.new }
 {
     let own = row.remove(place);
-    settle_weak(mailbox, own);
+    settle_weak(inbox, own);
 }
 
 /// Each box takes in the sender at its own place of the row there.
@@ -30,14 +26,10 @@ pub(crate) fn settle_owns<M, O: Tx<M>, G: GossipRx<M, From = O>>(
     boxes: &mut Vec<G>,
 )
     requires square { length rows.old.items ≡ length boxes.old.items }
-    requires may { (place : ℕ) (row : List O) (mailbox : G)
-        → slice_get (map (λ row. row.items) rows.old.items) place ≡ Some row
-        → slice_get boxes.old.items place ≡ Some mailbox
-        → MayTakeInOwn O.key O.number G.pairs G.key G.about place row mailbox }
-    ensures { AreDoneBefore (TakesInOwn O.number O.sent G.key G.senders G.keeps
-        (weak_box_of G.got G.answers G.about G.due G.most))
-        (map (λ row. row.items) rows.old.items) boxes.old.items (length boxes.old.items)
-        (map (λ row. row.items) rows.new.items) boxes.new.items }
+    requires may { over.MayTakeInOwns O.Tx G.GossipRx (rows_in rows.old.items) boxes.old.items }
+    ensures { AreDoneBefore (over.TakesInOwn O.Tx G.GossipRx)
+        (rows_in rows.old.items) boxes.old.items (length boxes.old.items)
+        (rows_in rows.new.items) boxes.new.items }
 {
     for place in 0..boxes.len() {
         settle_own(&mut rows[place], place, &mut boxes[place]);
@@ -49,8 +41,7 @@ fn spare_box<M, S: Tx<M>, Q: Rx<M, From = S>, P: MakesMail<M, Mailbox = Q>>(
     post: &P,
     alloc: Global,
 ) -> Result<Q, NoMemory>
-    ensures { IfOk result (IsEmptyBoxOf (IsOneOf 0)
-        Q.key Q.senders Q.received Q.about) }
+    ensures { IfOk result (over.IsEmptyOf S.Tx Q.Rx (IsOneOf 0)) }
 {
     let (senders, mailbox) = post.make(alloc, 1)?;
     let mut senders = senders;
@@ -68,8 +59,7 @@ pub(crate) fn spare_boxes<M, S: Tx<M>, Q: Rx<M, From = S>, P: MakesMail<M, Mailb
     boxes: u16,
 ) -> Result<Vec<Q>, NoMemory>
     ensures long { IfOk result (λ made. length made.items ≡ boxes) }
-    ensures spare { IfOk result (λ made. All (IsEmptyBoxOf (IsOneOf 0)
-        Q.key Q.senders Q.received Q.about) made.items) }
+    ensures spare { IfOk result (λ made. All (over.IsEmptyOf S.Tx Q.Rx (IsOneOf 0)) made.items) }
 {
     let mut made = Vec::new(alloc);
     for _ in 0..boxes {

@@ -3,8 +3,7 @@ ghost use Rattle.std.specs.Prelude.{◌≡◌, ◌+◌, ◌++◌, ℕ, length, m
 ghost use Rattle.party_epochs.specs.Pieces.{Pairwise};
 ghost use Rattle.party_epochs.specs.Turns.{AreCounted, TakesAtMost, turns_of};
 ghost use Rattle.parties.specs.Progress.{HasMovedOn};
-ghost use Rattle.parties.specs.declared.stepping.Polled.{Polled as Came};
-ghost use Rattle.session_proxy.specs.State as sessions;
+ghost use Rattle.party_turns.specs.Places.{EachBecomes};
 
 use crate::parts::{PolledPart, Turned};
 use crate::{Gate, Piece, PolledOver, TurnedOver, run_both};
@@ -39,8 +38,8 @@ fn parts_of_workers<Q: Rx<Request>, T: Tx<Reply>, O: Tx<Batch>, G: GossipRx<Batc
     workers: Vec<WorkerOver<Q, T, O, G>>,
 ) -> Result<Vec<TurnedOver<Q, T, O, G>>, NoMemory>
     ensures workers { IfOk result (λ parts. map (λ part. part.worker) parts.items ≡ workers.items) }
-    ensures counted { IfOk result (λ parts. AreCounted turns.now 0
-        (map (λ part. part.turns) parts.items)) }
+    ensures counted { IfOk result
+        (λ all. AreCounted turns.now 0 (map (λ part. part.turns) all.items)) }
 {
     let mut parts = Vec::with_capacity(*workers.allocator(), workers.len())?;
     for worker in workers {
@@ -199,11 +198,9 @@ where
     ensures each { IfOk result (λ came. length came.items
         ≡ length (⟦<Parties<P> as Run>⟧.session_lists parties.old)) }
     ensures moved { ⟦<Parties<P> as Run>⟧.is_running parties.old
-        → IfOk result (λ came. (at : ℕ) (its : Came) (was is : sessions.Lists)
-        → slice_get came.items at ≡ Some its
-        → slice_get (⟦<Parties<P> as Run>⟧.session_lists parties.old) at ≡ Some was
-        → slice_get (⟦<Parties<P> as Run>⟧.session_lists parties.new) at ≡ Some is
-        → HasMovedOn its was is) }
+        → IfOk result (λ came. EachBecomes came.items
+        (⟦<Parties<P> as Run>⟧.session_lists parties.old)
+        (⟦<Parties<P> as Run>⟧.session_lists parties.new) HasMovedOn) }
 {
     let alloc = *parties.sessions.allocator();
     let workers = replace(&mut parties.workers, Vec::new(alloc));

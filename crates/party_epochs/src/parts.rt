@@ -23,7 +23,7 @@ pub struct TurnedOver<Q: Rx<Request>, T: Tx<Reply>, O: Tx<Batch>, G: GossipRx<Ba
 impl<Q: Rx<Request>, T: Tx<Reply>, O: Tx<Batch>, G: GossipRx<Batch, From = O>> Piece
     for TurnedOver<Q, T, O, G> {
     ghost use Rattle.std.specs.Prelude.{◌≡◌, None};
-    ghost use Rattle.run_measure.specs.Steps.{HasServed};
+    ghost use Rattle.parties.specs.Steps.{HasServed};
     ghost use Rattle.parties.specs.Pace.{RoseAtMost};
     ghost use Rattle.parties.specs.Turning.{HasTurned};
     ghost use Rattle.worker_core.specs.State as workers;
@@ -67,7 +67,7 @@ impl<S: Tx<Request>, R: Rx<Reply>> Piece for PolledOver<S, R> {
     ghost use Rattle.parties.specs.Pace.{RoseAtMost};
     ghost use Rattle.parties.specs.Polling.{HasPolled, IsAllAnswered};
     ghost use Rattle.parties.specs.Progress.{HasMovedOn};
-    ghost use Rattle.run_measure.specs.Laws.{IsPlaced};
+    ghost use Rattle.parties.specs.Laws.{IsPlaced};
     ghost use Rattle.session_proxy.specs.Share.{Share};
     ghost use Rattle.session_proxy.specs.State as sessions;
 

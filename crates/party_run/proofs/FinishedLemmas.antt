@@ -11,7 +11,7 @@ use Rattle.session_proxy.specs.State.{PlainProxy, lists_of}
 use Rattle.store_msg.specs.Reply.{PlainReply}
 use Rattle.store_msg.specs.declared.request.Request.{Request}
 use Rattle.worker_core.specs.State.{PlainWorker}
-use Rattle.run_ledger.specs.Parties.{HasEnded, HaveEnded}
+use Rattle.drain_ledger.specs.Parties.{HasEnded, HaveEnded}
 use Rattle.party_turns.specs.Mates.{IsMate}
 use Rattle.party_turns.specs.Making.{AreOfOneMaking, IsBoxOf, IsWeakBoxOf}
 use Rattle.drain_ledger.specs.Handed.{AreHandedOver, lists_left}

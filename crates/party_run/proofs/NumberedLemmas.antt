@@ -8,7 +8,7 @@ use Rattle.store_msg.specs.Reply.{PlainReply}
 use Rattle.store_msg.specs.declared.request.Request.{Request}
 use Rattle.worker_core.specs.Sealed.{PlainSealed}
 use Rattle.worker_core.specs.State.{Entries, PlainWorker}
-use Rattle.run_ledger.proofs.WorkersLemmas.{workers_long}
+use Rattle.drain_ledger.proofs.WorkersLemmas.{workers_long}
 use Rattle.party_turns.proofs.ItemsLemmas.{same_made, made_of_made}
 use Rattle.drain_ledger.specs.Drained.{GoesOn, IsDrained, end_in, ledger_in}
 use Rattle.party_ends.specs.AllEnds.{AreNumbered}

@@ -7,7 +7,7 @@ use Rattle.party_turns.proofs.ItemsLemmas.{all_there, at_its_place, of_mapped, t
 use Rattle.party_turns.specs.Ends.{Ends, session_lists}
 use Rattle.run_measure.proofs.DoneLemmas.{done_rises}
 use Rattle.run_measure.specs.Steps.{HasDone, done}
-use Rattle.run_waiting.specs.Waiting.{AreSigned, AreToAsks, AwaitsMissing}
+use Rattle.parties.specs.Waiting.{AreSigned, AreToAsks, AwaitsMissing}
 use Rattle.party_turns.proofs.TogetherLemmas.{done_more, done_no_less}
 use Rattle.parties.specs.Progress.{HasMovedOn}
 use Rattle.parties.specs.declared.stepping.Polled.{Polled}

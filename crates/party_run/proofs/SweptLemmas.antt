@@ -7,7 +7,7 @@ use Rattle.session_proxy.specs.State.{Lists}
 use Rattle.worker_core.specs.State as workers
 use Rattle.party_turns.proofs.ItemsLemmas.{all_there, at_its_place, there_is, there_too}
 use Rattle.run_measure.specs.Steps.{HasDone, done}
-use Rattle.run_waiting.specs.Waiting.{AreSigned, AreToAsks, AwaitsMissing}
+use Rattle.parties.specs.Waiting.{AreSigned, AreToAsks, AwaitsMissing}
 use Rattle.party_turns.proofs.TogetherLemmas.{done_more, done_no_less}
 use Rattle.parties.specs.Progress.{HasMovedOn}
 use Rattle.parties.specs.Sweeping.{AllAwait, AllServed, AllToAsks, AreServed, HasEnded, MovesOrEnds, rested_at}

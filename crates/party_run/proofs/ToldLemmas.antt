@@ -11,7 +11,7 @@ use Rattle.party_turns.proofs.ItemsLemmas.{mapped, of_mapped}
 use Rattle.party_turns.specs.Ends.{Ends, session_lists, worker_lists}
 use Rattle.parties.specs.Polling.{left_by}
 use Rattle.run_measure.specs.Measure.{AreAllCounted, replied}
-use Rattle.run_waiting.specs.Told.{AreAllTold}
+use Rattle.parties.specs.Told.{AreAllTold}
 
 -- the place of a number from 1
 place_of : (at : ℕ) → at + 1 - 1 ≡ at

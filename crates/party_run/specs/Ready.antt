@@ -2,7 +2,7 @@
 use Rattle.std.specs.Prelude.{◌≡◌, ℕ, ◌+◌, ◌≤◌, Bool, false, IsTrue, List, sum_by}
 use Rattle.session_proxy.specs.State as sessions
 use Rattle.run_measure.specs.Steps.{done}
-use Rattle.parties.specs.Sweeping.{AllAwait, AllServed, AllToAsks, EachMoves, FreeBoth, rested_at}
+use Rattle.parties.specs.Sweeping.{AllAwait, AllServed, AllToAsks, EachMoves, EachStays, FreeBoth, rested_at}
 use Rattle.parties.specs.declared.run.Run.{Ghosts}
 use Rattle.parties.specs.declared.stepping.Polled.{Polled}
 
@@ -28,3 +28,11 @@ pub record HasSwept (came : List Polled) (ended : Bool) (before now : List sessi
   pub await_theirs : AllAwait now
   pub moved : EachMoves (λ at. rested_at came at ≡ false) before now
   pub done_more : ended ≡ false → ((at : ℕ) → rested_at came at ≡ false) → sum_by done before + 1 ≤ sum_by done now
+
+module _ {R : Type 0} (run : Ghosts R) where
+  -- the sessions of which an ask came to nothing stay as they were, and the others were polled
+  abbrev pub RestedStay : List Polled → R → R → Type 0
+  RestedStay came before now = EachStays (λ at. IsTrue (rested_at came at)) (run.session_lists before) (run.session_lists now)
+
+  abbrev pub WasSwept : List Polled → Bool → R → R → Type 0
+  WasSwept came ended before now = HasSwept came ended (run.session_lists before) (run.session_lists now)

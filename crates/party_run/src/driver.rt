@@ -1,12 +1,12 @@
 //! The rounds of a run: an epoch, and a sweep over all parties after it.
-ghost use Rattle.std.specs.Prelude.{◌≡◌, ◌+◌, ◌≤◌, false, map, sum_by, IfOk, IsTrue, OnOk, ⊤};
-ghost use Rattle.drain_ledger.specs.Drained.{IsDrained, ledger_in};
-ghost use Rattle.drain_turns.specs.Ready.{FreesPlaces};
+ghost use Rattle.std.specs.Prelude.{◌≡◌, ◌+◌, ◌≤◌, false, sum_by, IfOk, IsTrue, OnOk, ⊤};
+ghost use Rattle.drain_ledger.specs.OverBoxes as boxes;
+ghost use Rattle.drain_ledger.specs.Ready.{FreesPlaces};
 ghost use Rattle.parties.specs.Sweeping.{AllAwait, AllToAsks, AreAnswered, EachMoves, FreeBoth};
-ghost use Rattle.party_ends.specs.AllEnds.{AreNumbered};
+ghost use Rattle.party_ends.specs.OverBoxes as made;
 ghost use Rattle.placement.specs.Config.{placed};
 ghost use Rattle.run_measure.specs.Steps.{done};
-ghost use Rattle.run_waiting.specs.Told.{AreAllTold};
+ghost use Rattle.parties.specs.Told.{AreAllTold};
 ghost use Rattle.session_known.specs.Script.{IsValidScript};
 
 use crate::finishing::finish_run;
@@ -41,11 +41,10 @@ where
     requires finite { IsTrue P.GosRx.keeps.finite }
     requires room { FreesPlaces P.GosRx.keeps }
     requires valid { IsValidScript script.now (placed script.now.config) }
-    ensures drained { IfOk result (λ drained. IsDrained script.now drained.report
-        (ledger_in P.ReqRx.received P.GosRx.got P.RepRx.received
-        drained.workers.items drained.replies.items)) }
-    ensures made_with { IfOk result (λ drained. AreNumbered (P.numbers post.now)
-        (map (λ its. P.GosRx.made_with (P.GosRx.key its.gossip_in)) drained.workers.items)) }
+    ensures drained { IfOk result (λ drained. boxes.IsDrained P.ReqRx.Rx P.GosRx.GossipRx P.RepRx.Rx
+        script.now drained.report drained.workers.items drained.replies.items) }
+    ensures made_with { IfOk result (λ drained. made.AreNumbered P.GosRx.GossipRx
+        (P.numbers post.now) (λ its. its.gossip_in) drained.workers.items) }
 {
     let mut parties = new_parties(post, alloc, script)?;
     run_rounds(rt, gate, alloc, &mut parties)?;
@@ -119,7 +118,8 @@ where
         → AreAnswered (⟦<Parties<P> as Run>⟧.session_lists parties.new)) }
     ensures told { OnOk result (AreAllTold (⟦<Parties<P> as Run>⟧.worker_lists parties.new)
         (⟦<Parties<P> as Run>⟧.session_lists parties.new)) }
-    ensures await_theirs { OnOk result (AllAwait (⟦<Parties<P> as Run>⟧.session_lists parties.new)) }
+    ensures await_theirs { OnOk result
+        (AllAwait (⟦<Parties<P> as Run>⟧.session_lists parties.new)) }
     ensures to_asks { OnOk result (AllToAsks (⟦<Parties<P> as Run>⟧.session_lists parties.new)) }
 {
     parties.part_all();

@@ -22,7 +22,7 @@ mod waiting;
 
 pub use drain_ledger::Drained;
 pub use driver::{round, run_rounds, serve_with};
-pub use party_ends::{QueuePost, RingPost};
+pub use party_ends::{MakesGossip, MakesMail, MakesPost, QueuePost, RingPost};
 pub use party_epochs::{FreeGate, Gate};
 pub use party_turns::Waiting;
 pub use serving::serve;

@@ -1,6 +1,6 @@
 //! A script is served over rings.
 ghost use Rattle.std.specs.Prelude.{IfOk};
-ghost use Rattle.drain_ledger.specs.Drained.{IsDrained, ledger_in};
+ghost use Rattle.drain_ledger.specs.OverBoxes as boxes;
 ghost use Rattle.placement.specs.Config.{placed};
 ghost use Rattle.session_known.specs.Script.{IsValidScript};
 
@@ -25,10 +25,9 @@ pub fn serve<E: Gate + Sync, H: Threads + Sync>(
     script: &Script,
 ) -> Result<Drained<RingPost>, NoMemory>
     requires { IsValidScript script.now (placed script.now.config) }
-    ensures { IfOk result (λ drained. IsDrained script.now drained.report
-        (ledger_in ⟦<RingRx<Request> as Rx<Request>>⟧.received
-        ⟦<RingRx<Batch> as GossipRx<Batch>>⟧.got ⟦<RingRx<Reply> as Rx<Reply>>⟧.received
-        drained.workers.items drained.replies.items)) }
+    ensures { IfOk result (λ drained. boxes.IsDrained ⟦<RingRx<Request> as Rx<Request>>⟧
+        ⟦<RingRx<Batch> as GossipRx<Batch>>⟧ ⟦<RingRx<Reply> as Rx<Reply>>⟧
+        script.now drained.report drained.workers.items drained.replies.items) }
 {
     serve_with(rt, gate, &RingPost, alloc, script)
 }

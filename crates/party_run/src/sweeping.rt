@@ -1,9 +1,9 @@
 //! One sweep.
 ghost use Rattle.std.specs.Prelude.{◌≡◌, ◌<◌, All, false, IfOk, IsTrue, OnOk};
-ghost use Rattle.parties.specs.Sweeping.{AllServed, AllToAsks, AreAnswered, EachStays, FreeBoth, rested_at};
-ghost use Rattle.party_run.specs.Ready.{HasSwept, IsReady, IsServed};
-ghost use Rattle.run_waiting.specs.Told.{AreAllTold};
-ghost use Rattle.run_waiting.specs.Waiting.{AreSigned};
+ghost use Rattle.parties.specs.Sweeping.{AllServed, AllToAsks, AreAnswered, FreeBoth, rested_at};
+ghost use Rattle.party_run.specs.Ready.{IsReady, IsServed, RestedStay, WasSwept};
+ghost use Rattle.parties.specs.Told.{AreAllTold};
+ghost use Rattle.parties.specs.Waiting.{AreSigned};
 
 use lattice_laws::NoMemory;
 use parties::{MOST_POLLS, Polled, Run};
@@ -20,10 +20,8 @@ pub fn sweep<R: Run>(came: &[Polled], run: &mut R) -> Result<bool, NoMemory>
     ensures ended { IfOk result (λ ended. IsTrue ended → AreAnswered (R.session_lists run.new)) }
     ensures told { OnOk result (AreAllTold (R.worker_lists run.new) (R.session_lists run.new)) }
     ensures to_asks { OnOk result (AllToAsks (R.session_lists run.new)) }
-    ensures rested { OnOk result (EachStays (λ at. IsTrue (rested_at came.now at))
-        (R.session_lists run.old) (R.session_lists run.new)) }
-    ensures swept { IfOk result (λ ended. HasSwept came.now ended
-        (R.session_lists run.old) (R.session_lists run.new)) }
+    ensures rested { OnOk result (RestedStay R.Run came.now run.old run.new) }
+    ensures swept { IfOk result (λ ended. WasSwept R.Run came.now ended run.old run.new) }
 {
     run.show_all();
     turn_workers(run)?;
@@ -68,10 +66,9 @@ fn rested_at(came: &[Polled], place: usize) -> bool
 pub(crate) fn poll_sessions<R: Run>(came: &[Polled], run: &mut R) -> Result<bool, NoMemory>
     ensures steps { OnOk result (R.step_on run.old run.new) }
     ensures ended { IfOk result (λ ended. IsTrue ended → AreAnswered (R.session_lists run.new)) }
-    ensures rested { OnOk result (EachStays (λ at. IsTrue (rested_at came.now at))
-        (R.session_lists run.old) (R.session_lists run.new)) }
-    ensures swept { IsServed R.Run run.old → IfOk result (λ ended. HasSwept came.now ended
-        (R.session_lists run.old) (R.session_lists run.new)) }
+    ensures rested { OnOk result (RestedStay R.Run came.now run.old run.new) }
+    ensures swept { IsServed R.Run run.old → IfOk result (λ ended. WasSwept R.Run came.now ended
+        run.old run.new) }
 {
     let mut all_ended = true;
     for place in 0..run.sessions() {
@@ -79,7 +76,7 @@ pub(crate) fn poll_sessions<R: Run>(came: &[Polled], run: &mut R) -> Result<bool
             all_ended = false;
         } else {
             let its = run.poll_session(place, MOST_POLLS)?;
-            all_ended = all_ended && its.ended;
+            all_ended = all_ended & its.ended;
         }
     }
     Ok(all_ended)

@@ -1,8 +1,8 @@
 //! A script is served for as long as it takes, over any ends.
-ghost use Rattle.std.specs.Prelude.{map, IfOk, OnOk};
-ghost use Rattle.drain_ledger.specs.Drained.{IsDrained, ledger_in};
+ghost use Rattle.std.specs.Prelude.{IfOk, OnOk};
+ghost use Rattle.drain_ledger.specs.OverBoxes as boxes;
 ghost use Rattle.parties.specs.Sweeping.{AreAnswered};
-ghost use Rattle.party_ends.specs.AllEnds.{AreNumbered};
+ghost use Rattle.party_ends.specs.OverBoxes as made;
 ghost use Rattle.placement.specs.Config.{placed};
 ghost use Rattle.session_known.specs.Script.{IsValidScript};
 
@@ -38,11 +38,10 @@ where
     P::GosTx: Send,
     P::GosRx: Send,
     requires valid { IsValidScript script.now (placed script.now.config) }
-    ensures drained { IfOk result (λ drained. IsDrained script.now drained.report
-        (ledger_in P.ReqRx.received P.GosRx.got P.RepRx.received
-        drained.workers.items drained.replies.items)) }
-    ensures made_with { IfOk result (λ drained. AreNumbered (P.numbers post.now)
-        (map (λ its. P.GosRx.made_with (P.GosRx.key its.gossip_in)) drained.workers.items)) }
+    ensures drained { IfOk result (λ drained. boxes.IsDrained P.ReqRx.Rx P.GosRx.GossipRx P.RepRx.Rx
+        script.now drained.report drained.workers.items drained.replies.items) }
+    ensures made_with { IfOk result (λ drained. made.AreNumbered P.GosRx.GossipRx
+        (P.numbers post.now) (λ its. its.gossip_in) drained.workers.items) }
 {
     let mut parties = new_parties(post, alloc, script)?;
     run_epochs(rt, by, gate, alloc, &mut parties)?;

@@ -5,7 +5,8 @@ use Rattle.std.proofs.lemmas.Bool.{cases_lt}
 use Rattle.std.proofs.lemmas.List.{get_or_past, length-append, length-drop, length-map, length-take}
 use Rattle.std.proofs.lemmas.List.Sums.{sum_by-cons}
 use Rattle.worker_core.specs.State.{Entries, Lists, changed_of, dirty}
-use Rattle.worker_core.specs.Turns.{Gossips, batches, left_over, went_out}
+use Rattle.worker_core.specs.Batches.{batches, left_over, went_out}
+use Rattle.worker_core.specs.Turns.{Gossips}
 use Rattle.party_turns.specs.Turning.{Owes}
 
 -- no more keys are left over than there were,

@@ -8,7 +8,7 @@ use Rattle.mail_contract.specs.Standing.{About}
 use Rattle.mail_contract.specs.Takes.{Answers}
 use Rattle.store_msg.specs.Reply.{PlainReply}
 use Rattle.store_msg.specs.declared.request.Request.{Request}
-use Rattle.worker_core.specs.Room.{RoomAt}
+use Rattle.worker_core.specs.Batches.{RoomAt}
 use Rattle.worker_core.specs.State.{Entries, Lists, PlainWorker, State, dirty, kept_request, lists_of}
 use Rattle.worker_core.specs.Turns.{AreFirstBack, Counts, IsTaken, KeepsBatch, KeepsRequest, OnNoneSent, SomeRose, StayOrCameBack, Turns, counts_of, joined_in}
 use Rattle.worker_core.specs.declared.did.Did.{Did}

@@ -1,6 +1,8 @@
 pub mod Ends
 pub mod Making
 pub mod Mates
+pub mod OverWorkers
+pub mod Places
 pub mod Rows
 pub mod Running
 pub mod Steps

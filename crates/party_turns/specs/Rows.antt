@@ -1,6 +1,10 @@
 -- Rows of senders, in each row one for each party, or for each but one; and what it is to take in senders.
-use Rattle.std.specs.Prelude.{◌≡◌, ◌&&◌, ◌==◌, ℕ, ◌+◌, ◌-◌, if◌then◌else◌, ltb, Bool, List, [], ◌∷◌, ◌++◌, slice_get, Option, Some, None, ⊤}
+use Rattle.std.specs.Prelude.{◌≡◌, ◌&&◌, ◌==◌, ℕ, ◌+◌, ◌-◌, if◌then◌else◌, ltb, Bool, List, [], ◌∷◌, ◌++◌, map, slice_get, Option, Some, None, Vec, ⊤}
 use Rattle.mail_contract.specs.Standing.{About, IsSettled}
+
+-- rows, each as the list that it holds
+abbrev pub rows_in : {X A : Type 0} → List (Vec X A) → List (List X)
+rows_in rows = map (λ row. row.items) rows
 
 -- a party takes in several senders, the last of them first
 abbrev pub TakesAll : {S P : Type 0} → (S → P → P → Type 0) → List S → P → P → Type 0

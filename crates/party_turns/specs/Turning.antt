@@ -9,7 +9,7 @@ use Rattle.mail_contract.specs.Takes.{IsFrontOfSent, from_sender}
 use Rattle.placement.specs.Config.{IsOneOf}
 use Rattle.store_msg.specs.Reply.{PlainReply}
 use Rattle.store_msg.specs.declared.request.Request.{Request}
-use Rattle.worker_core.specs.Room.{RoomAt}
+use Rattle.worker_core.specs.Batches.{RoomAt}
 use Rattle.worker_core.specs.Serving.{NoneTakenBack}
 use Rattle.worker_core.specs.State.{Entries, IsFixed, KeysStay, PlainWorker, dirty, kept_request}
 

@@ -1,6 +1,6 @@
 //! Two workers are held beside each other.
 ghost use Rattle.std.specs.Prelude.{◌≢◌, ◌<◌, length};
-ghost use Rattle.party_turns.specs.Mates.{AreMates, AreShown};
+ghost use Rattle.party_turns.specs.OverWorkers as over;
 
 use mail_contract::{GossipRx, Rx, Tx};
 use store_msg::{Batch, Reply, Request};
@@ -15,9 +15,8 @@ pub fn show_pair<T: Tx<Reply>, O: Tx<Batch>, Q: Rx<Request>, G: GossipRx<Batch, 
 )
     requires within { (place < length workers.old) × (other < length workers.old) }
     requires differ { other ≢ place }
-    requires mates { AreMates O.key O.number G.key G.pairs workers.old }
-    ensures shown { AreShown O.key O.number O.sent O.clear O.unseen G.key G.keeps G.got G.about
-        G.due place other workers.old workers.new }
+    requires mates { over.AreMates O.Tx G.GossipRx workers.old }
+    ensures shown { over.AreShown O.Tx G.GossipRx place other workers.old workers.new }
 {
     let low = place.min(other);
     let high = place.max(other);

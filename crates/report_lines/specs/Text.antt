@@ -1,5 +1,5 @@
 -- The text of a report: lines, each a list of words, and one rendering of them to bytes.
-use Rattle.std.specs.Prelude.{ℕ, ◌==◌, if◌then◌else◌, List, [], ◌∷◌, ◌++◌, map, codes, Option, Some, None}
+use Rattle.std.specs.Prelude.{◌≡◌, ℕ, ◌==◌, if◌then◌else◌, List, [], ◌∷◌, ◌++◌, map, codes, Option, Some, None}
 use Rattle.std.specs.List.{join_with_byte, flat_map}
 use Rattle.std.specs.Fmt.{decimal}
 use Rattle.lattice_laws.specs.declared.maybe.Maybe.TheVariants.{Bottom, Is}
@@ -7,7 +7,8 @@ use Rattle.basic_lattices.specs.declared.stamped.Stamped.{Stamped}
 use Rattle.version_antichain.specs.declared.version.Version.{Version}
 use Rattle.composed_value.specs.declared.value.Value.{Value}
 use Rattle.composed_value.specs.declared.value.Value.TheVariants as values
-use Rattle.session_known.specs.Script.{key_name, session_name}
+use Rattle.session_known.specs.Form.{HasForm}
+use Rattle.session_known.specs.Script.{IsValidScript, key_name, session_name}
 use Rattle.session_known.specs.declared.report.Answer.{Answer}
 use Rattle.session_known.specs.declared.report.Answer.TheVariants as answers
 use Rattle.session_known.specs.declared.report.FinalCell.{FinalCell}
@@ -36,6 +37,10 @@ braced (item ∷ items) = codes "{" ++ (join_with_byte 44 (item ∷ items) ++ co
 abbrev pub count_text : Script → ℕ × ℕ → List ℕ
 count_text script entry = session_name script entry.0 ++ (codes ":" ++ decimal entry.1)
 
+-- the counts of a clock, between commas
+abbrev pub counts_text : Script → List (ℕ × ℕ) → List ℕ
+counts_text script clock = join_with_byte 44 (map (count_text script) clock)
+
 abbrev pub clock_word : Script → List (ℕ × ℕ) → List ℕ
 clock_word script clock = listed (map (count_text script) clock)
 
@@ -43,12 +48,20 @@ clock_word script clock = listed (map (count_text script) clock)
 abbrev pub need_text : Script → ℕ × List (ℕ × ℕ) → List ℕ
 need_text script entry = key_name script entry.0 ++ (codes "{" ++ (clock_word script entry.1 ++ codes "}"))
 
+-- the keys that are needed with their clocks, between commas
+abbrev pub each_need_text : Script → List (ℕ × List (ℕ × ℕ)) → List ℕ
+each_need_text script needs = join_with_byte 44 (map (need_text script) needs)
+
 abbrev pub needs_word : Script → List (ℕ × List (ℕ × ℕ)) → List ℕ
 needs_word script needs = listed (map (need_text script) needs)
 
 -- a field with its number: `FIELD=NUMBER`
 abbrev pub field_text : List ℕ × ℕ → List ℕ
 field_text field = field.0 ++ (codes "=" ++ decimal field.1)
+
+-- the fields of a map, between commas
+abbrev pub fields_text : List (List ℕ × ℕ) → List ℕ
+fields_text fields = join_with_byte 44 (map field_text fields)
 
 -- a stamped word: `WORD/NUMBER/SESSION/PLACE`
 abbrev pub stamped_text : Script → Stamped → List ℕ
@@ -58,10 +71,14 @@ stamped_text script stamped = stamped.word ++ (codes "/" ++ (decimal stamped.num
 abbrev pub version_text : Script → Version → List ℕ
 version_text script version = version.word ++ (codes "(" ++ (clock_word script version.clock ++ codes ")"))
 
--- versions between vertical bars, or `none` where there is none
+-- versions between vertical bars
+abbrev pub each_version_text : Script → List Version → List ℕ
+each_version_text script versions = join_with_byte 124 (map (version_text script) versions)
+
+-- the same, or `none` where there is none
 abbrev pub versions_word : Script → List Version → List ℕ
 versions_word script [] = codes "none"
-versions_word script (version ∷ versions) = join_with_byte 124 (map (version_text script) (version ∷ versions))
+versions_word script (version ∷ versions) = each_version_text script (version ∷ versions)
 
 abbrev pub value_word : Script → Value → List ℕ
 value_word script (values.Max Bottom) = codes "none"
@@ -99,17 +116,37 @@ shown_words script worker shown = worker_word worker ∷ cell_words script shown
 abbrev pub again_words : Script → ℕ → ℕ → List (ℕ × ℕ) → List (List ℕ)
 again_words script asks worker clock = codes "after" ∷ decimal asks ∷ worker_word worker ∷ codes "clock" ∷ clock_word script clock ∷ []
 
+-- an end of asking in the answer to an await: `gave up after ASKS @W clock CLOCK`
+abbrev pub gave_up_words : Script → ℕ → ℕ → List (ℕ × ℕ) → List (List ℕ)
+gave_up_words script asks worker clock = codes "gave" ∷ codes "up" ∷ again_words script asks worker clock
+
+-- what an answer says of a put: `put K` and more
+abbrev pub put_words : Script → ℕ → List (List ℕ) → List (List ℕ)
+put_words script key later = codes "put" ∷ key_name script key ∷ later
+
+-- what is awaited, so many puts of a session on a key: `K SESSION COUNT` and more
+abbrev pub awaited_words : Script → ℕ → ℕ → ℕ → List (List ℕ) → List (List ℕ)
+awaited_words script key session count later = key_name script key ∷ session_name script session ∷ decimal count ∷ later
+
+-- the number of a put or of the puts of a commit, with the Lamport number: `NUMBER at LAMPORT`
+abbrev pub number_at : List ℕ → List ℕ → List (List ℕ)
+number_at number lamport = number ∷ codes "at" ∷ lamport ∷ []
+
+-- a commit, which has a Lamport number where it has puts
+abbrev pub commit_words : ℕ → ℕ → List (List ℕ)
+commit_words puts lamport = if puts == 0 then codes "commit" ∷ codes "0" ∷ [] else codes "commit" ∷ number_at (decimal puts) (decimal lamport)
+
 -- the line of an answer
 abbrev pub answer_words : Script → Line → Answer → List (List ℕ)
-answer_words script (lines.Put key payload) (answers.Put number lamport) = codes "put" ∷ key_name script key ∷ decimal number ∷ codes "at" ∷ decimal lamport ∷ []
-answer_words script (lines.Put key payload) answers.Held = codes "put" ∷ key_name script key ∷ codes "held" ∷ []
-answer_words script (lines.Put key payload) answers.Worn = codes "put" ∷ key_name script key ∷ codes "worn" ∷ []
+answer_words script (lines.Put key payload) (answers.Put number lamport) = put_words script key (number_at (decimal number) (decimal lamport))
+answer_words script (lines.Put key payload) answers.Held = put_words script key (codes "held" ∷ [])
+answer_words script (lines.Put key payload) answers.Worn = put_words script key (codes "worn" ∷ [])
 answer_words script (lines.Get key named) (answers.Got worker shown) = codes "get" ∷ key_name script key ∷ shown_words script worker shown
 answer_words script (lines.Get key named) (answers.Again asks worker clock) = codes "again" ∷ key_name script key ∷ again_words script asks worker clock
-answer_words script (lines.Await key session count) (answers.Got worker shown) = codes "await" ∷ key_name script key ∷ session_name script session ∷ decimal count ∷ shown_words script worker shown
-answer_words script (lines.Await key session count) (answers.Again asks worker clock) = codes "await" ∷ key_name script key ∷ session_name script session ∷ decimal count ∷ codes "gave" ∷ codes "up" ∷ again_words script asks worker clock
+answer_words script (lines.Await key session count) (answers.Got worker shown) = codes "await" ∷ awaited_words script key session count (shown_words script worker shown)
+answer_words script (lines.Await key session count) (answers.Again asks worker clock) = codes "await" ∷ awaited_words script key session count (gave_up_words script asks worker clock)
 answer_words script lines.Begin answers.Begun = codes "begin" ∷ []
-answer_words script lines.Commit (answers.Committed puts lamport) = if puts == 0 then codes "commit" ∷ codes "0" ∷ [] else codes "commit" ∷ decimal puts ∷ codes "at" ∷ decimal lamport ∷ []
+answer_words script lines.Commit (answers.Committed puts lamport) = commit_words puts lamport
 answer_words script lines.Commit answers.Worn = codes "commit" ∷ codes "worn" ∷ []
 answer_words script lines.Abort (answers.Aborted puts) = codes "abort" ∷ decimal puts ∷ []
 answer_words script line answer = []
@@ -119,10 +156,13 @@ abbrev pub answers_lines : Script → List Line → List Answer → List (List (
 answers_lines script (line ∷ lines) (answer ∷ answers) = answer_words script line answer ∷ answers_lines script lines answers
 answers_lines script lines answers = []
 
+-- the line that a session begins with: `session NAME LEVEL`
+abbrev pub session_words : SessionPlan → List (List ℕ)
+session_words plan = codes "session" ∷ plan.name ∷ level_word plan.level ∷ []
+
 -- the lines of the sessions
 abbrev pub sessions_lines : Script → List SessionPlan → List (List Answer) → List (List (List ℕ))
-sessions_lines script (plan ∷ plans) (answers ∷ others) =
-    (codes "session" ∷ plan.name ∷ level_word plan.level ∷ []) ∷ (answers_lines script plan.lines answers ++ sessions_lines script plans others)
+sessions_lines script (plan ∷ plans) (answers ∷ others) = session_words plan ∷ (answers_lines script plan.lines answers ++ sessions_lines script plans others)
 sessions_lines script plans others = []
 
 -- the line of a final cell: `K @W CELL`
@@ -141,10 +181,18 @@ report_lines script report =
     ++ ((codes "final" ∷ []) ∷ (map (final_words script) report.finals
     ++ (codes "end" ∷ []) ∷ [])))
 
--- a line as it is written: its words with one space between each two, and a line feed
+-- a line without its line feed: its words with one space between each two
+abbrev pub bare_line : List (List ℕ) → List ℕ
+bare_line words = join_with_byte 32 words
+
+-- a line as it is written, with its line feed
 abbrev pub line_text : List (List ℕ) → List ℕ
-line_text words = join_with_byte 32 words ++ 10 ∷ []
+line_text words = bare_line words ++ 10 ∷ []
 
 -- The text of a report.
 abbrev pub text_of : Script → Report → List ℕ
 text_of script report = flat_map line_text (report_lines script report)
+
+-- a text is that of one report of the script's form at most
+abbrev pub TextsTellReportsApart : Script → List (List ℕ) → Type 0
+TextsTellReportsApart script table = (a b : Report) → IsValidScript script table → HasForm script table a → HasForm script table b → text_of script a ≡ text_of script b → a ≡ b

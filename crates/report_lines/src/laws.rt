@@ -1,14 +1,9 @@
 //! That a text tells its report, as a law: the function does nothing and carries it.
-ghost use Rattle.std.specs.Prelude.{◌≡◌, List, ℕ};
-ghost use Rattle.session_known.specs.Form.{HasForm};
-ghost use Rattle.session_known.specs.Script.{IsValidScript};
-ghost use Rattle.session_known.specs.declared.report.Report.{Report};
+ghost use Rattle.std.specs.Prelude.{List, ℕ};
 ghost use Rattle.session_known.specs.declared.script.Script.{Script};
-ghost use Rattle.report_lines.specs.Text.{text_of};
+ghost use Rattle.report_lines.specs.Text.{TextsTellReportsApart};
 
 /// A text is that of one report of the script's form at most.
 pub fn texts_tell_reports_apart()
-    ensures { (script : Script) (table : List (List ℕ)) (a b : Report) → IsValidScript script table
-        → HasForm script table a → HasForm script table b → text_of script a ≡ text_of script b
-        → a ≡ b }
+    ensures { (script : Script) (table : List (List ℕ)) → TextsTellReportsApart script table }
 {}

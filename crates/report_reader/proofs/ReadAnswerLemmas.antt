@@ -8,7 +8,7 @@ use Rattle.std.proofs.lemmas.Fmt.{decimal_injective}
 use Rattle.lattice_laws.specs.Spelling.{is_spelling_byte}
 use Rattle.session_known.specs.Form.{Fits}
 use Rattle.placement.specs.Config.{IsOneOf}
-use Rattle.session_known.specs.Script.{key_name, session_name}
+use Rattle.session_known.specs.Script.{key_name}
 use Rattle.session_known.specs.declared.report.Answer.{Answer}
 use Rattle.session_known.specs.declared.report.Answer.TheVariants as answers
 use Rattle.session_known.specs.declared.script.Level.{Level}
@@ -16,9 +16,9 @@ use Rattle.session_known.specs.declared.script.Line.{Line}
 use Rattle.session_known.specs.declared.script.Line.TheVariants as lines
 use Rattle.session_known.specs.declared.script.Script.{Script}
 use Rattle.report_lines.proofs.AnswersLemmas.{word_at, committed_words}
-use Rattle.report_reader.specs.ReadAnswers.{IsGotIn, got_words, IsEndedIn, ended_words}
-use Rattle.report_reader.specs.Reads.{Reads}
-use Rattle.report_lines.specs.Text.{worker_word, answer_words}
+use Rattle.report_reader.specs.Cuts.{LacksNamed}
+use Rattle.report_reader.specs.ReadAnswers.{ReadsAnswer, ReadsGot, ReadsEnded}
+use Rattle.report_lines.specs.Text.{worker_word, awaited_words, answer_words}
 
 -- a worker is told from its word
 pub worker_told : (workers : ℕ) → workers ≤ 8 → (a b : ℕ) → IsOneOf workers b → IsOneOf workers a → worker_word a ≡ worker_word b → a ≡ b
@@ -33,32 +33,32 @@ committed_some false p l puts lamport is fits zero same =
 
 module _ (script : Script) (level : Level) where
   -- what is read of a line is read of the same line
-  pub answer_same : (line other : Line) (words others : List (List ℕ)) (result : Option Answer) → line ≡ other → words ≡ others → Reads (Fits script level other) (answer_words script other) others result → Reads (Fits script level line) (answer_words script line) words result
+  pub answer_same : (line other : Line) (words others : List (List ℕ)) (result : Option Answer) → line ≡ other → words ≡ others → ReadsAnswer script level other others result → ReadsAnswer script level line words result
   answer_same line other words others result same_line same_words reads =
-      let P : Line → Type 0 = λ line. Reads (Fits script level line) (answer_words script line) others result in
-      let Q : List (List ℕ) → Type 0 = λ words. Reads (Fits script level line) (answer_words script line) words result in
+      let P : Line → Type 0 = λ line. ReadsAnswer script level line others result in
+      let Q : List (List ℕ) → Type 0 = λ words. ReadsAnswer script level line words result in
       subst Q (sym same_words) (subst P (sym same_line) reads)
 
   -- ---- gets
 
   -- a get that shows a cell ends with it
-  got_none : (key : ℕ) (named : Option ℕ) (words : List (List ℕ)) (x : Answer) → Reads (IsGotIn script level key) (got_words script) words None → Fits script level (lines.Get key named) x → codes "get" ∷ key_name script key ∷ words ≡ answer_words script (lines.Get key named) x → ⊥
+  got_none : (key : ℕ) (named : Option ℕ) (words : List (List ℕ)) (x : Answer) → ReadsGot script level key words None → Fits script level (lines.Get key named) x → codes "get" ∷ key_name script key ∷ words ≡ answer_words script (lines.Get key named) x → ⊥
   got_none key named words (answers.Got worker shown) none fits same = none (answers.Got worker shown) fits (ap (drop 2) same)
   got_none key named words (answers.Again asks worker clock) none fits same = omega (arith, ap (λ words. length (word_at 0 words)) same)
   got_none key named words x none fits same = fits
 
-  pub got_read : (key : ℕ) (named : Option ℕ) (words : List (List ℕ)) (result : Option Answer) → Reads (IsGotIn script level key) (got_words script) words result → Reads (Fits script level (lines.Get key named)) (answer_words script (lines.Get key named)) (codes "get" ∷ key_name script key ∷ words) result
+  pub got_read : (key : ℕ) (named : Option ℕ) (words : List (List ℕ)) (result : Option Answer) → ReadsGot script level key words result → ReadsAnswer script level (lines.Get key named) (codes "get" ∷ key_name script key ∷ words) result
   got_read key named words None reads = λ x fits same. got_none key named words x reads fits same
   got_read key named words (Some (answers.Got worker shown)) reads = (reads.0, ap (λ rest. codes "get" ∷ key_name script key ∷ rest) reads.1)
   got_read key named words (Some other) reads = absurd reads.0
 
   -- one that is to ask again ends with where asking ended
-  again_none : (key : ℕ) (named : Option ℕ) (words : List (List ℕ)) (x : Answer) → Reads (IsEndedIn script level) (ended_words script) words None → Fits script level (lines.Get key named) x → codes "again" ∷ key_name script key ∷ words ≡ answer_words script (lines.Get key named) x → ⊥
+  again_none : (key : ℕ) (named : Option ℕ) (words : List (List ℕ)) (x : Answer) → ReadsEnded script level words None → Fits script level (lines.Get key named) x → codes "again" ∷ key_name script key ∷ words ≡ answer_words script (lines.Get key named) x → ⊥
   again_none key named words (answers.Got worker shown) none fits same = omega (arith, ap (λ words. length (word_at 0 words)) same)
   again_none key named words (answers.Again asks worker clock) none fits same = none (answers.Again asks worker clock) fits (ap (drop 2) same)
   again_none key named words x none fits same = fits
 
-  pub again_read : (key : ℕ) (named : Option ℕ) (words : List (List ℕ)) (result : Option Answer) → Reads (IsEndedIn script level) (ended_words script) words result → Reads (Fits script level (lines.Get key named)) (answer_words script (lines.Get key named)) (codes "again" ∷ key_name script key ∷ words) result
+  pub again_read : (key : ℕ) (named : Option ℕ) (words : List (List ℕ)) (result : Option Answer) → ReadsEnded script level words result → ReadsAnswer script level (lines.Get key named) (codes "again" ∷ key_name script key ∷ words) result
   again_read key named words None reads = λ x fits same. again_none key named words x reads fits same
   again_read key named words (Some (answers.Again asks worker clock)) reads = (reads.0, ap (λ rest. codes "again" ∷ key_name script key ∷ rest) reads.1)
   again_read key named words (Some other) reads = absurd reads.0
@@ -67,26 +67,26 @@ module _ (script : Script) (level : Level) where
 
   -- what an await begins with
   abbrev pub await_words : ℕ → ℕ → ℕ → List (List ℕ) → List (List ℕ)
-  await_words key session count words = codes "await" ∷ key_name script key ∷ session_name script session ∷ decimal count ∷ words
+  await_words key session count words = codes "await" ∷ awaited_words script key session count words
 
   -- an await that shows a cell ends with it
-  shown_none : (key session count : ℕ) (words : List (List ℕ)) (x : Answer) → ((word : List ℕ) (rest : List (List ℕ)) → words ≡ codes "gave" ∷ word ∷ rest → ⊥) → Reads (IsGotIn script level key) (got_words script) words None → Fits script level (lines.Await key session count) x → await_words key session count words ≡ answer_words script (lines.Await key session count) x → ⊥
+  shown_none : (key session count : ℕ) (words : List (List ℕ)) (x : Answer) → LacksNamed (codes "gave") words → ReadsGot script level key words None → Fits script level (lines.Await key session count) x → await_words key session count words ≡ answer_words script (lines.Await key session count) x → ⊥
   shown_none key session count words (answers.Got worker shown) other none fits same = none (answers.Got worker shown) fits (ap (drop 4) same)
   shown_none key session count words (answers.Again asks worker clock) other none fits same = other _ _ (ap (drop 4) same)
   shown_none key session count words x other none fits same = fits
 
-  pub shown_read : (key session count : ℕ) (words : List (List ℕ)) (result : Option Answer) → ((word : List ℕ) (rest : List (List ℕ)) → words ≡ codes "gave" ∷ word ∷ rest → ⊥) → Reads (IsGotIn script level key) (got_words script) words result → Reads (Fits script level (lines.Await key session count)) (answer_words script (lines.Await key session count)) (await_words key session count words) result
+  pub shown_read : (key session count : ℕ) (words : List (List ℕ)) (result : Option Answer) → LacksNamed (codes "gave") words → ReadsGot script level key words result → ReadsAnswer script level (lines.Await key session count) (await_words key session count words) result
   shown_read key session count words None other reads = λ x fits same. shown_none key session count words x other reads fits same
   shown_read key session count words (Some (answers.Got worker shown)) other reads = (reads.0, ap (await_words key session count) reads.1)
   shown_read key session count words (Some other) not_gave reads = absurd reads.0
 
   -- one that gave up ends with where asking ended
-  ended_none : (key session count : ℕ) (words : List (List ℕ)) (x : Answer) → Reads (IsEndedIn script level) (ended_words script) words None → Fits script level (lines.Await key session count) x → await_words key session count (codes "gave" ∷ codes "up" ∷ words) ≡ answer_words script (lines.Await key session count) x → ⊥
+  ended_none : (key session count : ℕ) (words : List (List ℕ)) (x : Answer) → ReadsEnded script level words None → Fits script level (lines.Await key session count) x → await_words key session count (codes "gave" ∷ codes "up" ∷ words) ≡ answer_words script (lines.Await key session count) x → ⊥
   ended_none key session count words (answers.Got worker shown) none fits same = true≢false (ap (λ words. list_all is_spelling_byte (word_at 4 words)) same)
   ended_none key session count words (answers.Again asks worker clock) none fits same = none (answers.Again asks worker clock) fits (ap (drop 6) same)
   ended_none key session count words x none fits same = fits
 
-  pub ended_read : (key session count : ℕ) (words : List (List ℕ)) (result : Option Answer) → Reads (IsEndedIn script level) (ended_words script) words result → Reads (Fits script level (lines.Await key session count)) (answer_words script (lines.Await key session count)) (await_words key session count (codes "gave" ∷ codes "up" ∷ words)) result
+  pub ended_read : (key session count : ℕ) (words : List (List ℕ)) (result : Option Answer) → ReadsEnded script level words result → ReadsAnswer script level (lines.Await key session count) (await_words key session count (codes "gave" ∷ codes "up" ∷ words)) result
   ended_read key session count words None reads = λ x fits same. ended_none key session count words x reads fits same
   ended_read key session count words (Some (answers.Again asks worker clock)) reads = (reads.0, ap (λ rest. await_words key session count (codes "gave" ∷ codes "up" ∷ rest)) reads.1)
   ended_read key session count words (Some other) reads = absurd reads.0

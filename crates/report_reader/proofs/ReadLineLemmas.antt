@@ -1,6 +1,6 @@
 -- Lines that are due, got one after another, and the first that could not be got.
-use Rattle.std.specs.Prelude.{◌≡◌, ℕ, suc, ◌+◌, ◌<◌, Bool, true, false, not, ◌==◌, List, [], ◌∷◌, ◌++◌, take, drop, length, map, codes, get_or, Result, Ok, Err, IfErr}
-use Rattle.std.specs.List.{AllZip, AllByRecursion, flat_map, join_with_byte, list_any}
+use Rattle.std.specs.Prelude.{◌≡◌, ℕ, suc, ◌+◌, ◌<◌, Bool, true, false, not, ◌==◌, List, [], ◌∷◌, ◌++◌, take, drop, length, map, get_or, Result, Ok, Err, IfErr}
+use Rattle.std.specs.List.{AllZip, AllByRecursion, flat_map, join_with_byte}
 use Rattle.std.specs.Result.{IsErrAnd}
 use Rattle.std.proofs.Common.{refl, sym, ap, subst, ◌∙◌, arith}
 use Rattle.std.proofs.Math.Seq.{take-suc}
@@ -16,11 +16,12 @@ use Rattle.session_known.specs.declared.script.Line.{Line}
 use Rattle.session_known.specs.declared.script.Script.{Script}
 use Rattle.session_known.specs.declared.script.SessionPlan.{SessionPlan}
 use Rattle.report_lines.proofs.NamesLemmas.{TellsNames}
-use Rattle.report_reader.specs.ReadLines.{Due, Answered, FinalOf, IsDue, IsFinalAt, AreLinesRead, IsOut, HasGot, IsPartFault, session_dues, finals_dues}
+use Rattle.report_reader.specs.ReadLines.{Due, Exactly, Answered, FinalOf, IsDue, IsFinalAt, AreLinesRead, IsOut, HasTaken, HasGot, HasGotAnswer, HasGotAnswers, HasGotSession, HasGotSessions, HasGotFinal, HasGotFinals, IsPartFault, answers_dues, session_dues, sessions_dues, finals_dues}
+use Rattle.report_reader.specs.Cuts.{has_byte}
 use Rattle.report_lines.proofs.RenderingLemmas.{Passes, IsLine, in_line, cut_once, line_after, row_passes, passes_weaker}
 use Rattle.report_lines.specs.Parts.{AreAnswers, place_of}
 use Rattle.report_lines.proofs.RowsLemmas.{both_all}
-use Rattle.report_lines.specs.Text.{level_word, answer_words, answers_lines, sessions_lines, final_words, line_text}
+use Rattle.report_lines.specs.Text.{session_words, answer_words, answers_lines, sessions_lines, final_words, bare_line, line_text}
 use Rattle.report_reader.specs.declared.ReportFault.{ReportFault}
 use Rattle.report_reader.specs.declared.ReportFault.TheVariants.{Form, NoMemory}
 use Rattle.report_reader.proofs.DueLemmas.{HasWords, due_line, out_before, out_after, lines_read}
@@ -43,36 +44,36 @@ pub line_lacks : (words : List (List ℕ)) → IsLine words → Passes (is_not 1
 line_lacks words is = passes_weaker in_line (is_not 10) (λ b passes. no_feed (b == 10) b refl passes) (join_with_byte 32 words) (row_passes words is)
 
 -- a text up to a line feed is the line that stands there
-line_is : (text after rest : List ℕ) (words : List (List ℕ)) → IsLine words → list_any (λ b. b == 10) text ≡ false → text ++ 10 ∷ after ≡ line_text words ++ rest → (text ≡ join_with_byte 32 words) × (after ≡ rest)
+line_is : (text after rest : List ℕ) (words : List (List ℕ)) → IsLine words → has_byte 10 text ≡ false → text ++ 10 ∷ after ≡ line_text words ++ rest → (text ≡ join_with_byte 32 words) × (after ≡ rest)
 line_is text after rest words is lacks same =
     cut_once (is_not 10) 10 refl text (join_with_byte 32 words) after rest (lacks_passes 10 text lacks) (line_lacks words is) (same ∙ line_after words rest)
 
--- what is said of a fault is said where the call failed with it
-pub fault_on : {X E : Type 0} (r : Result X E) (P Q : E → Type 0) → IsErrAnd r Q → ((fault : E) → Q fault → P fault) → IfErr r P
-fault_on (Ok x) P Q is each = absurd is
-fault_on (Err fault) P Q is each = each fault is
+-- a fault that is handed on is the one that was given
+pub fault_told : {X : Type 0} (r : Result X ReportFault) (P : ReportFault → Type 0) {given fault : ReportFault} → IsErrAnd r (λ other. other ≡ given) → given ≡ fault → P fault → IfErr r P
+fault_told (Ok x) P is told out = absurd is
+fault_told (Err other) P is told out = subst P (sym (is ∙ told)) out
 
 module _ (script : Script) (names : TellsNames script) where
   -- where no line feed is left, no line is
-  pub out_at_end : (due : Due) (bytes : List ℕ) → list_any (λ b. b == 10) bytes ≡ false → IsOut script due bytes
+  pub out_at_end : (due : Due) (bytes : List ℕ) → has_byte 10 bytes ≡ false → IsOut script due bytes
   out_at_end due bytes lacks rest line = no_cut 10 bytes (join_with_byte 32 line.words) rest lacks (line.begin ∙ line_after line.words rest)
 
   -- a line whose text is none that is due is out of form
-  pub out_here : (due : Due) (bytes text after : List ℕ) → HasWords due → bytes ≡ text ++ 10 ∷ after → list_any (λ b. b == 10) text ≡ false → ((words : List (List ℕ)) → IsDue script due words → text ≡ join_with_byte 32 words → ⊥) → IsOut script due bytes
+  pub out_here : (due : Due) (bytes text after : List ℕ) → HasWords due → bytes ≡ text ++ 10 ∷ after → has_byte 10 text ≡ false → ((words : List (List ℕ)) → IsDue script due words → text ≡ join_with_byte 32 words → ⊥) → IsOut script due bytes
   out_here due bytes text after has begin lacks none rest line =
       none line.words line.is_due (line_is text after rest line.words (due_line script names due line.words has line.is_due) lacks (sym begin ∙ line.begin)).0
-
-  -- a line that is due is got
-  pub got_line : (due : Due) (words : List (List ℕ)) (text : List ℕ) (before after : List ℕ × ℕ) → IsDue script due words → text ≡ join_with_byte 32 words → before.0 ≡ text ++ 10 ∷ after.0 → after.1 ≡ before.1 + 1 → HasGot script (due ∷ []) (words ∷ []) before after
-  got_line due words text before after is same begin number = record {
-    are_due = (is, tt);
-    begin = begin ∙ ap (λ text. text ++ 10 ∷ after.0) same ∙ sym (line_after words after.0) ∙ ap (λ text. text ++ after.0) (sym (append-nil (line_text words)));
-    number = number;
-  }
 
 -- ---- one part after another
 
 module _ (script : Script) where
+  -- the line of these words was got where it was taken
+  pub got_line : (words : List (List ℕ)) (text : List ℕ) (before after : List ℕ × ℕ) → text ≡ bare_line words → HasTaken text before after → HasGot script (Exactly words ∷ []) (words ∷ []) before after
+  got_line words text before after same taken = record {
+    are_due = (refl, tt);
+    begin = taken.0 ∙ ap (λ text. text ++ 10 ∷ after.0) same ∙ sym (line_after words after.0) ∙ ap (λ text. text ++ after.0) (sym (append-nil (line_text words)));
+    number = taken.1;
+  }
+
   -- what was got of one part and then of another
   pub got_both : (dues others : List Due) (lines more : List (List (List ℕ))) (before middle after : List ℕ × ℕ) → HasGot script dues lines before middle → HasGot script others more middle after → HasGot script (dues ++ others) (lines ++ more) before after
   got_both dues others lines more before middle after got next = record {
@@ -125,44 +126,44 @@ answers_push script R (a ∷ xs) x [] y all = absurd all
 answers_push script R (a ∷ xs) x (b ∷ ys) y all = ap (λ lines. answer_words script a b ∷ lines) (answers_push script R xs x ys y all.1)
 
 -- the lines of one more session
-sessions_push : (script : Script) (R : SessionPlan → List Answer → Type 0) (xs : List SessionPlan) (x : SessionPlan) (ys : List (List Answer)) (y : List Answer) → AllZip R xs ys → sessions_lines script (xs ++ x ∷ []) (ys ++ y ∷ []) ≡ sessions_lines script xs ys ++ ((codes "session" ∷ x.name ∷ level_word x.level ∷ []) ∷ answers_lines script x.lines y)
-sessions_push script R [] x [] y all = ap (λ lines. (codes "session" ∷ x.name ∷ level_word x.level ∷ []) ∷ lines) (append-nil (answers_lines script x.lines y))
+sessions_push : (script : Script) (R : SessionPlan → List Answer → Type 0) (xs : List SessionPlan) (x : SessionPlan) (ys : List (List Answer)) (y : List Answer) → AllZip R xs ys → sessions_lines script (xs ++ x ∷ []) (ys ++ y ∷ []) ≡ sessions_lines script xs ys ++ (session_words x ∷ answers_lines script x.lines y)
+sessions_push script R [] x [] y all = ap (λ lines. session_words x ∷ lines) (append-nil (answers_lines script x.lines y))
 sessions_push script R [] x (b ∷ ys) y all = absurd all
 sessions_push script R (a ∷ xs) x [] y all = absurd all
 sessions_push script R (a ∷ xs) x (b ∷ ys) y all =
-    ap (λ lines. (codes "session" ∷ a.name ∷ level_word a.level ∷ []) ∷ lines)
-    (ap (λ lines. answers_lines script a.lines b ++ lines) (sessions_push script R xs x ys y all.1) ∙ sym (append_assoc (answers_lines script a.lines b) (sessions_lines script xs ys) ((codes "session" ∷ x.name ∷ level_word x.level ∷ []) ∷ answers_lines script x.lines y)))
+    ap (λ lines. session_words a ∷ lines)
+    (ap (λ lines. answers_lines script a.lines b ++ lines) (sessions_push script R xs x ys y all.1) ∙ sym (append_assoc (answers_lines script a.lines b) (sessions_lines script xs ys) (session_words x ∷ answers_lines script x.lines y)))
 
 -- what is due of one more session
-dues_push : (xs : List SessionPlan) (x : SessionPlan) → flat_map session_dues (xs ++ x ∷ []) ≡ flat_map session_dues xs ++ session_dues x
-dues_push xs x = flat_map-append session_dues xs (x ∷ []) ∙ ap (λ dues. flat_map session_dues xs ++ dues) (append-nil (session_dues x))
+dues_push : (xs : List SessionPlan) (x : SessionPlan) → sessions_dues (xs ++ x ∷ []) ≡ sessions_dues xs ++ session_dues x
+dues_push xs x = flat_map-append session_dues xs (x ∷ []) ∙ ap (λ dues. sessions_dues xs ++ dues) (append-nil (session_dues x))
 
 -- the answers to some lines of a session
 pub record AreAnswersFor (script : Script) (level : Level) (commands : List Line) (before now : List ℕ × ℕ) (answers : List Answer) : Type 0 where
   pub fit : AllZip (Fits script level) commands answers
-  pub got : HasGot script (map (Answered level) commands) (answers_lines script commands answers) before now
+  pub got : HasGotAnswers script level commands before now answers
 
 -- those to the first lines
 abbrev pub AreAnswersSo : Script → Level → List Line → List ℕ × ℕ → ℕ → List ℕ × ℕ → List Answer → Type 0
 AreAnswersSo script level commands before count now answers = AreAnswersFor script level (take count commands) before now answers
 
 -- one more
-pub answers_next : (script : Script) (level : Level) (commands : List Line) (before : List ℕ × ℕ) (count : ℕ) (now after : List ℕ × ℕ) (answers pushed : List Answer) (command : Line) (answer : Answer) → count < length commands → command ≡ get_or commands count command → AreAnswersSo script level commands before count now answers → Fits script level command answer → HasGot script (Answered level command ∷ []) (answer_words script command answer ∷ []) now after → pushed ≡ answers ++ answer ∷ [] → AreAnswersSo script level commands before (count + 1) after pushed
+pub answers_next : (script : Script) (level : Level) (commands : List Line) (before : List ℕ × ℕ) (count : ℕ) (now after : List ℕ × ℕ) (answers pushed : List Answer) (command : Line) (answer : Answer) → count < length commands → command ≡ get_or commands count command → AreAnswersSo script level commands before count now answers → Fits script level command answer → HasGotAnswer script level command now after answer → pushed ≡ answers ++ answer ∷ [] → AreAnswersSo script level commands before (count + 1) after pushed
 answers_next script level commands before count now after answers pushed command answer within is so fits got push =
     let first : take count commands ++ command ∷ [] ≡ take (count + 1) commands = ap (λ line. take count commands ++ line ∷ []) is ∙ sym (take_more commands count command within) in
-    let dues : map (Answered level) (take count commands) ++ Answered level command ∷ [] ≡ map (Answered level) (take count commands ++ command ∷ []) = sym (map-append (Answered level) (take count commands) (command ∷ [])) in
-    let both = got_both script (map (Answered level) (take count commands)) (Answered level command ∷ []) (answers_lines script (take count commands) answers) (answer_words script command answer ∷ []) before now after so.got got in
-    let all : HasGot script (map (Answered level) (take count commands ++ command ∷ [])) (answers_lines script (take count commands ++ command ∷ []) (answers ++ answer ∷ [])) before after =
-    subst (λ lines. HasGot script (map (Answered level) (take count commands ++ command ∷ [])) lines before after) (sym (answers_push script (Fits script level) (take count commands) command answers answer so.fit))
+    let dues : answers_dues level (take count commands) ++ Answered level command ∷ [] ≡ answers_dues level (take count commands ++ command ∷ []) = sym (map-append (Answered level) (take count commands) (command ∷ [])) in
+    let both = got_both script (answers_dues level (take count commands)) (Answered level command ∷ []) (answers_lines script (take count commands) answers) (answer_words script command answer ∷ []) before now after so.got got in
+    let all : HasGot script (answers_dues level (take count commands ++ command ∷ [])) (answers_lines script (take count commands ++ command ∷ []) (answers ++ answer ∷ [])) before after =
+    subst (λ lines. HasGot script (answers_dues level (take count commands ++ command ∷ [])) lines before after) (sym (answers_push script (Fits script level) (take count commands) command answers answer so.fit))
     (subst (λ dues. HasGot script dues (answers_lines script (take count commands) answers ++ answer_words script command answer ∷ []) before after) dues both) in
     subst (AreAnswersSo script level commands before (count + 1) after) (sym push)
     (subst (λ front. AreAnswersFor script level front before after (answers ++ answer ∷ [])) first (record { fit = zip_push (Fits script level) (take count commands) command answers answer so.fit fits; got = all }))
 
 -- where one of the lines of a session is out of form
-pub answers_fault : (script : Script) (level : Level) (commands : List Line) (before : List ℕ × ℕ) (count : ℕ) (now : List ℕ × ℕ) (answers : List Answer) (command : Line) (fault : ReportFault) → count < length commands → command ≡ get_or commands count command → AreAnswersSo script level commands before count now answers → IsPartFault script (Answered level command ∷ []) now fault → IsPartFault script (map (Answered level) commands) before fault
+pub answers_fault : (script : Script) (level : Level) (commands : List Line) (before : List ℕ × ℕ) (count : ℕ) (now : List ℕ × ℕ) (answers : List Answer) (command : Line) (fault : ReportFault) → count < length commands → command ≡ get_or commands count command → AreAnswersSo script level commands before count now answers → IsPartFault script (Answered level command ∷ []) now fault → IsPartFault script (answers_dues level commands) before fault
 answers_fault script level commands before count now answers command fault within is so out =
-    let here = fault_after script (map (Answered level) (take count commands)) (Answered level command ∷ []) (answers_lines script (take count commands) answers) before now fault so.got out in
-    let more = fault_before script (map (Answered level) (take count commands) ++ Answered level command ∷ []) (map (Answered level) (drop (suc count) commands)) before fault here in
+    let here = fault_after script (answers_dues level (take count commands)) (Answered level command ∷ []) (answers_lines script (take count commands) answers) before now fault so.got out in
+    let more = fault_before script (answers_dues level (take count commands) ++ Answered level command ∷ []) (answers_dues level (drop (suc count) commands)) before fault here in
     subst (λ dues. IsPartFault script dues before fault) (all_of (Answered level) commands count command within is) more
 
 -- ---- session by session
@@ -170,39 +171,39 @@ answers_fault script level commands before count now answers command fault withi
 -- the answers of some sessions
 pub record AreSessionsFor (script : Script) (plans : List SessionPlan) (before now : List ℕ × ℕ) (answers : List (List Answer)) : Type 0 where
   pub fit : AllZip (AreAnswers script) plans answers
-  pub got : HasGot script (flat_map session_dues plans) (sessions_lines script plans answers) before now
+  pub got : HasGotSessions script plans before now answers
 
 -- those of the first ones
 abbrev pub AreSessionsSo : Script → List SessionPlan → List ℕ × ℕ → ℕ → List ℕ × ℕ → List (List Answer) → Type 0
 AreSessionsSo script plans before count now answers = AreSessionsFor script (take count plans) before now answers
 
 -- one more
-pub sessions_next : (script : Script) (plans : List SessionPlan) (before : List ℕ × ℕ) (count : ℕ) (now after : List ℕ × ℕ) (others pushed : List (List Answer)) (plan : SessionPlan) (answers : List Answer) → count < length plans → plan ≡ get_or plans count plan → AreSessionsSo script plans before count now others → AreAnswers script plan answers → HasGot script (session_dues plan) ((codes "session" ∷ plan.name ∷ level_word plan.level ∷ []) ∷ answers_lines script plan.lines answers) now after → pushed ≡ others ++ answers ∷ [] → AreSessionsSo script plans before (count + 1) after pushed
+pub sessions_next : (script : Script) (plans : List SessionPlan) (before : List ℕ × ℕ) (count : ℕ) (now after : List ℕ × ℕ) (others pushed : List (List Answer)) (plan : SessionPlan) (answers : List Answer) → count < length plans → plan ≡ get_or plans count plan → AreSessionsSo script plans before count now others → AreAnswers script plan answers → HasGotSession script plan now after answers → pushed ≡ others ++ answers ∷ [] → AreSessionsSo script plans before (count + 1) after pushed
 sessions_next script plans before count now after others pushed plan answers within is so fit got push =
     let front = take count plans in
-    let lines : List (List (List ℕ)) = (codes "session" ∷ plan.name ∷ level_word plan.level ∷ []) ∷ answers_lines script plan.lines answers in
+    let lines : List (List (List ℕ)) = session_words plan ∷ answers_lines script plan.lines answers in
     let first : front ++ plan ∷ [] ≡ take (count + 1) plans = ap (λ plan. take count plans ++ plan ∷ []) is ∙ sym (take_more plans count plan within) in
-    let both = got_both script (flat_map session_dues front) (session_dues plan) (sessions_lines script front others) lines before now after so.got got in
-    let all : HasGot script (flat_map session_dues (front ++ plan ∷ [])) (sessions_lines script (front ++ plan ∷ []) (others ++ answers ∷ [])) before after =
-    subst (λ lines. HasGot script (flat_map session_dues (front ++ plan ∷ [])) lines before after) (sym (sessions_push script (AreAnswers script) front plan others answers so.fit))
+    let both = got_both script (sessions_dues front) (session_dues plan) (sessions_lines script front others) lines before now after so.got got in
+    let all : HasGot script (sessions_dues (front ++ plan ∷ [])) (sessions_lines script (front ++ plan ∷ []) (others ++ answers ∷ [])) before after =
+    subst (λ lines. HasGot script (sessions_dues (front ++ plan ∷ [])) lines before after) (sym (sessions_push script (AreAnswers script) front plan others answers so.fit))
     (subst (λ dues. HasGot script dues (sessions_lines script front others ++ lines) before after) (sym (dues_push front plan)) both) in
     subst (AreSessionsSo script plans before (count + 1) after) (sym push)
     (subst (λ front. AreSessionsFor script front before after (others ++ answers ∷ [])) first (record { fit = zip_push (AreAnswers script) front plan others answers so.fit fit; got = all }))
 
 -- the numbers of the lines of one more stay within those of all
-pub sessions_room : (script : Script) (plans : List SessionPlan) (before : List ℕ × ℕ) (count : ℕ) (now : List ℕ × ℕ) (others : List (List Answer)) (plan : SessionPlan) (most : ℕ) → count < length plans → plan ≡ get_or plans count plan → AreSessionsSo script plans before count now others → before.1 + length (flat_map session_dues plans) < most → now.1 + length (session_dues plan) < most
+pub sessions_room : (script : Script) (plans : List SessionPlan) (before : List ℕ × ℕ) (count : ℕ) (now : List ℕ × ℕ) (others : List (List Answer)) (plan : SessionPlan) (most : ℕ) → count < length plans → plan ≡ get_or plans count plan → AreSessionsSo script plans before count now others → before.1 + length (sessions_dues plans) < most → now.1 + length (session_dues plan) < most
 sessions_room script plans before count now others plan most within is so room =
     let dues = ap (λ plan. length (session_dues plan)) is in
     omega (arith, so.got.number, length-flat_map-take session_dues plans count plan within, dues, room)
 
 -- where one of the lines of a session is out of form
-pub sessions_fault : (script : Script) (plans : List SessionPlan) (before : List ℕ × ℕ) (count : ℕ) (now : List ℕ × ℕ) (others : List (List Answer)) (plan : SessionPlan) (fault : ReportFault) → count < length plans → plan ≡ get_or plans count plan → AreSessionsSo script plans before count now others → IsPartFault script (session_dues plan) now fault → IsPartFault script (flat_map session_dues plans) before fault
+pub sessions_fault : (script : Script) (plans : List SessionPlan) (before : List ℕ × ℕ) (count : ℕ) (now : List ℕ × ℕ) (others : List (List Answer)) (plan : SessionPlan) (fault : ReportFault) → count < length plans → plan ≡ get_or plans count plan → AreSessionsSo script plans before count now others → IsPartFault script (session_dues plan) now fault → IsPartFault script (sessions_dues plans) before fault
 sessions_fault script plans before count now others plan fault within is so out =
     let front = take count plans in
-    let here = fault_after script (flat_map session_dues front) (session_dues plan) (sessions_lines script front others) before now fault so.got out in
-    let more = fault_before script (flat_map session_dues front ++ session_dues plan) (flat_map session_dues (drop (suc count) plans)) before fault here in
-    let dues : (flat_map session_dues front ++ session_dues plan) ++ flat_map session_dues (drop (suc count) plans) ≡ flat_map session_dues plans =
-    ap (λ dues. dues ++ flat_map session_dues (drop (suc count) plans)) (sym (dues_push front plan)) ∙ sym (flat_map-append session_dues (front ++ plan ∷ []) (drop (suc count) plans)) ∙ ap (flat_map session_dues) (parts_of plans count plan within is) in
+    let here = fault_after script (sessions_dues front) (session_dues plan) (sessions_lines script front others) before now fault so.got out in
+    let more = fault_before script (sessions_dues front ++ session_dues plan) (sessions_dues (drop (suc count) plans)) before fault here in
+    let dues : (sessions_dues front ++ session_dues plan) ++ sessions_dues (drop (suc count) plans) ≡ sessions_dues plans =
+    ap (λ dues. dues ++ sessions_dues (drop (suc count) plans)) (sym (dues_push front plan)) ∙ sym (flat_map-append session_dues (front ++ plan ∷ []) (drop (suc count) plans)) ∙ ap (flat_map session_dues) (parts_of plans count plan within is) in
     subst (λ dues. IsPartFault script dues before fault) dues more
 
 -- ---- cell by cell
@@ -211,14 +212,14 @@ sessions_fault script plans before count now others plan fault within is so out 
 pub record AreFinalsFor (script : Script) (places : List (ℕ × ℕ)) (before now : List ℕ × ℕ) (cells : List FinalCell) : Type 0 where
   pub places_are : map place_of cells ≡ places
   pub in_form : AllByRecursion (IsFinalIn script) cells
-  pub got : HasGot script (finals_dues places) (map (final_words script) cells) before now
+  pub got : HasGotFinals script places before now cells
 
 -- those at the first ones
 abbrev pub AreFinalsSo : Script → List (ℕ × ℕ) → List ℕ × ℕ → ℕ → List ℕ × ℕ → List FinalCell → Type 0
 AreFinalsSo script places before count now cells = AreFinalsFor script (take count places) before now cells
 
 -- one more
-pub finals_next : (script : Script) (places : List (ℕ × ℕ)) (before : List ℕ × ℕ) (count : ℕ) (now after : List ℕ × ℕ) (cells pushed : List FinalCell) (place : ℕ × ℕ) (cell : FinalCell) → count < length places → place ≡ get_or places count place → AreFinalsSo script places before count now cells → IsFinalAt script place.0 place.1 cell → HasGot script (FinalOf place.0 place.1 ∷ []) (final_words script cell ∷ []) now after → pushed ≡ cells ++ cell ∷ [] → AreFinalsSo script places before (count + 1) after pushed
+pub finals_next : (script : Script) (places : List (ℕ × ℕ)) (before : List ℕ × ℕ) (count : ℕ) (now after : List ℕ × ℕ) (cells pushed : List FinalCell) (place : ℕ × ℕ) (cell : FinalCell) → count < length places → place ≡ get_or places count place → AreFinalsSo script places before count now cells → IsFinalAt script place.0 place.1 cell → HasGotFinal script place.0 place.1 now after cell → pushed ≡ cells ++ cell ∷ [] → AreFinalsSo script places before (count + 1) after pushed
 finals_next script places before count now after cells pushed place cell within is so at got push =
     let front = take count places in
     let first : front ++ place ∷ [] ≡ take (count + 1) places = ap (λ place. take count places ++ place ∷ []) is ∙ sym (take_more places count place within) in

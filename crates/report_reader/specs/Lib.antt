@@ -1,4 +1,5 @@
 pub use Rattle.report_lines.specs.Text
+pub mod Cuts
 pub mod ReadAnswers
 pub mod ReadCells
 pub mod ReadLines

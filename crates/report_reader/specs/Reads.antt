@@ -4,7 +4,7 @@ use Rattle.std.specs.List.{flat_map}
 use Rattle.session_known.specs.Form.{HasForm}
 use Rattle.session_known.specs.declared.report.Report.{Report}
 use Rattle.session_known.specs.declared.script.Script.{Script}
-use Rattle.report_lines.specs.Text.{report_lines, line_text, text_of}
+use Rattle.report_lines.specs.Text.{report_lines, bare_line, line_text, text_of}
 use Rattle.report_reader.specs.declared.ReportFault.{ReportFault}
 use Rattle.report_reader.specs.declared.ReportFault.TheVariants.{Form, NoMemory}
 
@@ -12,6 +12,10 @@ use Rattle.report_reader.specs.declared.ReportFault.TheVariants.{Form, NoMemory}
 abbrev pub Reads : {X T : Type 0} → (X → Type 0) → (X → T) → T → Option X → Type 0
 Reads InForm written text (Some thing) = InForm thing × (text ≡ written thing)
 Reads InForm written text None = (x : _) → InForm x → text ≡ written x → ⊥
+
+-- The thing in form that is written as the words of a line, given without its line feed.
+abbrev pub ReadsLine : {X : Type 0} → (X → Type 0) → (X → List (List ℕ)) → List ℕ → Option X → Type 0
+ReadsLine InForm words_of text result = Reads InForm (λ thing. bare_line (words_of thing)) text result
 
 -- the bytes begin with the first lines, so many, of the report's text
 pub record BeginsWith (script : Script) (report : Report) (count : ℕ) (bytes : List ℕ) : Type 0 where

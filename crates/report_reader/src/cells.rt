@@ -1,12 +1,10 @@
 //! Cells, read: what answers and final cells share.
-ghost use Rattle.std.specs.Prelude.{◌≡◌, ◌↔◌, ◌∷◌, [], List, ℕ, IfOk, IsTrue, MatchOption, length};
+ghost use Rattle.std.specs.Prelude.{◌≡◌, ◌↔◌, IfOk, IsTrue, length};
 ghost use Rattle.placement.specs.Config.{IsOneOf};
-ghost use Rattle.composed_value.specs.Keyed.{kind_at};
 ghost use Rattle.session_known.specs.Script.{IsValid, key_name};
-ghost use Rattle.report_reader.specs.ReadCells.{IsCellIn, parts_of_cell};
+ghost use Rattle.report_reader.specs.Cuts.{FindsNamed, FindsThree};
+ghost use Rattle.report_reader.specs.ReadCells.{ReadsCell, parts_of_cell};
 ghost use Rattle.script_reader.specs.Words.{texts};
-ghost use Rattle.report_reader.specs.Reads.{Reads};
-ghost use Rattle.report_lines.specs.Text.{cell_words};
 
 use crate::clocks::read_clock;
 use crate::values::read_value;
@@ -30,9 +28,7 @@ pub(crate) fn named<'w, 'a>(
     words: &'w [&'a [u8]],
     name: &[u8],
 ) -> Option<(&'a [u8], &'w [&'a [u8]])>
-    ensures { MatchOption result ((word : List ℕ) (rest : List (List ℕ))
-        → texts words.now ≡ name.now ∷ word ∷ rest → ⊥)
-        (λ found. texts words.now ≡ name.now ∷ found.0.now ∷ texts found.1.now) }
+    ensures { FindsNamed name.now (texts words.now) result }
 {
     let [first, word, rest @ ..] = words else {
         return None;
@@ -52,9 +48,7 @@ pub(crate) fn is_key(script: &Script, key: u16, word: &[u8]) -> bool
 
 /// The clock, the top and the value in the words of a cell.
 fn cell_parts<'a>(words: &[&'a [u8]]) -> Option<(&'a [u8], &'a [u8], &'a [u8])>
-    ensures { MatchOption result ((clock top value : List ℕ)
-        → texts words.now ≡ parts_of_cell clock top value → ⊥)
-        (λ parts. texts words.now ≡ parts_of_cell parts.0.now parts.1.now parts.2.now) }
+    ensures { FindsThree parts_of_cell (texts words.now) result }
 {
     let (clock, words) = named(words, b"clock")?;
     let (top, words) = named(words, b"top")?;
@@ -74,8 +68,7 @@ pub(crate) fn read_cell(
 ) -> Result<Option<Cell>, NoMemory>
     requires valid { IsValid script.now }
     requires key { IsOneOf (length script.now.config.keys) key }
-    ensures { IfOk result (Reads (IsCellIn script.now (kind_at script.now.kinds key))
-        (λ cell. cell_words script.now cell.clock cell.top cell.value []) (texts words.now)) }
+    ensures { IfOk result (ReadsCell script.now key (texts words.now)) }
 {
     let Some((clock, top, value)) = cell_parts(words) else {
         return Ok(None);

@@ -1,13 +1,12 @@
 //! Clocks and needs, read.
-ghost use Rattle.std.specs.Prelude.{IfOk, List, ℕ, map};
-ghost use Rattle.std.specs.List.{join_with_byte};
+ghost use Rattle.std.specs.Prelude.{IfOk};
 ghost use Rattle.session_known.specs.Form.{IsClockIn, AreNeedsIn};
 ghost use Rattle.session_known.specs.Script.{IsValid};
 ghost use Rattle.report_lines.specs.Parts.{IsCounted};
 ghost use Rattle.report_reader.specs.ReadNeeds.{IsNeedIn, open_text};
 ghost use Rattle.report_reader.specs.ReadRows.{IsRow};
 ghost use Rattle.report_reader.specs.Reads.{Reads};
-ghost use Rattle.report_lines.specs.Text.{count_text, clock_word, need_text, needs_word};
+ghost use Rattle.report_lines.specs.Text.{count_text, counts_text, clock_word, each_need_text, needs_word};
 
 use crate::words::{cut_at, pieces_of, read_key, read_number, read_session};
 use clock_lattice::{Clock, Needs};
@@ -36,7 +35,7 @@ pub(crate) fn read_clock(
 fn read_counts(alloc: Global, script: &Script, text: &[u8]) -> Result<Option<Clock>, NoMemory>
     requires { IsValid script.now }
     ensures { IfOk result (Reads (IsRow (IsClockIn script.now))
-        (λ clock. join_with_byte 44 (map (count_text script.now) clock)) text.now) }
+        (counts_text script.now) text.now) }
 {
     let pieces = pieces_of(alloc, text, b',')?;
     let mut clock = Clock::new(alloc);
@@ -84,7 +83,7 @@ pub(crate) fn read_needs(
 fn read_each_need(alloc: Global, script: &Script, text: &[u8]) -> Result<Option<Needs>, NoMemory>
     requires { IsValid script.now }
     ensures { IfOk result (Reads (IsRow (AreNeedsIn script.now))
-        (λ needs. join_with_byte 44 (map (need_text script.now) needs)) text.now) }
+        (each_need_text script.now) text.now) }
 {
     let mut needs = Needs::new(alloc);
     let mut rest = text;

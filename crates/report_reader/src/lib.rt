@@ -13,6 +13,7 @@ ghost use Rattle.report_reader.specs.Reads.{IsReading, IsReadAs};
 ghost use Rattle.report_lines.specs.Text.{text_of};
 
 mod answers;
+mod asked;
 mod cells;
 mod clocks;
 mod lines;

@@ -1,16 +1,16 @@
 //! Reports read line by line.
-ghost use Rattle.std.specs.Prelude.{◌≡◌, List, ℕ, ◌+◌, ◌<◌, ◌≤◌, ◌^◌, ◌==◌, ◌∷◌, [], ◌++◌, All, false, map, filter, length, codes, IfOk, IfErr, OnOk, OnErr};
-ghost use Rattle.std.specs.List.{AllZip, flat_map, join_with_byte, list_any, range_with_len};
+ghost use Rattle.std.specs.Prelude.{◌≡◌, List, ℕ, ◌+◌, ◌<◌, ◌≤◌, ◌^◌, ◌∷◌, [], ◌++◌, All, false, map, length, IfOk, IfErr, OnOk, OnErr};
+ghost use Rattle.std.specs.List.{AllZip};
 ghost use Rattle.placement.specs.Name.{IsName};
 ghost use Rattle.session_known.specs.Form.{Fits, IsFinalIn, HasForm, final_places};
 ghost use Rattle.placement.specs.Config.{IsOneOf};
 ghost use Rattle.session_known.specs.Script.{IsValidSession, MayStand, IsValid, IsValidScript};
-ghost use Rattle.session_known.specs.declared.report.Answer.{Answer};
+ghost use Rattle.report_reader.specs.Cuts.{has_byte};
 ghost use Rattle.report_reader.specs.declared.ReportFault.TheVariants.{Form};
-ghost use Rattle.report_reader.specs.ReadLines.{Answered, FinalOf, IsFinalAt, session_dues, finals_dues, report_dues, HasGot, IsPartFault};
+ghost use Rattle.report_reader.specs.ReadLines.{Answered, FinalOf, IsFinalAt, answers_dues, session_dues, sessions_dues, finals_dues, report_dues, IsPlaceIn, places_within, IsValidWhere, WhereverPlaced, HasTaken, IsNotNext, HasGotAnswer, HasGotAnswers, HasGotSession, HasGotSessions, HasGotFinal, HasGotFinals, HasGotReport, IsPartFault};
 ghost use Rattle.report_reader.specs.Reads.{IsReading};
 ghost use Rattle.report_lines.specs.Parts.{AreAnswers, place_of};
-ghost use Rattle.report_lines.specs.Text.{level_word, answer_words, answers_lines, sessions_lines, final_words, report_lines};
+ghost use Rattle.report_lines.specs.Text.{session_words, bare_line};
 
 use crate::ReportFault;
 use crate::answers::{read_answer, read_final};
@@ -54,9 +54,9 @@ impl<'a> Lines<'a> {
         requires { self.old.1 + 1 < 2 ^ 32 }
         ensures line { IfOk result (λ line. self.old.0 ≡ line.now ++ 10 ∷ self.new.0) }
         ensures number { OnOk result (self.new.1 ≡ self.old.1 + 1) }
-        ensures within { IfOk result (λ line. list_any (λ b. b == 10) line.now ≡ false) }
+        ensures within { IfOk result (λ line. has_byte 10 line.now ≡ false) }
         ensures fault { IfErr result (λ fault. fault ≡ Form self.old.1) }
-        ensures none { OnErr result (list_any (λ b. b == 10) self.old.0 ≡ false) }
+        ensures none { OnErr result (has_byte 10 self.old.0 ≡ false) }
     {
         let Some((line, rest)) = cut_at(self.rest, b'\n') else {
             return Err(ReportFault::Form { line: self.next });
@@ -81,11 +81,10 @@ impl<'a> Lines<'a> {
 /// Reads the line that is wanted.
 fn read_exactly(lines: &mut Lines, wanted: &[u8]) -> Result<(), ReportFault>
     requires room { lines.old.1 + 1 < 2 ^ 32 }
-    requires line { list_any (λ b. b == 10) wanted.now ≡ false }
-    ensures ok { OnOk result ((lines.old.0 ≡ wanted.now ++ 10 ∷ lines.new.0)
-        × (lines.new.1 ≡ lines.old.1 + 1)) }
+    requires line { has_byte 10 wanted.now ≡ false }
+    ensures ok { OnOk result (HasTaken wanted.now lines.old lines.new) }
     ensures fault { IfErr result (λ fault. (fault ≡ Form lines.old.1)
-        × ((rest : List ℕ) → lines.old.0 ≡ wanted.now ++ 10 ∷ rest → ⊥)) }
+        × IsNotNext wanted.now lines.old.0) }
 {
     let number = lines.next;
     if lines.take()? != wanted {
@@ -104,12 +103,11 @@ fn read_answer_line(
     line: &Line,
     lines: &mut Lines,
 ) -> Result<Answer, ReportFault>
-    requires valid { (table : List (List ℕ)) × IsValidScript script.now table
-        × MayStand script.now table level line.now }
+    requires valid { IsValidWhere script.now
+        (λ table. MayStand script.now table level line.now) }
     requires room { lines.old.1 + 1 < 2 ^ 32 }
     ensures answer { IfOk result (Fits script.now level line.now) }
-    ensures got { IfOk result (λ answer. HasGot script.now (Answered level line.now ∷ [])
-        (answer_words script.now line.now answer ∷ []) lines.old lines.new) }
+    ensures got { IfOk result (HasGotAnswer script.now level line.now lines.old lines.new) }
     ensures fault { IfErr result (IsPartFault script.now (Answered level line.now ∷ []) lines.old) }
 {
     let number = lines.next;
@@ -128,14 +126,13 @@ fn read_answers(
     commands: &[Line],
     lines: &mut Lines,
 ) -> Result<Items<Answer>, ReportFault>
-    requires valid { (table : List (List ℕ)) × IsValidScript script.now table
-        × All (MayStand script.now table level) commands.now }
+    requires valid { IsValidWhere script.now
+        (λ table. All (MayStand script.now table level) commands.now) }
     requires room { lines.old.1 + length commands.now < 2 ^ 32 }
     ensures answers { IfOk result (AllZip (Fits script.now level) commands.now) }
-    ensures got { IfOk result (λ answers. HasGot script.now (map (Answered level) commands.now)
-        (answers_lines script.now commands.now answers) lines.old lines.new) }
+    ensures got { IfOk result (HasGotAnswers script.now level commands.now lines.old lines.new) }
     ensures fault { IfErr result (IsPartFault script.now
-        (map (Answered level) commands.now) lines.old) }
+        (answers_dues level commands.now) lines.old) }
 {
     let mut answers = Items::new(Vec::new(alloc));
     for line in commands {
@@ -146,8 +143,7 @@ fn read_answers(
 
 /// The line that a session begins with, without its line feed.
 fn session_line(alloc: Global, plan: &SessionPlan) -> Result<Vec<u8>, NoMemory>
-    ensures line { IfOk result (λ line. line.items ≡ join_with_byte 32
-        (codes "session" ∷ plan.now.name ∷ level_word plan.now.level ∷ [])) }
+    ensures line { IfOk result (λ line. line.items ≡ bare_line (session_words plan.now)) }
     ensures named { OnOk result (IsName plan.now.name) }
 {
     let mut line = Vec::new(alloc);
@@ -165,13 +161,11 @@ fn read_session_part(
     plan: &SessionPlan,
     lines: &mut Lines,
 ) -> Result<Items<Answer>, ReportFault>
-    requires valid { (table : List (List ℕ)) × IsValidScript script.now table
-        × IsValidSession script.now table plan.now }
+    requires valid { IsValidWhere script.now
+        (λ table. IsValidSession script.now table plan.now) }
     requires room { lines.old.1 + length (session_dues plan.now) < 2 ^ 32 }
     ensures answers { IfOk result (AreAnswers script.now plan.now) }
-    ensures got { IfOk result (λ answers. HasGot script.now (session_dues plan.now)
-        ((codes "session" ∷ plan.now.name ∷ level_word plan.now.level ∷ [])
-        ∷ answers_lines script.now plan.now.lines answers) lines.old lines.new) }
+    ensures got { IfOk result (HasGotSession script.now plan.now lines.old lines.new) }
     ensures fault { IfErr result (IsPartFault script.now (session_dues plan.now) lines.old) }
 {
     let line = session_line(alloc, plan)?;
@@ -186,14 +180,12 @@ fn read_sessions(
     plans: &[SessionPlan],
     lines: &mut Lines,
 ) -> Result<Items<Items<Answer>>, ReportFault>
-    requires valid { (table : List (List ℕ)) × IsValidScript script.now table
-        × All (IsValidSession script.now table) plans.now }
-    requires room { lines.old.1 + length (flat_map session_dues plans.now) < 2 ^ 32 }
+    requires valid { IsValidWhere script.now
+        (λ table. All (IsValidSession script.now table) plans.now) }
+    requires room { lines.old.1 + length (sessions_dues plans.now) < 2 ^ 32 }
     ensures answers { IfOk result (AllZip (AreAnswers script.now) plans.now) }
-    ensures got { IfOk result (λ answers. HasGot script.now (flat_map session_dues plans.now)
-        (sessions_lines script.now plans.now answers) lines.old lines.new) }
-    ensures fault { IfErr result (IsPartFault script.now
-        (flat_map session_dues plans.now) lines.old) }
+    ensures got { IfOk result (HasGotSessions script.now plans.now lines.old lines.new) }
+    ensures fault { IfErr result (IsPartFault script.now (sessions_dues plans.now) lines.old) }
 {
     let mut answers = Items::new(Vec::new(alloc));
     for plan in plans {
@@ -212,9 +204,8 @@ fn push_places(
     replicas: &[u16],
 ) -> Result<(), NoMemory>
     requires { workers ≤ 8 }
-    ensures { OnOk result (places.new.items ≡ places.old.items ++ map (λ worker. (key, worker))
-        (filter (λ worker. list_any (λ replica. replica == worker) replicas.now)
-        (range_with_len 1 workers))) }
+    ensures { OnOk result (places.new.items
+        ≡ places.old.items ++ places_within key replicas.now workers) }
 {
     for i in 0..workers {
         let worker = i + 1;
@@ -261,8 +252,7 @@ fn read_final_line(
     requires worker { IsOneOf script.now.config.workers worker }
     requires room { lines.old.1 + 1 < 2 ^ 32 }
     ensures cell { IfOk result (IsFinalAt script.now key worker) }
-    ensures got { IfOk result (λ cell. HasGot script.now (FinalOf key worker ∷ [])
-        (final_words script.now cell ∷ []) lines.old lines.new) }
+    ensures got { IfOk result (HasGotFinal script.now key worker lines.old lines.new) }
     ensures fault { IfErr result (IsPartFault script.now (FinalOf key worker ∷ []) lines.old) }
 {
     let number = lines.next;
@@ -281,13 +271,11 @@ fn read_finals(
     lines: &mut Lines,
 ) -> Result<Items<FinalCell>, ReportFault>
     requires valid { IsValid script.now }
-    requires places { All (λ place. IsOneOf (length script.now.config.keys) place.0
-        × IsOneOf script.now.config.workers place.1) places.now }
+    requires places { All (IsPlaceIn script.now) places.now }
     requires room { lines.old.1 + length places.now < 2 ^ 32 }
     ensures places { IfOk result (λ cells. map place_of cells ≡ places.now) }
     ensures cells { IfOk result (All (IsFinalIn script.now)) }
-    ensures got { IfOk result (λ cells. HasGot script.now (finals_dues places.now)
-        (map (final_words script.now) cells) lines.old lines.new) }
+    ensures got { IfOk result (HasGotFinals script.now places.now lines.old lines.new) }
     ensures fault { IfErr result (IsPartFault script.now (finals_dues places.now) lines.old) }
 {
     let mut cells = Items::new(Vec::new(alloc));
@@ -306,18 +294,15 @@ fn read_parts(
     places: &[(u16, u16)],
     lines: &mut Lines,
 ) -> Result<Report, ReportFault>
-    requires valid { (table : List (List ℕ)) × IsValidScript script.now table
-        × (places.now ≡ final_places script.now table) }
+    requires valid { IsValidWhere script.now
+        (λ table. places.now ≡ final_places script.now table) }
     requires first { lines.old.1 ≡ 1 }
-    ensures form { (table : List (List ℕ)) → IsValidScript script.now table
-        → places.now ≡ final_places script.now table → IfOk result (HasForm script.now table) }
-    ensures got { (table : List (List ℕ)) → IsValidScript script.now table
-        → places.now ≡ final_places script.now table
-        → IfOk result (λ report. HasGot script.now (report_dues script.now table)
-        (report_lines script.now report) lines.old lines.new) }
-    ensures fault { (table : List (List ℕ)) → IsValidScript script.now table
-        → places.now ≡ final_places script.now table
-        → IfErr result (IsPartFault script.now (report_dues script.now table) lines.old) }
+    ensures form { WhereverPlaced script.now places.now
+        (λ table. IfOk result (HasForm script.now table)) }
+    ensures got { WhereverPlaced script.now places.now
+        (λ table. IfOk result (HasGotReport script.now table lines.old lines.new)) }
+    ensures fault { WhereverPlaced script.now places.now
+        (λ table. IfErr result (IsPartFault script.now (report_dues script.now table) lines.old)) }
 {
     read_exactly(lines, b"anna report 1")?;
     let answers = read_sessions(alloc, script, script.sessions.as_slice(), lines)?;

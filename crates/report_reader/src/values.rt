@@ -1,15 +1,16 @@
 //! Values, read.
-ghost use Rattle.std.specs.Prelude.{◌≡◌, ◌↔◌, ◌<◌, ◌^◌, ⊤, IfOk, IsTrue, List, ℕ, ◌++◌, codes, map, MatchOption};
+ghost use Rattle.std.specs.Prelude.{◌≡◌, ◌↔◌, ◌<◌, ◌^◌, ⊤, IfOk, IsTrue, codes, map};
 ghost use Rattle.std.specs.List.{join_with_byte};
 ghost use Rattle.basic_lattices.specs.TextSet.{IsTextSet};
 ghost use Rattle.basic_lattices.specs.Word.{IsWord};
 ghost use Rattle.composed_value.specs.Value.{IsFields, IsBottomOr};
 ghost use Rattle.session_known.specs.Form.{IsValueIn};
 ghost use Rattle.session_known.specs.Script.{IsValid};
+ghost use Rattle.report_reader.specs.Cuts.{FindsPart, with_braces, with_parenthesis};
 ghost use Rattle.report_reader.specs.ReadRows.{IsRow};
 ghost use Rattle.report_reader.specs.ReadValues.{greatest_word, flag_word, IsField, IsStampIn, stamp_text, IsStampedIn, last_word, IsVersionIn, AreVersionsIn};
 ghost use Rattle.report_reader.specs.Reads.{Reads};
-ghost use Rattle.report_lines.specs.Text.{braced, field_text, stamped_text, version_text, versions_word, value_word};
+ghost use Rattle.report_lines.specs.Text.{braced, field_text, fields_text, stamped_text, version_text, each_version_text, versions_word, value_word};
 
 use crate::clocks::read_clock;
 use crate::words::{cut_at, pieces_of, read_number, read_session, read_small_number};
@@ -58,8 +59,7 @@ fn read_word(text: &[u8]) -> Option<Word>
 
 /// What stands between the braces around it.
 fn in_braces(text: &[u8]) -> Option<&[u8]>
-    ensures { MatchOption result ((inner : List ℕ) → text.now ≡ codes "{" ++ (inner ++ codes "}")
-        → ⊥) (λ inner. text.now ≡ codes "{" ++ (inner.now ++ codes "}")) }
+    ensures { FindsPart with_braces text.now result }
 {
     let [b'{', inner @ .., b'}'] = text else {
         return None;
@@ -69,8 +69,7 @@ fn in_braces(text: &[u8]) -> Option<&[u8]>
 
 /// What stands before the parenthesis at the end.
 fn before_parenthesis(text: &[u8]) -> Option<&[u8]>
-    ensures { MatchOption result ((inner : List ℕ) → text.now ≡ inner ++ codes ")" → ⊥)
-        (λ inner. text.now ≡ inner.now ++ codes ")") }
+    ensures { FindsPart with_parenthesis text.now result }
 {
     let [inner @ .., b')'] = text else {
         return None;
@@ -151,8 +150,7 @@ fn read_map(alloc: Global, text: &[u8]) -> Result<Option<FieldMax>, NoMemory>
 
 /// Reads the fields of a map, of which there are some, between commas.
 fn read_fields(alloc: Global, text: &[u8]) -> Result<Option<FieldMax>, NoMemory>
-    ensures { IfOk result (Reads (IsRow IsFields)
-        (λ fields. join_with_byte 44 (map field_text fields)) text.now) }
+    ensures { IfOk result (Reads (IsRow IsFields) fields_text text.now) }
 {
     let pieces = pieces_of(alloc, text, b',')?;
     let mut fields = MapOf::new(alloc);
@@ -258,7 +256,7 @@ fn read_each_version(
 ) -> Result<Option<Versions>, NoMemory>
     requires { IsValid script.now }
     ensures { IfOk result (Reads (IsRow (AreVersionsIn script.now))
-        (λ versions. join_with_byte 124 (map (version_text script.now) versions)) text.now) }
+        (each_version_text script.now) text.now) }
 {
     let pieces = pieces_of(alloc, text, b'|')?;
     let mut versions = Versions::new(alloc);

@@ -1,8 +1,10 @@
 //! Words of a report, read: numbers, names and workers, and texts cut at a byte.
-ghost use Rattle.std.specs.Prelude.{◌≡◌, ◌↔◌, List, ℕ, ◌<◌, ◌^◌, ◌==◌, ◌∷◌, ◌++◌, false, map, length, decimal, IfOk, IsTrue, MatchOption};
-ghost use Rattle.std.specs.List.{list_any, slice_split};
+ghost use Rattle.std.specs.Prelude.{◌≡◌, ◌↔◌, ◌<◌, ◌^◌, ◌==◌, length, decimal, IfOk, IsTrue};
+ghost use Rattle.std.specs.List.{slice_split};
 ghost use Rattle.placement.specs.Config.{IsOneOf};
 ghost use Rattle.session_known.specs.Script.{IsValid, key_name, session_name};
+ghost use Rattle.script_reader.specs.Words.{texts};
+ghost use Rattle.report_reader.specs.Cuts.{CutsAt};
 ghost use Rattle.report_reader.specs.Reads.{Reads};
 ghost use Rattle.report_lines.specs.Text.{worker_word};
 
@@ -15,9 +17,7 @@ use std::alloc::Global;
 
 /// A text cut at the first place of a byte, which is in neither part.
 pub(crate) fn cut_at(text: &[u8], byte: u8) -> Option<(&[u8], &[u8])>
-    ensures { MatchOption result (list_any (λ b. b == byte) text.now ≡ false)
-        (λ parts. (text.now ≡ parts.0.now ++ byte ∷ parts.1.now)
-        × (list_any (λ b. b == byte) parts.0.now ≡ false)) }
+    ensures { CutsAt byte text.now result }
 {
     let at = text.iter().position(|b| *b == byte)?;
     Some((&text[..at], &text[at + 1..]))
@@ -25,8 +25,7 @@ pub(crate) fn cut_at(text: &[u8], byte: u8) -> Option<(&[u8], &[u8])>
 
 /// What stands between the places of a byte, an empty text too.
 pub(crate) fn pieces_of(alloc: Global, text: &[u8], byte: u8) -> Result<Vec<&[u8]>, NoMemory>
-    ensures { IfOk result (λ pieces. map (λ piece. piece.now) pieces.items
-        ≡ slice_split (λ b. b == byte) text.now) }
+    ensures { IfOk result (λ pieces. texts pieces.items ≡ slice_split (λ b. b == byte) text.now) }
 {
     Ok(text.split(|b| *b == byte).collect(alloc)?)
 }

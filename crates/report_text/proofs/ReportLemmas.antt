@@ -4,7 +4,6 @@ use Rattle.std.proofs.lemmas.List.{take_all}
 use Rattle.std.proofs.lemmas.List.Concat.{flat_map-append}
 use Rattle.std.proofs.lemmas.List.Elements.{All-nil, All-cons, All-head, All-tail}
 use Rattle.std.proofs.lemmas.Bool.{ne_eqb}
-use Rattle.std.specs.Prelude.{◌==◌, if◌then◌else◌}
 use Rattle.std.specs.Fmt.{decimal}
 use Rattle.std.proofs.lemmas.Option.{slice_get-get_or}
 use Rattle.std.proofs.lemmas.Slice.Zip.{length-zip, get_or-zip}
@@ -18,7 +17,7 @@ use Rattle.session_known.specs.declared.script.Level.{Level}
 use Rattle.session_known.specs.declared.script.Line.{Line}
 use Rattle.session_known.specs.declared.script.Script.{Script}
 use Rattle.session_known.specs.declared.script.SessionPlan.{SessionPlan}
-use Rattle.report_lines.specs.Text.{level_word, answer_words, answers_lines, sessions_lines, final_words, line_text, text_of}
+use Rattle.report_lines.specs.Text.{number_at, commit_words, session_words, answer_words, answers_lines, sessions_lines, final_words, line_text, text_of}
 use Rattle.report_text.specs.Writes.{MayAnswer, session_text}
 
 -- ---- pairs of two lists
@@ -54,7 +53,7 @@ pub sessions_text : (script : Script) (plans : List SessionPlan) (others : List 
 sessions_text script [] others = refl
 sessions_text script (plan ∷ plans) [] = refl
 sessions_text script (plan ∷ plans) (answers ∷ others) =
-    let head = line_text (codes "session" ∷ plan.name ∷ level_word plan.level ∷ []) in
+    let head = line_text (session_words plan) in
     let lines = answers_lines script plan.lines answers in
     ap (λ rest. head ++ rest) (flat_map-append line_text lines (sessions_lines script plans others) ∙ ap (λ rest. flat_map line_text lines ++ rest) (sessions_text script plans others))
     ∙ sym (append_assoc head (flat_map line_text lines) (flat_map (λ pair. session_text script pair.0 pair.1) (zip plans others)))
@@ -78,7 +77,7 @@ answer_line script line line' answer answer' line_is answer_is =
     ap (λ line. line_text (answer_words script line answer')) (sym line_is) ∙ ap (λ answer. line_text (answer_words script line answer)) (sym answer_is)
 
 -- the line of a commit that put something
-pub commit_line : (puts lamport : ℕ) → puts ≢ 0 → line_text (codes "commit" ∷ decimal puts ∷ codes "at" ∷ decimal lamport ∷ []) ≡ line_text (if puts == 0 then (codes "commit" ∷ codes "0" ∷ []) else (codes "commit" ∷ decimal puts ∷ codes "at" ∷ decimal lamport ∷ []))
+pub commit_line : (puts lamport : ℕ) → puts ≢ 0 → line_text (codes "commit" ∷ number_at (decimal puts) (decimal lamport)) ≡ line_text (commit_words puts lamport)
 commit_line puts lamport some = rw (ne_eqb puts 0 some) refl
 
 -- ---- what a report in form names

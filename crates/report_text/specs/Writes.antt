@@ -1,6 +1,9 @@
 -- What is written, in the pieces in which it is written.
-use Rattle.std.specs.Prelude.{ℕ, zero, suc, List, [], ◌∷◌, ◌++◌, codes}
-use Rattle.std.specs.List.{flat_map}
+use Rattle.std.specs.Prelude.{ℕ, zero, suc, List, [], ◌∷◌, ◌++◌}
+use Rattle.std.specs.List.{AllZip, flat_map}
+use Rattle.outside.specs.Gathering.{Adds}
+use Rattle.outside.specs.declared.Sink as sinks
+use Rattle.outside.specs.declared.gathering.Out.{Out}
 use Rattle.session_known.specs.Form.{Fits}
 use Rattle.session_known.specs.Script.{MayStand}
 use Rattle.session_known.specs.declared.report.Answer.{Answer}
@@ -8,7 +11,7 @@ use Rattle.session_known.specs.declared.script.Level.{Level}
 use Rattle.session_known.specs.declared.script.Line.{Line}
 use Rattle.session_known.specs.declared.script.Script.{Script}
 use Rattle.session_known.specs.declared.script.SessionPlan.{SessionPlan}
-use Rattle.report_lines.specs.Text.{level_word, answers_lines, line_text}
+use Rattle.report_lines.specs.Text.{session_words, answers_lines, line_text}
 
 -- what stands before an item of a list, by its place: a separator, but before the first nothing
 abbrev pub between : ℕ → ℕ → List ℕ
@@ -20,10 +23,26 @@ unfoldable pub spaced : List (List ℕ) → List ℕ
 spaced [] = []
 spaced (word ∷ words) = 32 ∷ (word ++ spaced words)
 
+-- the words were written on the way to a sink, each after a space
+abbrev pub AddsWords : {K : Type 0} → sinks.Ghosts K → Out K → Out K → List (List ℕ) → Type 0
+AddsWords sink before now words = Adds sink.written sink.faults before now (spaced words)
+
+-- the words were written as a line
+abbrev pub AddsLine : {K : Type 0} → sinks.Ghosts K → Out K → Out K → List (List ℕ) → Type 0
+AddsLine sink before now words = Adds sink.written sink.faults before now (line_text words)
+
+-- and so were lines, one after another
+abbrev pub AddsLines : {K : Type 0} → sinks.Ghosts K → Out K → Out K → List (List (List ℕ)) → Type 0
+AddsLines sink before now lines = Adds sink.written sink.faults before now (flat_map line_text lines)
+
 -- the lines of a session
 abbrev pub session_text : Script → SessionPlan → List Answer → List ℕ
-session_text script plan answers = line_text (codes "session" ∷ plan.name ∷ level_word plan.level ∷ []) ++ flat_map line_text (answers_lines script plan.lines answers)
+session_text script plan answers = line_text (session_words plan) ++ flat_map line_text (answers_lines script plan.lines answers)
 
 -- the line may stand in a session of the script, and the answer is one that it may have
 abbrev pub MayAnswer : Script → Line → Answer → Type 0
 MayAnswer script line answer = (table : List (List ℕ)) × (level : Level) × MayStand script table level line × Fits script level line answer
+
+-- the answers are ones that the lines of the session may have
+abbrev pub MayAnswerAll : Script → SessionPlan → List Answer → Type 0
+MayAnswerAll script plan answers = AllZip (MayAnswer script) plan.lines answers

@@ -1,9 +1,8 @@
 //! Lines of answers, written to a text.
-ghost use Rattle.std.specs.Prelude.{[], ◌∷◌, ◌==◌, codes, decimal, if◌then◌else◌};
-ghost use Rattle.session_known.specs.Script.{key_name, session_name};
-ghost use Rattle.outside.specs.Gathering.{Adds};
-ghost use Rattle.report_lines.specs.Text.{worker_word, shown_words, needs_words, again_words, answer_words, line_text};
-ghost use Rattle.report_text.specs.Writes.{MayAnswer, spaced};
+ghost use Rattle.std.specs.Prelude.{[], ◌∷◌, codes, decimal};
+ghost use Rattle.session_known.specs.Script.{key_name};
+ghost use Rattle.report_lines.specs.Text.{shown_words, needs_words, again_words, gave_up_words, put_words, awaited_words, number_at, commit_words, answer_words};
+ghost use Rattle.report_text.specs.Writes.{MayAnswer, AddsWords, AddsLine};
 
 use crate::cells::{
     write_cell, write_clock_words, write_needs, write_spaced_key, write_spaced_session,
@@ -20,8 +19,7 @@ use session_known::{Answer, Line, Script, Shown};
 /// Writes the needs of a shown cell, where there are any.
 #[tactic(auto, using(crate::proofs::WritesLemmas::words))]
 fn write_shown_needs<K: Sink>(out: &mut Out<'_, K>, script: &Script, shown: &Shown)
-    ensures { Adds K.written K.faults out.old out.new
-        (spaced (needs_words script.now shown.now.needs)) }
+    ensures { AddsWords K.Sink out.old out.new (needs_words script.now shown.now.needs) }
 {
     if let Some(needs) = &shown.needs {
         write_spaced(out, b"needs");
@@ -32,8 +30,7 @@ fn write_shown_needs<K: Sink>(out: &mut Out<'_, K>, script: &Script, shown: &Sho
 
 /// Writes what a worker showed.
 fn write_shown<K: Sink>(out: &mut Out<'_, K>, script: &Script, worker: u16, shown: &Shown)
-    ensures { Adds K.written K.faults out.old out.new
-        (spaced (shown_words script.now worker shown.now)) }
+    ensures { AddsWords K.Sink out.old out.new (shown_words script.now worker shown.now) }
 {
     write_spaced_worker(out, worker);
     write_cell(out, script, &shown.clock, shown.top, &shown.value);
@@ -49,8 +46,7 @@ fn write_again<K: Sink>(
     worker: u16,
     clock: &Clock,
 )
-    ensures { Adds K.written K.faults out.old out.new
-        (spaced (again_words script.now asks worker clock.now)) }
+    ensures { AddsWords K.Sink out.old out.new (again_words script.now asks worker clock.now) }
 {
     write_spaced(out, b"after");
     write_spaced_number(out, asks);
@@ -61,8 +57,7 @@ fn write_again<K: Sink>(
 /// Writes a number and the Lamport number of a put or of a commit.
 #[tactic(auto, using(crate::proofs::WritesLemmas::words))]
 fn write_stamp<K: Sink, N: Integer>(out: &mut Out<'_, K>, number: N, lamport: u64)
-    ensures { Adds K.written K.faults out.old out.new
-        (spaced (N.text number ∷ codes "at" ∷ decimal lamport ∷ [])) }
+    ensures { AddsWords K.Sink out.old out.new (number_at (N.text number) (decimal lamport)) }
 {
     write_spaced_number(out, number);
     write_spaced(out, b"at");
@@ -73,9 +68,8 @@ fn write_stamp<K: Sink, N: Integer>(out: &mut Out<'_, K>, number: N, lamport: u6
 
 /// Writes the line of a put that was accepted.
 fn write_put<K: Sink>(out: &mut Out<'_, K>, script: &Script, key: u16, number: u64, lamport: u64)
-    ensures { Adds K.written K.faults out.old out.new
-        (line_text (codes "put" ∷ key_name script.now key
-        ∷ decimal number ∷ codes "at" ∷ decimal lamport ∷ [])) }
+    ensures { AddsLine K.Sink out.old out.new
+        (put_words script.now key (number_at (decimal number) (decimal lamport))) }
 {
     out.write(b"put");
     write_spaced_key(out, script, key);
@@ -85,8 +79,7 @@ fn write_put<K: Sink>(out: &mut Out<'_, K>, script: &Script, key: u16, number: u
 
 /// Writes the line of a put that was not accepted yet, or not at all, with the word that says so.
 fn write_other_put<K: Sink>(out: &mut Out<'_, K>, script: &Script, key: u16, word: &[u8])
-    ensures { Adds K.written K.faults out.old out.new
-        (line_text (codes "put" ∷ key_name script.now key ∷ word.now ∷ [])) }
+    ensures { AddsLine K.Sink out.old out.new (put_words script.now key (word.now ∷ [])) }
 {
     out.write(b"put");
     write_spaced_key(out, script, key);
@@ -98,9 +91,8 @@ fn write_other_put<K: Sink>(out: &mut Out<'_, K>, script: &Script, key: u16, wor
 
 /// Writes the line of a get that was shown a cell.
 fn write_got<K: Sink>(out: &mut Out<'_, K>, script: &Script, key: u16, worker: u16, shown: &Shown)
-    ensures { Adds K.written K.faults out.old out.new
-        (line_text (codes "get" ∷ key_name script.now key
-        ∷ shown_words script.now worker shown.now)) }
+    ensures { AddsLine K.Sink out.old out.new (codes "get" ∷ key_name script.now key
+        ∷ shown_words script.now worker shown.now) }
 {
     out.write(b"get");
     write_spaced_key(out, script, key);
@@ -117,9 +109,8 @@ fn write_get_again<K: Sink>(
     worker: u16,
     clock: &Clock,
 )
-    ensures { Adds K.written K.faults out.old out.new
-        (line_text (codes "again" ∷ key_name script.now key
-        ∷ again_words script.now asks worker clock.now)) }
+    ensures { AddsLine K.Sink out.old out.new (codes "again" ∷ key_name script.now key
+        ∷ again_words script.now asks worker clock.now) }
 {
     out.write(b"again");
     write_spaced_key(out, script, key);
@@ -132,8 +123,7 @@ fn write_get_again<K: Sink>(
 /// Writes what is awaited: puts of a session on a key, so many.
 #[tactic(auto, using(crate::proofs::WritesLemmas::words))]
 fn write_awaited<K: Sink>(out: &mut Out<'_, K>, script: &Script, key: u16, session: u16, count: u64)
-    ensures { Adds K.written K.faults out.old out.new
-        (spaced (key_name script.now key ∷ session_name script.now session ∷ decimal count ∷ [])) }
+    ensures { AddsWords K.Sink out.old out.new (awaited_words script.now key session count []) }
 {
     write_spaced_key(out, script, key);
     write_spaced_session(out, script, session);
@@ -149,8 +139,7 @@ fn write_gave_up<K: Sink>(
     worker: u16,
     clock: &Clock,
 )
-    ensures { Adds K.written K.faults out.old out.new
-        (spaced (codes "gave" ∷ codes "up" ∷ again_words script.now asks worker clock.now)) }
+    ensures { AddsWords K.Sink out.old out.new (gave_up_words script.now asks worker clock.now) }
 {
     write_spaced(out, b"gave");
     write_spaced(out, b"up");
@@ -161,9 +150,7 @@ fn write_gave_up<K: Sink>(
 
 /// Writes the line of a commit.
 fn write_commit<K: Sink>(out: &mut Out<'_, K>, puts: u32, lamport: u64)
-    ensures { Adds K.written K.faults out.old out.new
-        (line_text (if puts == 0 then (codes "commit" ∷ codes "0" ∷ [])
-        else (codes "commit" ∷ decimal puts ∷ codes "at" ∷ decimal lamport ∷ []))) }
+    ensures { AddsLine K.Sink out.old out.new (commit_words puts lamport) }
 {
     if puts == 0 {
         out.write(b"commit 0\n");
@@ -176,8 +163,7 @@ fn write_commit<K: Sink>(out: &mut Out<'_, K>, puts: u32, lamport: u64)
 
 /// Writes the line of an abort.
 fn write_abort<K: Sink>(out: &mut Out<'_, K>, puts: u32)
-    ensures { Adds K.written K.faults out.old out.new
-        (line_text (codes "abort" ∷ decimal puts ∷ [])) }
+    ensures { AddsLine K.Sink out.old out.new (codes "abort" ∷ decimal puts ∷ []) }
 {
     out.write(b"abort");
     write_spaced_number(out, puts);
@@ -194,8 +180,7 @@ pub(crate) fn write_answer<K: Sink>(
     answer: &Answer,
 )
     requires { MayAnswer script.now line.now answer.now }
-    ensures { Adds K.written K.faults out.old out.new
-        (line_text (answer_words script.now line.now answer.now)) }
+    ensures { AddsLine K.Sink out.old out.new (answer_words script.now line.now answer.now) }
 {
     match (line, answer) {
         (Line::Put { key, .. }, Answer::Put { number, lamport }) => {

@@ -3,9 +3,9 @@
 ghost use Rattle.std.specs.Prelude.{[], ◌∷◌, map, codes, decimal, if◌then◌else◌};
 ghost use Rattle.std.specs.List.{join_with_byte};
 ghost use Rattle.session_known.specs.Script.{key_name, session_name};
-ghost use Rattle.report_lines.specs.Text.{count_text, clock_word, need_text, needs_word, braced, field_text, stamped_text, version_text, versions_word, value_word, worker_word, cell_words};
+ghost use Rattle.report_lines.specs.Text.{count_text, counts_text, clock_word, need_text, each_need_text, needs_word, braced, field_text, fields_text, stamped_text, version_text, each_version_text, versions_word, value_word, worker_word, cell_words};
 ghost use Rattle.outside.specs.Gathering.{Adds};
-ghost use Rattle.report_text.specs.Writes.{spaced};
+ghost use Rattle.report_text.specs.Writes.{AddsWords};
 
 use crate::pieces::{write_number, write_separator, write_spaced, write_spaced_number};
 use basic_lattices::{FieldMax, Flag, MaxNum, Stamped, TextSet, Word};
@@ -41,7 +41,7 @@ pub(crate) fn write_session<K: Sink>(out: &mut Out<'_, K>, script: &Script, sess
 /// Writes the name of a key after a space.
 #[tactic(auto, using(crate::proofs::WritesLemmas::words))]
 pub(crate) fn write_spaced_key<K: Sink>(out: &mut Out<'_, K>, script: &Script, key: u16)
-    ensures { Adds K.written K.faults out.old out.new (spaced (key_name script.now key ∷ [])) }
+    ensures { AddsWords K.Sink out.old out.new (key_name script.now key ∷ []) }
 {
     out.write(b" ");
     write_key(out, script, key);
@@ -50,8 +50,7 @@ pub(crate) fn write_spaced_key<K: Sink>(out: &mut Out<'_, K>, script: &Script, k
 /// Writes the name of a session after a space.
 #[tactic(auto, using(crate::proofs::WritesLemmas::words))]
 pub(crate) fn write_spaced_session<K: Sink>(out: &mut Out<'_, K>, script: &Script, session: u16)
-    ensures { Adds K.written K.faults out.old out.new
-        (spaced (session_name script.now session ∷ [])) }
+    ensures { AddsWords K.Sink out.old out.new (session_name script.now session ∷ []) }
 {
     out.write(b" ");
     write_session(out, script, session);
@@ -69,7 +68,7 @@ fn write_worker<K: Sink>(out: &mut Out<'_, K>, worker: u16)
 /// Writes a worker after a space, ` @W`.
 #[tactic(auto, using(crate::proofs::WritesLemmas::words))]
 pub(crate) fn write_spaced_worker<K: Sink>(out: &mut Out<'_, K>, worker: u16)
-    ensures { Adds K.written K.faults out.old out.new (spaced (worker_word worker ∷ [])) }
+    ensures { AddsWords K.Sink out.old out.new (worker_word worker ∷ []) }
 {
     out.write(b" ");
     write_worker(out, worker);
@@ -90,7 +89,7 @@ fn write_count<K: Sink>(out: &mut Out<'_, K>, script: &Script, session: u16, cou
 /// Writes the counts of a clock between commas.
 fn write_counts<K: Sink>(out: &mut Out<'_, K>, script: &Script, clock: &Clock)
     ensures { Adds K.written K.faults out.old out.new
-        (join_with_byte 44 (map (count_text script.now) clock.now)) }
+        (counts_text script.now clock.now) }
 {
     for i in 0..clock.len() {
         let Some((session, count)) = clock.at(i) else {
@@ -128,7 +127,7 @@ fn write_need<K: Sink>(out: &mut Out<'_, K>, script: &Script, key: u16, clock: &
 /// Writes the clocks that are needed of keys between commas.
 fn write_each_need<K: Sink>(out: &mut Out<'_, K>, script: &Script, needs: &Needs)
     ensures { Adds K.written K.faults out.old out.new
-        (join_with_byte 44 (map (need_text script.now) needs.now)) }
+        (each_need_text script.now needs.now) }
 {
     for i in 0..needs.len() {
         let Some((key, clock)) = needs.at(i) else {
@@ -218,7 +217,7 @@ fn write_field<K: Sink>(out: &mut Out<'_, K>, field: &Word, number: &MaxNum)
 /// Writes the fields of a map between commas.
 fn write_fields<K: Sink>(out: &mut Out<'_, K>, fields: &FieldMax)
     ensures { Adds K.written K.faults out.old out.new
-        (join_with_byte 44 (map field_text fields.now)) }
+        (fields_text fields.now) }
 {
     for i in 0..fields.len() {
         let Some((field, number)) = fields.at(i) else {
@@ -271,7 +270,7 @@ fn write_version<K: Sink>(out: &mut Out<'_, K>, script: &Script, clock: &Clock, 
 /// Writes versions between vertical bars.
 fn write_each_version<K: Sink>(out: &mut Out<'_, K>, script: &Script, versions: &Versions)
     ensures { Adds K.written K.faults out.old out.new
-        (join_with_byte 124 (map (version_text script.now) versions.now)) }
+        (each_version_text script.now versions.now) }
 {
     for i in 0..versions.len() {
         let Some((clock, word)) = versions.at(i) else {
@@ -313,8 +312,8 @@ pub(crate) fn write_value<K: Sink>(out: &mut Out<'_, K>, script: &Script, value:
 /// Writes a clock as the words of a line, ` clock CLOCK`.
 #[tactic(auto, using(crate::proofs::WritesLemmas::words))]
 pub(crate) fn write_clock_words<K: Sink>(out: &mut Out<'_, K>, script: &Script, clock: &Clock)
-    ensures { Adds K.written K.faults out.old out.new
-        (spaced (codes "clock" ∷ clock_word script.now clock.now ∷ [])) }
+    ensures { AddsWords K.Sink out.old out.new
+        (codes "clock" ∷ clock_word script.now clock.now ∷ []) }
 {
     write_spaced(out, b"clock");
     out.write(b" ");
@@ -324,8 +323,8 @@ pub(crate) fn write_clock_words<K: Sink>(out: &mut Out<'_, K>, script: &Script, 
 /// Writes a value as the words of a line, ` value VALUE`.
 #[tactic(auto, using(crate::proofs::WritesLemmas::words))]
 pub(crate) fn write_value_words<K: Sink>(out: &mut Out<'_, K>, script: &Script, value: &Value)
-    ensures { Adds K.written K.faults out.old out.new
-        (spaced (codes "value" ∷ value_word script.now value.now ∷ [])) }
+    ensures { AddsWords K.Sink out.old out.new
+        (codes "value" ∷ value_word script.now value.now ∷ []) }
 {
     write_spaced(out, b"value");
     out.write(b" ");
@@ -341,8 +340,7 @@ pub(crate) fn write_cell<K: Sink>(
     top: u64,
     value: &Value,
 )
-    ensures { Adds K.written K.faults out.old out.new
-        (spaced (cell_words script.now clock.now top value.now [])) }
+    ensures { AddsWords K.Sink out.old out.new (cell_words script.now clock.now top value.now []) }
 {
     write_clock_words(out, script, clock);
     write_spaced(out, b"top");

@@ -1,7 +1,7 @@
 //! Pieces of text, words and separators, written to a text on its way to a sink.
 ghost use Rattle.std.specs.Prelude.{[], ◌∷◌};
 ghost use Rattle.outside.specs.Gathering.{Adds};
-ghost use Rattle.report_text.specs.Writes.{between, spaced};
+ghost use Rattle.report_text.specs.Writes.{between, AddsWords};
 
 use itoa::{Buffer, Integer};
 use script_reader::outside::{Out, Sink};
@@ -17,7 +17,7 @@ pub(crate) fn write_number<K: Sink, N: Integer>(out: &mut Out<'_, K>, number: N)
 /// Writes a word after a space.
 #[tactic(auto, using(crate::proofs::WritesLemmas::words))]
 pub(crate) fn write_spaced<K: Sink>(out: &mut Out<'_, K>, word: &[u8])
-    ensures { Adds K.written K.faults out.old out.new (spaced (word.now ∷ [])) }
+    ensures { AddsWords K.Sink out.old out.new (word.now ∷ []) }
 {
     out.write(b" ");
     out.write(word);
@@ -26,7 +26,7 @@ pub(crate) fn write_spaced<K: Sink>(out: &mut Out<'_, K>, word: &[u8])
 /// Writes a number after a space.
 #[tactic(auto, using(crate::proofs::WritesLemmas::words))]
 pub(crate) fn write_spaced_number<K: Sink, N: Integer>(out: &mut Out<'_, K>, number: N)
-    ensures { Adds K.written K.faults out.old out.new (spaced (N.text number ∷ [])) }
+    ensures { AddsWords K.Sink out.old out.new (N.text number ∷ []) }
 {
     out.write(b" ");
     write_number(out, number);

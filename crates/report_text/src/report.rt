@@ -1,11 +1,10 @@
 //! Writes reports.
-ghost use Rattle.std.specs.Prelude.{[], ◌∷◌, codes};
 ghost use Rattle.std.specs.List.{AllZip, flat_map};
 ghost use Rattle.session_known.specs.Form.{HasFormSomewhere};
 ghost use Rattle.outside.specs.Gathering.{Adds, Wrote};
 ghost use Rattle.outside.specs.Outside.{HasCause};
-ghost use Rattle.report_lines.specs.Text.{level_word, answers_lines, sessions_lines, text_of, line_text, final_words, short_words};
-ghost use Rattle.report_text.specs.Writes.{MayAnswer, session_text};
+ghost use Rattle.report_lines.specs.Text.{level_word, session_words, answers_lines, sessions_lines, text_of, line_text, final_words, short_words};
+ghost use Rattle.report_text.specs.Writes.{MayAnswer, MayAnswerAll, AddsLine, AddsLines, session_text};
 
 use crate::answers::write_answer;
 use crate::cells::{
@@ -68,8 +67,7 @@ fn write_level<K: Sink>(out: &mut Out<'_, K>, level: Level)
 
 /// Writes the line that a session begins with.
 fn write_session_line<K: Sink>(out: &mut Out<'_, K>, plan: &SessionPlan)
-    ensures { Adds K.written K.faults out.old out.new
-        (line_text (codes "session" ∷ plan.now.name ∷ level_word plan.now.level ∷ [])) }
+    ensures { AddsLine K.Sink out.old out.new (session_words plan.now) }
 {
     out.write(b"session");
     out.write(b" ");
@@ -82,8 +80,7 @@ fn write_session_line<K: Sink>(out: &mut Out<'_, K>, plan: &SessionPlan)
 /// Writes the lines of a session's answers.
 fn write_answers<K: Sink>(out: &mut Out<'_, K>, script: &Script, lines: &[Line], answers: &[Answer])
     requires { AllZip (MayAnswer script.now) lines.now answers.now }
-    ensures { Adds K.written K.faults out.old out.new
-        (flat_map line_text (answers_lines script.now lines.now answers.now)) }
+    ensures { AddsLines K.Sink out.old out.new (answers_lines script.now lines.now answers.now) }
 {
     for (line, answer) in lines.iter().zip(answers) {
         write_answer(out, script, line, answer);
@@ -97,7 +94,7 @@ fn write_session_part<K: Sink>(
     plan: &SessionPlan,
     answers: &[Answer],
 )
-    requires { AllZip (MayAnswer script.now) plan.now.lines answers.now }
+    requires { MayAnswerAll script.now plan.now answers.now }
     ensures { Adds K.written K.faults out.old out.new
         (session_text script.now plan.now answers.now) }
 {
@@ -107,10 +104,9 @@ fn write_session_part<K: Sink>(
 
 /// Writes the lines of the sessions.
 fn write_sessions<K: Sink>(out: &mut Out<'_, K>, script: &Script, answers: &[Items<Answer>])
-    requires { AllZip (λ plan answers. AllZip (MayAnswer script.now) plan.lines answers)
-        script.now.sessions answers.now }
-    ensures { Adds K.written K.faults out.old out.new
-        (flat_map line_text (sessions_lines script.now script.now.sessions answers.now)) }
+    requires { AllZip (MayAnswerAll script.now) script.now.sessions answers.now }
+    ensures { AddsLines K.Sink out.old out.new
+        (sessions_lines script.now script.now.sessions answers.now) }
 {
     for (plan, answers) in script.sessions.as_slice().iter().zip(answers) {
         write_session_part(out, script, plan, answers.as_slice());
@@ -121,8 +117,7 @@ fn write_sessions<K: Sink>(out: &mut Out<'_, K>, script: &Script, answers: &[Ite
 
 /// Writes the line of a final cell.
 fn write_final_line<K: Sink>(out: &mut Out<'_, K>, script: &Script, cell: &FinalCell)
-    ensures { Adds K.written K.faults out.old out.new
-        (line_text (final_words script.now cell.now)) }
+    ensures { AddsLine K.Sink out.old out.new (final_words script.now cell.now) }
 {
     write_key(out, script, cell.key);
     write_spaced_worker(out, cell.worker);
@@ -132,8 +127,7 @@ fn write_final_line<K: Sink>(out: &mut Out<'_, K>, script: &Script, cell: &Final
 
 /// Writes the short line of a cell.
 fn write_short_line<K: Sink>(out: &mut Out<'_, K>, script: &Script, cell: &FinalCell)
-    ensures { Adds K.written K.faults out.old out.new
-        (line_text (short_words script.now cell.now)) }
+    ensures { AddsLine K.Sink out.old out.new (short_words script.now cell.now) }
 {
     write_key(out, script, cell.key);
     write_clock_words(out, script, &cell.clock);

@@ -4,14 +4,13 @@ use Rattle.std.specs.List.{AllZip}
 use Rattle.std.proofs.Common.{◌∙◌, refl, sym, ap, subst, inl, inr, length-append, arith}
 use Rattle.std.proofs.lemmas.Bool.{eq-eqb}
 use Rattle.std.proofs.lemmas.Bool.Decides.{eqb_tells}
-use Rattle.std.proofs.lemmas.List.{map-append}
 use Rattle.std.proofs.lemmas.List.Concat.{flat_map-append}
-use Rattle.std.proofs.lemmas.List.Elements.{All-append, All-cons, All-nil, All-weaker}
+use Rattle.std.proofs.lemmas.List.Elements.{All-append, All-cons, All-head, All-nil, All-tail, All-weaker}
 use Rattle.std.proofs.lemmas.List.Sums.{sum_by-cons, sum_by-le}
 use Rattle.lattice_laws.proofs.MembersLemmas.{contains_first, contains_later}
 use Rattle.mail_contract.proofs.FrontLemmas.{front_splits}
 use Rattle.mail_contract.specs.Takes.{IsFront, from_sender}
-use Rattle.mail_contract.proofs.WovenLemmas.{from_sender-append, from_sender_here, from_sender_there}
+use Rattle.mail_contract.proofs.WovenLemmas.{from_sender_here, from_sender_there}
 use Rattle.composed_value.specs.declared.put.Put.{Put}
 use Rattle.session_known.specs.Requests.{Sent, SentAsk, SentPut, asks_sent, puts_sent, sent_by, sent_from}
 use Rattle.session_known.specs.Session.{Client, State, after, puts_by}
@@ -32,7 +31,7 @@ use Rattle.store_msg.specs.declared.request.Request.{Request}
 use Rattle.store_msg.specs.declared.request.Request.TheVariants as requests
 use Rattle.worker_core.specs.Share.{Asked, asked_by, gets_after}
 use Rattle.worker_core.proofs.RepliesLemmas.{gets_after-append}
-use Rattle.run_ledger.proofs.MomentsLemmas.{in_all}
+use Rattle.run_ledger.proofs.ByWorkerLemmas.{from_worker, from_worker-append, in_all}
 use Rattle.run_ledger.proofs.OpenAsksLemmas.{ArePuts, puts_are}
 
 -- what holds place by place of two lists, of their fronts and of their backs
@@ -44,6 +43,15 @@ zip_parts R (x ∷ xs) more_xs (y ∷ ys) more_ys as_many all =
     ((all.0, rest.0), rest.1)
 zip_parts R [] more_xs (y ∷ ys) more_ys as_many all = absurd (omega (arith, as_many))
 zip_parts R (x ∷ xs) more_xs [] more_ys as_many all = absurd (omega (arith, as_many))
+
+-- what holds of each second item of pairs that are related, where something holds of each first
+pub zip_over : {A B : Type 0} (R : A → B → Type 0) (P : A → Type 0) (Q : B → Type 0) → ((a : A) (b : B) → R a b → P a → Q b)
+    → (xs : List A) (ys : List B) → AllZip R xs ys → All P xs → All Q ys
+zip_over R P Q each [] [] zipped all = All-nil Q
+zip_over R P Q each (x ∷ xs) (y ∷ ys) zipped all =
+    All-cons Q y ys (each x y zipped.0 (All-head P x xs all)) (zip_over R P Q each xs ys zipped.1 (All-tail P x xs all))
+zip_over R P Q each [] (y ∷ ys) zipped all = absurd zipped
+zip_over R P Q each (x ∷ xs) [] zipped all = absurd zipped
 
 -- the list without its first item
 abbrev rest_of : {X : Type 0} → List X → List X
@@ -186,17 +194,6 @@ made_for Replies session received front back ask key required early late reply a
       front_is = at.front_is;
       replies = (subst (λ t. AllZip Replies ((if t then asked_by at.before get else []) ++ later) (reply ∷ late)) (eq-eqb session session refl) here).0;
     }
-
--- replies, each with its worker
-abbrev pub by_worker : List PlainReply → List (ℕ × PlainReply)
-by_worker replies = map (λ reply. (reply.worker, reply)) replies
-
--- those of one worker
-abbrev pub from_worker : ℕ → List PlainReply → List PlainReply
-from_worker worker replies = from_sender worker (by_worker replies)
-
-pub from_worker-append : (worker : ℕ) (xs ys : List PlainReply) → from_worker worker (xs ++ ys) ≡ from_worker worker xs ++ from_worker worker ys
-from_worker-append worker xs ys = ap (from_sender worker) (map-append (λ (reply : PlainReply). (reply.worker, reply)) xs ys) ∙ from_sender-append worker (by_worker xs) (by_worker ys)
 
 -- so many asks and one more
 pub asks_more : (order : List ℕ) (first key : ℕ) (required : List (ℕ × ℕ)) (asks : ℕ)

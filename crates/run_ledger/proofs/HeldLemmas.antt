@@ -16,9 +16,8 @@ use Rattle.store_msg.specs.declared.request.Request.{Request}
 use Rattle.store_msg.specs.declared.request.Request.TheVariants as requests
 use Rattle.worker_core.specs.Share.{HoldsReceived, IsHeldFor, IsReplyTo, IsSession, Share, gets_after, held_for, replies_to}
 use Rattle.worker_core.specs.State.{Entries, Lists, kept_request}
-use Rattle.run_ledger.proofs.GetsLemmas.{as_many_gets, get_of, gets_came, gets_in, gets_of_both}
-use Rattle.run_ledger.proofs.RepliesLemmas.{zip_over}
-use Rattle.run_ledger.proofs.SessionsLemmas.{from_first}
+use Rattle.run_ledger.proofs.ByNumberLemmas.{from_first}
+use Rattle.run_ledger.proofs.GetsLemmas.{as_many_gets, get_of, gets_came, gets_in, gets_of_both, zip_over}
 
 -- a worker that keeps no request worked on all that it received
 pub all_worked : {kinds : List Kind} {cells : List (Option KeyCells)} {received kept : List (ℕ × Request)} {got : ℕ → ℕ → Option Entries} {kept_batch : List (ℕ × Entries)}

@@ -11,10 +11,9 @@ use Rattle.session_known.specs.Session.{start}
 use Rattle.session_proxy.specs.Polls.{is_ask}
 use Rattle.session_proxy.specs.Share.{Share, lacks, open_most, open_sent}
 use Rattle.session_proxy.specs.State.{Course, Lists}
-use Rattle.run_ledger.proofs.EndedRepliesLemmas.{part_few}
-use Rattle.run_ledger.proofs.GetsLemmas.{as_many_replied, few_gets, from_worker, from_worker-append, gets_in, gets_to, gets_to-append, lines_as_many, none_of_puts}
+use Rattle.run_ledger.proofs.ByWorkerLemmas.{all_by_worker, from_worker, from_worker-append, part_few}
+use Rattle.run_ledger.proofs.GetsLemmas.{as_many_replied, few_gets, gets_in, gets_to, gets_to-append, lines_as_many, none_of_puts}
 use Rattle.run_ledger.proofs.OpenAsksLemmas.{asks_or_puts, out_is}
-use Rattle.run_ledger.proofs.RepliesLemmas.{all_by_worker}
 
 -- one reply is wanting at most
 lacks_few : (waits : Bool) → lacks waits ≤ 1

@@ -1,20 +1,13 @@
--- The workers of a ledger by their numbers, and what came to each of the sessions.
-use Rattle.std.specs.Prelude.{◌≡◌, ℕ, zero, suc, ◌+◌, ◌≤◌, List, All, length, map, slice_index_or}
+-- The workers of a ledger by their numbers.
+use Rattle.std.specs.Prelude.{◌≡◌, ℕ, zero, suc, ◌+◌, ◌≤◌, List, All, length, slice_index_or}
 use Rattle.std.proofs.Common.{◌∙◌, sym, ap, arith}
 use Rattle.std.proofs.lemmas.List.{get_or-map, length-map}
 use Rattle.std.proofs.lemmas.List.FromFn.{get_or-range_with_len, length-range_with_len}
 use Rattle.placement.specs.Config.{IsOneOf}
 use Rattle.session_known.specs.declared.report.Report.{Report}
 use Rattle.session_known.specs.declared.script.Script.{Script}
-use Rattle.mail_contract.specs.Takes.{from_sender}
-use Rattle.session_known.specs.Requests.{requests_of}
-use Rattle.session_proxy.specs.Share.{to_worker}
 use Rattle.run_ledger.specs.Came.{Came, CameToWorker}
 use Rattle.run_ledger.specs.Ledger.{Ledger, WorkerEnd, no_worker, worker_at}
-use Rattle.run_ledger.proofs.AnsweredLemmas.{as_many}
-use Rattle.run_ledger.proofs.FrontsLemmas.{CameHere}
-use Rattle.run_ledger.proofs.SessionsLemmas.{IsSession, answers_at, client_at, lines_at, of_session}
-use Rattle.session_known.specs.Session.{start}
 
 -- one of the script's workers
 abbrev pub IsWorker : Script → ℕ → Type 0
@@ -33,7 +26,7 @@ module _ (script : Script) (table : List (List ℕ)) (report : Report) (ledger :
   in_ledger worker within = (within.0, omega (arith, within.1, workers_long))
 
   -- what holds of each worker holds of the one of a number
-  of_each : (P : WorkerEnd → Type 0) → All P ledger.workers → (worker : ℕ) → IsWorker script worker → P (worker_at ledger worker)
+  pub of_each : (P : WorkerEnd → Type 0) → All P ledger.workers → (worker : ℕ) → IsWorker script worker → P (worker_at ledger worker)
   of_each P all zero within = absurd (omega (arith, within.0))
   of_each P all (suc place) within = all place no_worker (omega (arith, within.1, workers_long))
 
@@ -49,24 +42,3 @@ module _ (script : Script) (table : List (List ℕ)) (report : Report) (ledger :
       let next : 1 + place ≡ suc place = omega arith in
       sym (get_or-map (λ (end : WorkerEnd). end.me) ledger.workers place no_worker 0 (omega (arith, low, workers_long)))
       ∙ ap (λ numbers. slice_index_or numbers place 0) came.numbered ∙ get_or-range_with_len 1 script.config.workers place 0 (omega (arith, low)) ∙ next
-
-  -- what came to a worker of a session is what its lines send there
-  pub came_to : (worker : ℕ) → IsWorker script worker → (session : ℕ) (is : IsSession script session)
-      → from_sender session (worker_at ledger worker).received
-      ≡ to_worker worker (requests_of table (client_at script session) (map length (of_session script table report ledger came.sessions session is).replies) (lines_at script session) (answers_at report session))
-  came_to worker within session is =
-      let its = of_session script table report ledger came.sessions session is in
-      of_each (λ end. from_sender session end.received ≡ to_worker end.me (requests_of table (client_at script session) (map length its.replies) (lines_at script session) (answers_at report session)))
-      its.requests worker within
-      ∙ ap (λ me. to_worker me (requests_of table (client_at script session) (map length its.replies) (lines_at script session) (answers_at report session))) (me_is worker within)
-
-  -- and so of all sessions
-  pub came_here : (worker : ℕ) → IsWorker script worker → CameHere script table report worker (worker_at ledger worker).received
-  came_here worker within = record {
-    of_sessions = (worker_came worker within).of_sessions;
-    said = λ session is. map length (of_session script table report ledger came.sessions session is).replies;
-    as_many = λ session is.
-        let its = of_session script table report ledger came.sessions session is in
-        length-map its.replies length ∙ as_many (client_at script session) table start 1 (lines_at script session) (answers_at report session) its.replies its.answered;
-    came = came_to worker within;
-  }

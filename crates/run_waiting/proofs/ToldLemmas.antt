@@ -12,7 +12,7 @@ use Rattle.store_msg.specs.declared.request.Request.TheVariants as requests
 use Rattle.worker_core.specs.State as workers
 use Rattle.run_ledger.proofs.HeldLemmas.{IsToOne, sent_to_gets}
 use Rattle.run_ledger.proofs.MessagesLemmas.{each_from}
-use Rattle.run_ledger.proofs.SessionsLemmas.{by_number}
+use Rattle.run_ledger.proofs.ByNumberLemmas.{by_number}
 use Rattle.run_waiting.specs.Laws.{IsWorkerOf, ToldRepliesAreToAsks}
 use Rattle.run_waiting.specs.Told.{IsTold}
 use Rattle.run_waiting.specs.Waiting.{IsToAsk}

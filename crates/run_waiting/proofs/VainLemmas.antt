@@ -20,7 +20,7 @@ use Rattle.worker_core.specs.State as workers
 use Rattle.run_ledger.proofs.GetsLemmas.{as_many_gets, gets_in, gets_of_both, made_for}
 use Rattle.run_ledger.proofs.HeldLemmas.{answering}
 use Rattle.run_ledger.proofs.MessagesLemmas.{of_sender}
-use Rattle.run_ledger.proofs.SessionsLemmas.{by_number}
+use Rattle.run_ledger.proofs.ByNumberLemmas.{by_number}
 use Rattle.run_waiting.proofs.AwaitedLemmas.{asked_worker, sent_last}
 use Rattle.run_waiting.specs.Laws.{HaveTakenAll, IsWorkerOf, NoSessionWaitsInVain}
 

@@ -25,7 +25,7 @@ use Rattle.script_reader.proofs.FaultsLaws.{code_number, code_name, code_twice, 
 use Rattle.script_reader.specs.Reader.{so_far, plans_of, begun_of, AreKept, IsKept, SuitsPlace, IsFaultOf, IsNameFault, HasRead, Reads, HasOpened}
 use Rattle.script_reader.specs.Said.{place_of, with_name, pins_said}
 use Rattle.script_reader.proofs.ValidListsLaws.{within_is, are_workers, no_repeat, name_new}
-use Rattle.script_reader.specs.Words.{number_said, is_number, number_of, is_name, kind_said, level_said}
+use Rattle.script_reader.specs.Words.{number_said, is_number, has_non_number, number_of, AreNumbers, is_name, kind_said, level_said}
 use Rattle.script_reader.specs.declared.code.Code.{Code}
 use Rattle.script_reader.specs.declared.code.Code.TheVariants as codes_of
 use Rattle.script_reader.specs.declared.keyword.Keyword.{Keyword}
@@ -34,7 +34,7 @@ use Rattle.script_reader.specs.declared.reader.LineFault.{LineFault}
 use Rattle.script_reader.specs.declared.reader.LineFault.TheVariants as faults
 use Rattle.script_reader.specs.declared.reader.Reader.{Reader}
 use Rattle.script_reader.specs.declared.reader.Sessions.{Sessions}
-use Rattle.script_reader.proofs.PinLemmas.{AreNumbers, either_first}
+use Rattle.script_reader.proofs.PinLemmas.{either_first}
 
 -- ---- tests
 
@@ -373,26 +373,22 @@ at_key : (P : List (List ℕ) → Type 0) (words : List (List ℕ)) (name : List
 at_key P [] name kind pins are holds = absurd (false≢true are.may_stand)
 at_key P (first ∷ rest) name kind pins are holds = subst (λ (n : List ℕ). P (n ∷ rest)) (sym are.name_is) (holds rest are.kind_is are.pins_are)
 
--- whether one of the words writes no number
-abbrev lacks : List (List ℕ) → Bool
-lacks words = list_any (λ word. not (is_number word)) words
-
 said_is : (words pins : List (List ℕ)) (numbers : List ℕ) → drop 3 words ≡ pins → AreNumbers pins numbers → pins_said words ≡ numbers
 said_is words pins numbers pins_are read = ap (map number_of) pins_are ∙ sym read.numbers_are
 
-pub key_number : (context : Context) (words : List (List ℕ)) (name : List ℕ) (kind : Kind) (pins : List (List ℕ)) → AreKeyWords words name kind pins → SuitsPlace context keywords.Key words → lacks pins ≡ true → code_of context keywords.Key words ≡ Some codes_of.Number
-key_number context words name kind pins are stands lacking = code_number _ _ _ stands.header stands.word (ap lacks are.pins_are ∙ lacking)
+pub key_number : (context : Context) (words : List (List ℕ)) (name : List ℕ) (kind : Kind) (pins : List (List ℕ)) → AreKeyWords words name kind pins → SuitsPlace context keywords.Key words → has_non_number pins ≡ true → code_of context keywords.Key words ≡ Some codes_of.Number
+key_number context words name kind pins are stands lacking = code_number _ _ _ stands.header stands.word (ap has_non_number are.pins_are ∙ lacking)
 
 pub key_name : (context : Context) (words : List (List ℕ)) (name : List ℕ) (kind : Kind) (pins : List (List ℕ)) (numbers : List ℕ) → AreKeyWords words name kind pins → SuitsPlace context keywords.Key words → AreNumbers pins numbers → is_name name ≡ false → code_of context keywords.Key words ≡ Some codes_of.Name
 key_name context words name kind pins numbers are stands read unnamed =
     at_key (λ words. SuitsPlace context keywords.Key words → code_of context keywords.Key words ≡ Some codes_of.Name) words name kind pins are
-    (λ rest kind_is pins_are stands. code_name _ _ _ stands.header stands.word (ap lacks pins_are ∙ read.each) (ap not unnamed)) stands
+    (λ rest kind_is pins_are stands. code_name _ _ _ stands.header stands.word (ap has_non_number pins_are ∙ read.each) (ap not unnamed)) stands
 
 pub key_twice : (context : Context) (words : List (List ℕ)) (name : List ℕ) (kind : Kind) (pins : List (List ℕ)) (numbers : List ℕ) → AreKeyWords words name kind pins → SuitsPlace context keywords.Key words → AreNumbers pins numbers → is_name name ≡ true
     → (is_declared context name || has_repeat numbers) ≡ true → code_of context keywords.Key words ≡ Some codes_of.Twice
 key_twice context words name kind pins numbers are stands read named twice =
     at_key (λ words. SuitsPlace context keywords.Key words → code_of context keywords.Key words ≡ Some codes_of.Twice) words name kind pins are
-    (λ rest kind_is pins_are stands. code_twice _ _ _ stands.header stands.word (ap lacks pins_are ∙ read.each) (ap not named)
+    (λ rest kind_is pins_are stands. code_twice _ _ _ stands.header stands.word (ap has_non_number pins_are ∙ read.each) (ap not named)
     (ap (λ said. is_declared context name || has_repeat said) (said_is (name ∷ rest) pins numbers pins_are read) ∙ twice)) stands
 
 pub key_unknown : (context : Context) (words : List (List ℕ)) (name : List ℕ) (kind : Kind) (pins : List (List ℕ)) (numbers : List ℕ) → AreKeyWords words name kind pins → SuitsPlace context keywords.Key words → AreNumbers pins numbers → is_name name ≡ true
@@ -401,7 +397,7 @@ key_unknown context words name kind pins numbers are stands read named once unkn
     at_key (λ words. SuitsPlace context keywords.Key words → code_of context keywords.Key words ≡ Some codes_of.Unknown) words name kind pins are
     (λ rest kind_is pins_are stands.
     let said = said_is (name ∷ rest) pins numbers pins_are read in
-    code_unknown _ _ _ stands.header stands.word (ap lacks pins_are ∙ read.each) (ap not named)
+    code_unknown _ _ _ stands.header stands.word (ap has_non_number pins_are ∙ read.each) (ap not named)
     (ap (λ said. is_declared context name || has_repeat said) said ∙ once)
     (ap (list_any (λ pin. not (is_within 1 context.script.config.workers pin))) said ∙ unknown)) stands
 
@@ -411,7 +407,7 @@ key_limit context words name kind pins numbers are stands read named once known 
     at_key (λ words. SuitsPlace context keywords.Key words → code_of context keywords.Key words ≡ Some codes_of.Limit) words name kind pins are
     (λ rest kind_is pins_are stands.
     let said = said_is (name ∷ rest) pins numbers pins_are read in
-    code_limit _ _ _ stands.header stands.word (ap lacks pins_are ∙ read.each) (ap not named)
+    code_limit _ _ _ stands.header stands.word (ap has_non_number pins_are ∙ read.each) (ap not named)
     (ap (λ said. is_declared context name || has_repeat said) said ∙ once)
     (ap (list_any (λ pin. not (is_within 1 context.script.config.workers pin))) said ∙ known) refl (at_most_is many)) stands
 
@@ -461,7 +457,7 @@ key_read reader words name kind pins numbers names kinds keys key kept are stand
         few_keys = most;
         sessions = subst (AreKept config) (sym none) tt;
       };
-      faultless = code_none _ _ _ stands.header stands.word (ap lacks pins_are ∙ read.each) (ap not named)
+      faultless = code_none _ _ _ stands.header stands.word (ap has_non_number pins_are ∙ read.each) (ap not named)
           (ap (λ said. is_declared (so_far reader) name || has_repeat said) said ∙ once)
           (ap (list_any (λ pin. not (is_within 1 reader.config.workers pin))) said ∙ known) refl (at_least_is few) refl;
       added = λ i. record {
@@ -497,13 +493,11 @@ few_workers reader numbers kept known =
     All-weaker (IsOneOf reader.config.workers) (λ n. n ≤ 8) (λ n is. omega (arith, is.1, most)) numbers (are_workers reader.config.workers numbers known)
 
 -- the numbers that the pins write
-pub numbers_read : (pins : List (List ℕ)) (found : Option (Vec ℕ Global)) (numbers : Vec ℕ Global) → found ≡ Some numbers → MatchOption found (lacks pins ≡ true) (λ numbers. (lacks pins ≡ false) × (numbers.items ≡ map number_of pins)) → AreNumbers pins numbers.items
-numbers_read pins found numbers is matched =
-    let read = MatchOption-at_some (lacks pins ≡ true) (λ numbers. (lacks pins ≡ false) × (numbers.items ≡ map number_of pins)) numbers is matched in
-    record { each = read.0; numbers_are = read.1 }
+pub numbers_read : (pins : List (List ℕ)) (found : Option (Vec ℕ Global)) (numbers : Vec ℕ Global) → found ≡ Some numbers → MatchOption found (has_non_number pins ≡ true) (λ numbers. AreNumbers pins numbers.items) → AreNumbers pins numbers.items
+numbers_read pins found numbers is matched = MatchOption-at_some (has_non_number pins ≡ true) (λ numbers. AreNumbers pins numbers.items) numbers is matched
 
-pub numbers_unread : (pins : List (List ℕ)) (found : Option (Vec ℕ Global)) → found ≡ None → MatchOption found (lacks pins ≡ true) (λ numbers. (lacks pins ≡ false) × (numbers.items ≡ map number_of pins)) → lacks pins ≡ true
-numbers_unread pins found is matched = MatchOption-at_none (lacks pins ≡ true) (λ numbers. (lacks pins ≡ false) × (numbers.items ≡ map number_of pins)) is matched
+pub numbers_unread : (pins : List (List ℕ)) (found : Option (Vec ℕ Global)) → found ≡ None → MatchOption found (has_non_number pins ≡ true) (λ numbers. AreNumbers pins numbers.items) → has_non_number pins ≡ true
+numbers_unread pins found is matched = MatchOption-at_none (has_non_number pins ≡ true) (λ numbers. AreNumbers pins numbers.items) is matched
 
 -- what is told of the pins' workers
 pub workers_told : (workers : ℕ) (numbers slice : List ℕ) (told is : Bool) → told ≡ not (list_any (λ n. not (is_within 1 workers n)) slice) → slice ≡ numbers → told ≡ is → not (list_any (λ n. not (is_within 1 workers n)) numbers) ≡ is

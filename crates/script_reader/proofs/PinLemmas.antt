@@ -4,15 +4,10 @@ use Rattle.std.specs.List.{list_any, list_all}
 use Rattle.std.proofs.lemmas.List.{take_more, take-append-drop, length-map, get_or-map}
 use Rattle.std.proofs.lemmas.List.Folds.{list_any-append, list_any_at}
 use Rattle.script_reader.specs.Faults.{has_repeat}
-use Rattle.script_reader.specs.Words.{number_said, is_number, number_of}
-
--- each of the words writes a number, and these are the numbers
-pub record AreNumbers (words : List (List ℕ)) (numbers : List ℕ) : Type 0 where
-  pub each : list_any (λ word. not (is_number word)) words ≡ false
-  pub numbers_are : numbers ≡ map number_of words
+use Rattle.script_reader.specs.Words.{number_said, is_number, has_non_number}
 
 -- a word that writes no number is one that fails
-pub number_lacks : (words : List (Bor (List ℕ))) (i : ℕ) (default : Bor (List ℕ)) → i < length words → number_said (get_or words i default).now ≡ None → list_any (λ word. not (is_number word)) (map (λ word. word.now) words) ≡ true
+pub number_lacks : (words : List (Bor (List ℕ))) (i : ℕ) (default : Bor (List ℕ)) → i < length words → number_said (get_or words i default).now ≡ None → has_non_number (map (λ word. word.now) words) ≡ true
 number_lacks words i default within none =
     let now : Bor (List ℕ) → List ℕ = λ word. word.now in
     list_any_at (λ word. not (is_number word)) (map now words) i default.now (omega (arith, length-map words now))

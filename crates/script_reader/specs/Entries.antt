@@ -1,5 +1,5 @@
 -- Which words an entry was read from.
-use Rattle.std.specs.Prelude.{◌≡◌, ℕ, true, List, [], ◌∷◌, drop, slice_index_or, Some}
+use Rattle.std.specs.Prelude.{◌≡◌, ℕ, true, false, List, [], ◌∷◌, drop, slice_index_or, Option, Some, MatchOption}
 use Rattle.composed_value.specs.declared.kind.Kind.{Kind}
 use Rattle.session_known.specs.declared.script.Level.{Level}
 use Rattle.script_reader.specs.Words.{kind_said, level_said, texts}
@@ -39,3 +39,7 @@ Shows (entries.Bare bares.Begin) keyword words = (keyword ≡ keywords.Begin) ×
 Shows (entries.Bare bares.Commit) keyword words = (keyword ≡ keywords.Commit) × (words ≡ [])
 Shows (entries.Bare bares.Abort) keyword words = (keyword ≡ keywords.Abort) × (words ≡ [])
 Shows (entries.Bare bares.End) keyword words = (keyword ≡ keywords.End) × (words ≡ [])
+
+-- The line was told apart, where there may stand as much after the first word.
+abbrev pub TellsApart : Keyword → List (List ℕ) → Option Entry → Type 0
+TellsApart keyword words result = MatchOption result (may_have keyword words ≡ false) (λ entry. Shows entry keyword words)

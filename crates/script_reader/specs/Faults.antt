@@ -13,7 +13,7 @@ use Rattle.session_known.specs.declared.script.SessionPlan.{SessionPlan}
 use Rattle.script_reader.specs.Keywords.{is_factor, is_round, is_command, is_begin, is_boundary}
 use Rattle.script_reader.specs.Lines.{Statement, those, statement_of, statements_of, has_end}
 use Rattle.script_reader.specs.Said.{place_of, pins_said, payload_for, script_said}
-use Rattle.script_reader.specs.Words.{is_name, is_number, number_of, kind_said, level_said, is_payload_too_great}
+use Rattle.script_reader.specs.Words.{is_name, is_number, has_non_number, number_of, kind_said, level_said, is_payload_too_great}
 use Rattle.script_reader.specs.declared.code.Code.{Code}
 use Rattle.script_reader.specs.declared.code.Code.TheVariants as codes_of
 use Rattle.script_reader.specs.declared.keyword.Keyword.{Keyword}
@@ -149,7 +149,7 @@ abbrev pub lacks_number : Context → Keyword → List (List ℕ) → Bool
 lacks_number context Workers (number ∷ words) = not (is_number number)
 lacks_number context Factor (number ∷ words) = not (is_number number)
 lacks_number context Round (number ∷ words) = not (is_number number)
-lacks_number context Key words = list_any (λ pin. not (is_number pin)) (drop 3 words)
+lacks_number context Key words = has_non_number (drop 3 words)
 lacks_number context Put (key ∷ words) = option_map_or (λ kind. is_payload_too_great kind words) (kind_of_key context key) false
 lacks_number context Get (key ∷ worker ∷ words) = not (is_number worker)
 lacks_number context Await (key ∷ session ∷ count ∷ words) = not (is_number count)

@@ -1,11 +1,11 @@
 -- How lines are read one after another.
-use Rattle.std.specs.Prelude.{◌≡◌, ℕ, Bool, false, if◌then◌else◌, List, ◌⊎◌, Option, Some, None, ⊤}
+use Rattle.std.specs.Prelude.{◌≡◌, ℕ, Bool, false, if◌then◌else◌, List, ◌⊎◌, Option, Some, None, Result, MatchResult, ⊤}
 use Rattle.script_reader.specs.Codes.{number_of_code}
 use Rattle.script_reader.specs.Faults.{code_said}
 use Rattle.script_reader.specs.Grammar.{IsFirstFault, IsEndMissing}
 use Rattle.script_reader.specs.Keywords.{is_end, is_session}
-use Rattle.script_reader.specs.Lines.{Statement, word}
-use Rattle.script_reader.specs.Reader.{so_far, IsKept}
+use Rattle.script_reader.specs.Lines.{Statement, statement_of, word}
+use Rattle.script_reader.specs.Reader.{so_far, IsKept, IsFaultOf}
 use Rattle.script_reader.specs.Said.{with_name}
 use Rattle.script_reader.specs.Steps.{next_context}
 use Rattle.script_reader.specs.declared.fault.ScriptFault.{ScriptFault}
@@ -19,6 +19,11 @@ abbrev pub HasReadLine : Reader → Reader → Bool → Bool → List ℕ → Op
 HasReadLine old new ended now line None = (new ≡ old) × (now ≡ ended)
 HasReadLine old new ended now line (Some statement) =
     (code_said (so_far old) ended line (Some statement) ≡ None) × IsKept new × (so_far new ≡ next_context (so_far old) statement.keyword statement.words) × (now ≡ is_end statement.keyword)
+
+-- A line was read, or its fault told.
+abbrev pub ReadsLine : Reader → Bool → List ℕ → Result Bool LineFault → Reader → Type 0
+ReadsLine old ended line result new =
+    MatchResult result (λ now. HasReadLine old new ended now line (statement_of line)) (IsFaultOf (code_said (so_far old) ended line (statement_of line)))
 
 -- The names with that of a session line, where it is one.
 abbrev pub named_after : List (List ℕ) → Option Statement → List (List ℕ)

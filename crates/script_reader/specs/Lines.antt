@@ -1,5 +1,5 @@
 -- The lines of a script, and what they say.
-use Rattle.std.specs.Prelude.{ℕ, Bool, ◌||◌, ◌==◌, nat_lt, length, if◌then◌else◌, List, [], ◌∷◌, map, slice_index_or, Option, Some, None, filter}
+use Rattle.std.specs.Prelude.{◌≡◌, ℕ, Bool, ◌||◌, ◌==◌, nat_lt, length, if◌then◌else◌, List, [], ◌∷◌, map, slice_index_or, Option, Some, None, filter}
 use Rattle.std.specs.List.{slice_split, slice_index, filter_map, list_any}
 use Rattle.std.specs.Str.Lines.{strip_carriage_return}
 use Rattle.script_reader.specs.Keywords.{keyword_of, is_end}
@@ -8,6 +8,10 @@ use Rattle.script_reader.specs.declared.keyword.Keyword.{Keyword}
 -- a line feed
 abbrev pub is_line_feed : ℕ → Bool
 is_line_feed b = b == 10
+
+-- what stands between the line feeds of a text
+abbrev pub cut_at_feeds : List ℕ → List (List ℕ)
+cut_at_feeds text = slice_split is_line_feed text
 
 -- what stands after the last line feed is a line where it has a byte
 abbrev pub without_empty_last : List (List ℕ) → List (List ℕ)
@@ -18,7 +22,7 @@ without_empty_last (line ∷ next ∷ lines) = line ∷ without_empty_last (next
 
 -- the lines of a script, which is cut at each line feed; a carriage return at the end of a line belongs to the line's end
 abbrev pub script_lines : List ℕ → List (List ℕ)
-script_lines text = without_empty_last (map strip_carriage_return (slice_split is_line_feed text))
+script_lines text = without_empty_last (map strip_carriage_return (cut_at_feeds text))
 
 -- a space or a tab
 abbrev pub is_blank : ℕ → Bool
@@ -37,6 +41,10 @@ pub record Statement : Type 0 where
 abbrev pub statement_in : List (List ℕ) → Option Statement
 statement_in [] = None
 statement_in (first ∷ words) = if slice_index first 0 == 35 then None else Some (record { keyword = keyword_of first; words = words })
+
+-- the words of a line say this: a first word as a keyword, and the words after it
+abbrev pub Says : List (List ℕ) → Keyword → List (List ℕ) → Type 0
+Says words keyword later = statement_in words ≡ Some (record { keyword = keyword; words = later })
 
 -- blank lines and comments say nothing
 abbrev pub statement_of : List ℕ → Option Statement

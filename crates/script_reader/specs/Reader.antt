@@ -7,12 +7,14 @@ use Rattle.std.specs.List.{slice_get}
 use Rattle.composed_value.specs.declared.kind.Kind.{Kind}
 use Rattle.session_known.specs.declared.script.Line.{Line}
 use Rattle.session_known.specs.declared.script.Line.TheVariants as lines
+use Rattle.script_reader.specs.Entries.{Shows}
 use Rattle.script_reader.specs.Faults.{Context, code_of, lacks_header, lacks_word, keys_of, commands_of, level_of, is_committed}
 use Rattle.script_reader.specs.Said.{place_of}
 use Rattle.script_reader.specs.Words.{is_name}
 use Rattle.script_reader.specs.Steps.{next_context, with_line, with_sessions}
 use Rattle.script_reader.specs.declared.code.Code.{Code}
 use Rattle.script_reader.specs.declared.code.Code.TheVariants as codes_of
+use Rattle.script_reader.specs.declared.entry.Entry.{Entry}
 use Rattle.script_reader.specs.declared.keyword.Keyword.{Keyword}
 use Rattle.script_reader.specs.declared.reader.LineFault.{LineFault}
 use Rattle.script_reader.specs.declared.reader.LineFault.TheVariants as faults
@@ -64,6 +66,11 @@ pub record SuitsPlace (context : Context) (keyword : Keyword) (words : List (Lis
 abbrev pub IsFaultOf : Option Code → LineFault → Type 0
 IsFaultOf code (faults.Code why) = code ≡ Some why
 IsFaultOf code faults.NoMemory = ⊤
+
+-- A line was told apart and may stand with its words after those before it, or its fault told.
+abbrev pub TellsWhatSuits : Context → Keyword → List (List ℕ) → Result Entry LineFault → Type 0
+TellsWhatSuits context keyword words result =
+    MatchResult result (λ entry. Shows entry keyword words × SuitsPlace context keyword words) (IsFaultOf (code_of context keyword words))
 
 -- A line was read: it is not at fault, and what it says was added.
 pub record HasRead (old new : Reader) (keyword : Keyword) (words : List (List ℕ)) : Type 0 where

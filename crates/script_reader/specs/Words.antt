@@ -1,6 +1,6 @@
 -- What a word of a line can be: a name, a number, a word of a value, a kind, a level.
-use Rattle.std.specs.Prelude.{ℕ, ◌^◌, Bool, false, ◌&&◌, not, nat_lt, nat_le, if◌then◌else◌, List, [], ◌∷◌, map, length, codes, Option, Some, None, is_some, unwrap_or}
-use Rattle.std.specs.List.{list_all}
+use Rattle.std.specs.Prelude.{◌≡◌, ℕ, ◌^◌, Bool, false, ◌&&◌, not, nat_lt, nat_le, if◌then◌else◌, List, [], ◌∷◌, map, length, codes, Option, Some, None, is_some, unwrap_or}
+use Rattle.std.specs.List.{list_all, list_any}
 use denote.Ref.{Bor}
 use Rattle.std.specs.Option.{option_map, option_and_then}
 use Rattle.std.specs.Str.{bytes_eq, all_ascii_digits}
@@ -41,6 +41,15 @@ is_number word = is_some (number_said word)
 -- the number that a word writes, of a word that is one
 abbrev pub number_of : List ℕ → ℕ
 number_of word = unwrap_or (number_said word) 0
+
+-- one of the words writes no number
+abbrev pub has_non_number : List (List ℕ) → Bool
+has_non_number words = list_any (λ word. not (is_number word)) words
+
+-- each of the words writes a number, and these are the numbers
+pub record AreNumbers (words : List (List ℕ)) (numbers : List ℕ) : Type 0 where
+  pub each : has_non_number words ≡ false
+  pub numbers_are : numbers ≡ map number_of words
 
 -- digits alone that say more than a number may
 abbrev pub is_too_great : List ℕ → Bool

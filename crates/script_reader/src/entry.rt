@@ -1,8 +1,7 @@
 //! Lines told apart by their first words.
-ghost use Rattle.std.specs.Prelude.{◌≡◌, ◌≢◌, ◌∷◌, [], false, length, MatchOption};
+ghost use Rattle.std.specs.Prelude.{◌≡◌, ◌≢◌, ◌∷◌, [], length, MatchOption};
 ghost use Rattle.script_reader.specs.declared.entry.Entry.TheVariants as entries;
-ghost use Rattle.script_reader.specs.Entries.{Shows};
-ghost use Rattle.script_reader.specs.Faults.{may_have};
+ghost use Rattle.script_reader.specs.Entries.{TellsApart};
 ghost use Rattle.script_reader.specs.Words.{texts};
 
 use crate::keyword::Keyword;
@@ -66,8 +65,7 @@ pub(crate) enum Entry<'w, 'a> {
 /// Tells a line apart, where its words are as many as may stand after its first word, and those that
 /// are given are right.
 pub(crate) fn tell_apart<'w, 'a>(keyword: Keyword, words: &'w [&'a [u8]]) -> Option<Entry<'w, 'a>>
-    ensures { MatchOption result (may_have keyword (texts words.now) ≡ false)
-        (λ entry. Shows entry keyword (texts words.now)) }
+    ensures { TellsApart keyword (texts words.now) result }
 {
     match keyword {
         Keyword::Anna => one_word(words).map(|version| Entry::Header { version }),
@@ -111,8 +109,7 @@ fn one_word<'w, 'a>(words: &'w [&'a [u8]]) -> Option<&'a [u8]>
 
 /// A key and its kind, and pins where there are any.
 fn key_entry<'w, 'a>(words: &'w [&'a [u8]]) -> Option<Entry<'w, 'a>>
-    ensures { MatchOption result (may_have Keyword.Key (texts words.now) ≡ false)
-        (λ entry. Shows entry Keyword.Key (texts words.now)) }
+    ensures { TellsApart Keyword.Key (texts words.now) result }
 {
     match words {
         [name, word] => Some(Entry::Key {
@@ -133,8 +130,7 @@ fn key_entry<'w, 'a>(words: &'w [&'a [u8]]) -> Option<Entry<'w, 'a>>
 
 /// A session and its level.
 fn session_entry<'w, 'a>(words: &'w [&'a [u8]]) -> Option<Entry<'w, 'a>>
-    ensures { MatchOption result (may_have Keyword.Session (texts words.now) ≡ false)
-        (λ entry. Shows entry Keyword.Session (texts words.now)) }
+    ensures { TellsApart Keyword.Session (texts words.now) result }
 {
     match words {
         [name, word] => Some(Entry::Session {
@@ -147,8 +143,7 @@ fn session_entry<'w, 'a>(words: &'w [&'a [u8]]) -> Option<Entry<'w, 'a>>
 
 /// A key, and one or two words of a payload.
 fn put_entry<'w, 'a>(words: &'w [&'a [u8]]) -> Option<Entry<'w, 'a>>
-    ensures { MatchOption result (may_have Keyword.Put (texts words.now) ≡ false)
-        (λ entry. Shows entry Keyword.Put (texts words.now)) }
+    ensures { TellsApart Keyword.Put (texts words.now) result }
 {
     match words {
         [key, payload @ ..] if payload.len() == 1 || payload.len() == 2 => {
@@ -160,8 +155,7 @@ fn put_entry<'w, 'a>(words: &'w [&'a [u8]]) -> Option<Entry<'w, 'a>>
 
 /// A key, and a worker where one is named.
 fn get_entry<'w, 'a>(words: &'w [&'a [u8]]) -> Option<Entry<'w, 'a>>
-    ensures { MatchOption result (may_have Keyword.Get (texts words.now) ≡ false)
-        (λ entry. Shows entry Keyword.Get (texts words.now)) }
+    ensures { TellsApart Keyword.Get (texts words.now) result }
 {
     match words {
         [key] => Some(Entry::Get { key }),
@@ -172,8 +166,7 @@ fn get_entry<'w, 'a>(words: &'w [&'a [u8]]) -> Option<Entry<'w, 'a>>
 
 /// A key, a session, and a number of its puts.
 fn await_entry<'w, 'a>(words: &'w [&'a [u8]]) -> Option<Entry<'w, 'a>>
-    ensures { MatchOption result (may_have Keyword.Await (texts words.now) ≡ false)
-        (λ entry. Shows entry Keyword.Await (texts words.now)) }
+    ensures { TellsApart Keyword.Await (texts words.now) result }
 {
     match words {
         [key, session, count] => Some(Entry::Await {

@@ -1,15 +1,14 @@
 //! Reads scripts.
-ghost use Rattle.std.specs.Prelude.{◌≡◌, ℕ, ◌≤◌, ◌^◌, ◌+◌, None, Some, length, map, IfOk, IfErr, MatchOption, MatchResult};
-ghost use Rattle.std.specs.List.{list_all};
+ghost use Rattle.std.specs.Prelude.{◌≡◌, ℕ, ◌≤◌, ◌^◌, ◌+◌, None, length, IfOk, IfErr, MatchOption};
 ghost use Rattle.placement.specs.Config.{placed};
 ghost use Rattle.session_known.specs.Script.{IsValidScript};
 ghost use Rattle.session_known.specs.declared.script.Script.{Script};
 ghost use Rattle.script_reader.specs.Codes.{number_of_code};
-ghost use Rattle.script_reader.specs.Faults.{code_said, is_text_byte as text_byte};
+ghost use Rattle.script_reader.specs.Faults.{is_text_byte as text_byte};
 ghost use Rattle.script_reader.specs.Grammar.{IsScript, IsScriptOf, IsRefused, IsWhyNoScript, IsReadAs, IsRefusedAs, sessions_named};
-ghost use Rattle.script_reader.specs.LineReads.{HasReadLine, IsWhyNoLines, named_after, says_end, fault_at as fault_there};
-ghost use Rattle.script_reader.specs.Lines.{statement_in, statement_of};
-ghost use Rattle.script_reader.specs.Reader.{so_far, IsKept, IsFaultOf};
+ghost use Rattle.script_reader.specs.LineReads.{ReadsLine, IsWhyNoLines, named_after, says_end, fault_at as fault_there};
+ghost use Rattle.script_reader.specs.Lines.{statement_in, statement_of, Says};
+ghost use Rattle.script_reader.specs.Reader.{IsKept};
 ghost use Rattle.script_reader.specs.Words.{texts};
 
 use crate::code::Code;
@@ -31,8 +30,7 @@ pub const MOST_BYTES: usize = 1_048_576;
 fn statement<'w, 'a>(words: &'w [&'a [u8]]) -> Option<(Keyword, &'w [&'a [u8]])>
     ensures { MatchOption result
         (statement_in (texts words.now) ≡ None)
-        (λ found. statement_in (texts words.now)
-        ≡ Some (record { keyword = found.0; words = texts found.1.now })) }
+        (λ found. Says (texts words.now) found.0 (texts found.1.now)) }
 {
     let [first, rest @ ..] = words else {
         return None;
@@ -64,7 +62,7 @@ fn add_session<'a>(alloc: Global, names: &mut Names<'a>, line: &'a [u8]) -> Resu
 
 /// The sessions that an await may name: those of all session lines before the first end line.
 fn session_names<'a>(alloc: Global, lines: &[&'a [u8]]) -> Result<Names<'a>, NoMemory>
-    ensures { IfOk result (λ names. names ≡ sessions_named (map (λ line. line.now) lines.now)) }
+    ensures { IfOk result (λ names. names ≡ sessions_named (texts lines.now)) }
 {
     let mut names = Names::new(alloc);
     for line in lines {
@@ -91,9 +89,7 @@ fn read_line<'a>(
     line: &'a [u8],
 ) -> Result<bool, LineFault>
     requires kept { IsKept reader.old }
-    ensures { MatchResult result
-        (λ now. HasReadLine reader.old reader.new ended now line.now (statement_of line.now))
-        (IsFaultOf (code_said (so_far reader.old) ended line.now (statement_of line.now))) }
+    ensures { ReadsLine reader.old ended line.now result reader.new }
 {
     let words = words_of(alloc, line)?;
     let Some((keyword, rest)) = statement(&words) else {
@@ -114,10 +110,9 @@ fn read_line<'a>(
 /// Reads the lines of a script, one after another.
 fn read_lines(alloc: Global, lines: &[&[u8]]) -> Result<Script, ScriptFault>
     requires { length lines.now ≤ 2 ^ 20 + 1 }
-    ensures script { IfOk result (IsScriptOf (sessions_named (map (λ line. line.now) lines.now))
-        (map (λ line. line.now) lines.now)) }
-    ensures refused { IfErr result (IsWhyNoLines
-        (sessions_named (map (λ line. line.now) lines.now)) (map (λ line. line.now) lines.now)) }
+    ensures script { IfOk result (IsScriptOf (sessions_named (texts lines.now)) (texts lines.now)) }
+    ensures refused { IfErr result
+        (IsWhyNoLines (sessions_named (texts lines.now)) (texts lines.now)) }
 {
     let names = session_names(alloc, lines)?;
     let mut reader = Reader::new(alloc, names);

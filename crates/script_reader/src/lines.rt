@@ -1,16 +1,15 @@
 //! The lines of a script.
 ghost use Rattle.std.specs.Prelude.{◌≡◌, ◌+◌, ◌≤◌, map, length, IfOk};
 ghost use Rattle.std.specs.Str.Lines.{strip_carriage_return};
-ghost use Rattle.std.specs.List.{slice_split};
-ghost use Rattle.script_reader.specs.Lines.{is_line_feed, script_lines, without_empty_last};
+ghost use Rattle.script_reader.specs.Lines.{cut_at_feeds, script_lines, without_empty_last};
+ghost use Rattle.script_reader.specs.Words.{texts};
 
 use lattice_laws::NoMemory;
 use std::alloc::Global;
 
 /// The lines of a text, without their ends.
 pub(crate) fn lines_of(alloc: Global, text: &[u8]) -> Result<Vec<&[u8]>, NoMemory>
-    ensures lines { IfOk result (λ lines. map (λ line. line.now) lines.items
-        ≡ script_lines text.now) }
+    ensures lines { IfOk result (λ lines. texts lines.items ≡ script_lines text.now) }
     ensures few { IfOk result (λ lines. length lines.items ≤ length text.now + 1) }
 {
     let mut lines = pieces_of(alloc, text)?;
@@ -20,8 +19,8 @@ pub(crate) fn lines_of(alloc: Global, text: &[u8]) -> Result<Vec<&[u8]>, NoMemor
 
 /// What stands between the line feeds of a text, without carriage returns at the ends.
 fn pieces_of(alloc: Global, text: &[u8]) -> Result<Vec<&[u8]>, NoMemory>
-    ensures pieces { IfOk result (λ pieces. map (λ piece. piece.now) pieces.items
-        ≡ map strip_carriage_return (slice_split is_line_feed text.now)) }
+    ensures pieces { IfOk result (λ pieces. texts pieces.items
+        ≡ map strip_carriage_return (cut_at_feeds text.now)) }
     ensures few { IfOk result (λ pieces. length pieces.items ≤ length text.now + 1) }
 {
     Ok(
@@ -33,8 +32,7 @@ fn pieces_of(alloc: Global, text: &[u8]) -> Result<Vec<&[u8]>, NoMemory>
 
 /// Drops the last line, where it is empty.
 fn drop_empty_last(lines: &mut Vec<&[u8]>)
-    ensures lines { map (λ line. line.now) lines.new.items
-        ≡ without_empty_last (map (λ line. line.now) lines.old.items) }
+    ensures lines { texts lines.new.items ≡ without_empty_last (texts lines.old.items) }
     ensures fewer { length lines.new.items ≤ length lines.old.items }
 {
     let Some(last) = lines.last() else {

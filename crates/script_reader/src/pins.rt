@@ -1,8 +1,8 @@
 //! The pins of a key.
-ghost use Rattle.std.specs.Prelude.{map, ◌≡◌, ◌≤◌, true, false, not, All, IfOk, MatchOption};
+ghost use Rattle.std.specs.Prelude.{◌≡◌, ◌≤◌, true, not, All, IfOk, MatchOption};
 ghost use Rattle.std.specs.List.{list_any};
 ghost use Rattle.script_reader.specs.Faults.{has_repeat as repeats, is_within as within};
-ghost use Rattle.script_reader.specs.Words.{is_number, number_of, texts};
+ghost use Rattle.script_reader.specs.Words.{has_non_number, AreNumbers, texts};
 
 use crate::words::number;
 use indexmap::IndexSet;
@@ -19,9 +19,8 @@ pub(crate) fn is_within(least: u64, greatest: u64, n: u64) -> bool
 /// The numbers that words write, where each of them writes one.
 pub(crate) fn numbers(alloc: Global, words: &[&[u8]]) -> Result<Option<Vec<u64>>, NoMemory>
     ensures { IfOk result (λ numbers. MatchOption numbers
-        (list_any (λ word. not (is_number word)) (texts words.now) ≡ true)
-        (λ numbers. (list_any (λ word. not (is_number word)) (texts words.now) ≡ false)
-        × (numbers.items ≡ map number_of (texts words.now)))) }
+        (has_non_number (texts words.now) ≡ true)
+        (λ numbers. AreNumbers (texts words.now) numbers.items)) }
 {
     let mut numbers = Vec::new(alloc);
     for word in words {

@@ -3,10 +3,9 @@
 mod commands;
 mod declared;
 
-ghost use Rattle.std.specs.Prelude.{◌≡◌, [], IfOk, MatchResult};
-ghost use Rattle.script_reader.specs.Entries.{Shows};
-ghost use Rattle.script_reader.specs.Faults.{code_of, context_of, may_follow, level_of, is_header as header_is, suits as level_suits};
-ghost use Rattle.script_reader.specs.Reader.{so_far, plans_of, IsKept, IsFaultOf, SuitsPlace, Reads};
+ghost use Rattle.std.specs.Prelude.{◌≡◌, [], IfOk};
+ghost use Rattle.script_reader.specs.Faults.{context_of, may_follow, level_of, is_header as header_is, suits as level_suits};
+ghost use Rattle.script_reader.specs.Reader.{so_far, plans_of, IsKept, TellsWhatSuits, Reads};
 ghost use Rattle.script_reader.specs.Words.{texts};
 
 use crate::code::Code;
@@ -125,10 +124,7 @@ impl<'a> Reader<'a> {
 
     /// Tells a line apart, where it may stand here with its words.
     fn check<'w>(&self, keyword: Keyword, words: &'w [&'a [u8]]) -> Result<Entry<'w, 'a>, LineFault>
-        ensures { MatchResult result
-            (λ entry. Shows entry keyword (texts words.now)
-            × SuitsPlace (so_far self.now) keyword (texts words.now))
-            (IsFaultOf (code_of (so_far self.now) keyword (texts words.now))) }
+        ensures { TellsWhatSuits (so_far self.now) keyword (texts words.now) result }
     {
         if !self.has_header && !is_header(keyword, words) {
             return Err(LineFault::Code(Code::Header));

@@ -1,10 +1,9 @@
 //! Where the script of an input ends.
-ghost use Rattle.std.specs.Prelude.{◌≡◌, ℕ, ◌+◌, ◌≤◌, List, [], ◌∷◌, ◌++◌, take, length, IsTrue, MatchOption};
-ghost use Rattle.std.specs.List.{slice_split};
+ghost use Rattle.std.specs.Prelude.{◌≡◌, ℕ, ◌+◌, ◌≤◌, List, [], ◌∷◌, ◌++◌, length, MatchOption};
 ghost use Rattle.session_known.specs.declared.script.Script.{Script};
 ghost use Rattle.script_reader.specs.Grammar.{IsScript};
-ghost use Rattle.script_reader.specs.Lines.{is_line_feed};
-ghost use Rattle.script_reader.specs.Split.{is_end_alone as says_end_alone, split_place};
+ghost use Rattle.script_reader.specs.Lines.{cut_at_feeds};
+ghost use Rattle.script_reader.specs.Split.{is_end_alone as says_end_alone, split_place, script_part, with_feed, EndsAlone, IsFirstLine};
 
 use crate::lines::without_return;
 use std::iter::once;
@@ -22,11 +21,8 @@ fn is_end_alone(line: &[u8]) -> bool
 /// The first line of a text that ends with a line feed, and what stands after that.
 fn first_line(text: &[u8]) -> Option<(&[u8], &[u8])>
     ensures { MatchOption result
-        (slice_split is_line_feed text.now ≡ text.now ∷ [])
-        (λ parts.
-        (slice_split is_line_feed text.now
-        ≡ parts.0.now ∷ slice_split is_line_feed parts.1.now)
-        × (length text.now ≡ length parts.0.now + 1 + length parts.1.now)) }
+        (cut_at_feeds text.now ≡ text.now ∷ [])
+        (λ parts. IsFirstLine text.now parts.0.now parts.1.now) }
 {
     let end = text.iter().position(|byte| *byte == b'\n')?;
     Some((&text[..end], &text[end + 1..]))
@@ -54,19 +50,16 @@ pub fn split_input(bytes: &[u8]) -> usize
 pub fn scripts_are_split_off()
     // What stands before the place is that script.
     ensures script { (text more : List ℕ) (script : Script)
-        → IsScript (text ++ 10 ∷ []) script
-        → IsScript (take (split_place (text ++ 10 ∷ more)) (text ++ 10 ∷ more)) script }
+        → IsScript (with_feed text) script → IsScript (script_part (text ++ 10 ∷ more)) script }
 
     // The place is the one in the script by itself.
     ensures same { (text more : List ℕ) (script : Script)
-        → IsScript (text ++ 10 ∷ []) script
-        → split_place (text ++ 10 ∷ more) ≡ split_place (text ++ 10 ∷ []) }
+        → IsScript (with_feed text) script
+        → split_place (text ++ 10 ∷ more) ≡ split_place (with_feed text) }
 
     // It is after the whole script, where the script's last line is its end line.
     ensures whole { (text more : List ℕ) (script : Script)
-        (lines : List (List ℕ)) (last : List ℕ)
-        → IsScript (text ++ 10 ∷ []) script
-        → slice_split is_line_feed text ≡ lines ++ last ∷ [] → IsTrue (says_end_alone last)
+        → IsScript (with_feed text) script → EndsAlone text
         → split_place (text ++ 10 ∷ more) ≡ length text + 1 }
 {}
 

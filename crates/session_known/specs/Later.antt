@@ -3,6 +3,7 @@ use Rattle.std.specs.Prelude.{◌≡◌, ℕ, ◌<◌, IsTrue, List, [], length,
 use Rattle.std.specs.List.{AllZip}
 use Rattle.clock_lattice.specs.Clock.{covers, is_below}
 use Rattle.clock_lattice.specs.Needs.{clock_at}
+use Rattle.composed_value.specs.Version.{Version}
 use Rattle.composed_value.specs.declared.put.Put as puts
 use Rattle.session_known.specs.Form.{Fits}
 use Rattle.session_known.specs.Lawful.{ShowsAt, AreLawful}
@@ -14,7 +15,6 @@ use Rattle.session_known.specs.declared.script.Level.TheVariants.{Causal}
 use Rattle.session_known.specs.declared.script.Line.{Line}
 use Rattle.session_known.specs.declared.script.Line.TheVariants as lines
 use Rattle.session_known.specs.declared.script.Script.{Script}
-use Rattle.version_antichain.specs.declared.version.Version.{Version}
 
 -- a session of a script whose lines have lawful answers, in form
 pub record AnsweredSession : Type 0 where

@@ -1,11 +1,11 @@
 //! What is asked for: keys, sessions, and the command lines of each.
-ghost use Rattle.std.specs.Prelude.{◌≡◌, length};
+ghost use Rattle.std.specs.Prelude.{◌≡◌, IfOk, length};
 ghost use Rattle.placement.specs.Config.{IsOneOf};
 ghost use Rattle.composed_value.specs.Keyed.{kind_at};
 ghost use Rattle.session_known.specs.Script.{key_name, session_name};
 
 use composed_value::{Kind, Payload};
-use lattice_laws::Items;
+use lattice_laws::{Items, NoMemory};
 use placement::{Config, Name};
 
 /// What a session is promised.
@@ -39,6 +39,36 @@ pub enum Line {
     Commit,
     /// Ends it, and drops what was held.
     Abort,
+}
+
+impl Line {
+    /// An equal line.
+    pub fn copy(&self) -> Result<Line, NoMemory>
+        ensures { IfOk result (λ copy. copy ≡ self.now) }
+    {
+        Ok(match self {
+            Line::Put { key, payload } => Line::Put {
+                key: *key,
+                payload: payload.copy()?,
+            },
+            Line::Get { key, worker } => Line::Get {
+                key: *key,
+                worker: *worker,
+            },
+            Line::Await {
+                key,
+                session,
+                count,
+            } => Line::Await {
+                key: *key,
+                session: *session,
+                count: *count,
+            },
+            Line::Begin => Line::Begin,
+            Line::Commit => Line::Commit,
+            Line::Abort => Line::Abort,
+        })
+    }
 }
 
 /// A session: its name, its level, and its command lines in order.

@@ -8,6 +8,7 @@
 ghost use Rattle.session_known.specs.declared.script.Level.TheVariants as levels;
 
 use session_known::Level;
+pub use session_proxy::Progress;
 use session_proxy::{Consistency, ProxyOver};
 use store_msg::Mail;
 

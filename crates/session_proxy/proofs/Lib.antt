@@ -9,6 +9,7 @@ pub mod OpeningLemmas
 pub mod PigeonholeLemmas
 pub mod PreparingLemmas
 pub mod PutsLemmas
+pub mod ReplicasLemmas
 pub mod RunLemmas
 pub mod SendingLemmas
 pub mod SentLemmas

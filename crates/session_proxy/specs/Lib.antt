@@ -1,6 +1,7 @@
 pub mod Beginning
 pub mod Kept
 pub mod Lines
+pub mod OverProxies
 pub mod Local
 pub mod Polls
 pub mod Run

@@ -1,12 +1,12 @@
 -- How far a session is, from what its proxy keeps, and how its parts change it.
-use Rattle.std.specs.Prelude.{◌≡◌, ◌⊎◌, ℕ, ◌+◌, ◌%◌, ◌^◌, ◌<◌, ◌≤◌, false, IsTrue, is_some, List, [], ◌∷◌, ◌++◌, length, map, slice_index_or, Option, Some, None, Result, Ok, Err, ⊤}
+use Rattle.std.specs.Prelude.{◌≡◌, ◌⊎◌, ℕ, ◌+◌, ◌-◌, ◌%◌, ◌^◌, ◌<◌, ◌≤◌, false, IsTrue, is_some, List, [], ◌∷◌, ◌++◌, length, map, slice_index_or, Option, Some, None, Result, Ok, Err, ⊤}
 use Rattle.lattice_laws.specs.Counts.{Rose}
 use Rattle.mail_contract.specs.Takes.{Answers}
 use Rattle.composed_value.specs.declared.payload.Payload.{Payload}
 use Rattle.composed_value.specs.declared.payload.Payload.TheVariants as payloads
 use Rattle.placement.specs.Asked.{ask_order, replicas_of}
 use Rattle.placement.specs.Config.{IsOneOf}
-use Rattle.session_known.specs.Requests.{asked_by}
+use Rattle.session_known.specs.Requests.{Sent, SentAsk, asked_by}
 use Rattle.session_known.specs.Session.{Client, InState, known_of, next_put, own_count, shown_of, state_put, state_shown}
 use Rattle.session_known.specs.declared.report.Answer.{Answer}
 use Rattle.session_known.specs.declared.report.Answer.TheVariants as answers
@@ -80,6 +80,10 @@ clock_begun begun = []
 abbrev pub put_at : Puts → ℕ → ℕ × Payload
 put_at puts place = slice_index_or puts.puts place (0, payloads.On)
 
+-- the next that goes out
+abbrev pub next_of : Local → ℕ × Payload
+next_of local = slice_index_or (puts_begun local.begun) local.out (0, payloads.On)
+
 -- a put is made where none is
 abbrev pub MakesNew : Puts → Option Request → InState → InState → ℕ → Type 0
 MakesNew puts made session session_now place =
@@ -139,6 +143,19 @@ order_asked table client line = []
 -- the worker that an ask goes to, by its place from 0
 abbrev pub worker_asked : List (List ℕ) → Client → Line → ℕ → ℕ
 worker_asked table client line place = let order = order_asked table client line in slice_index_or order (place % length order) 0
+
+-- what holds of the line that is open
+abbrev pub OnOpen : Local → (Line → Type 0) → Type 0
+OnOpen local holds = (line : Line) → open_line (course_of local) ≡ Some line → holds line
+
+-- an ask at this place, from 0, may be made for a line
+abbrev pub MayAskAt : Local → Line → ℕ → Type 0
+MayAskAt local line place =
+    MayRun local.placement local.session.client.level line × IsAsked line × (place < most_asks local.placement local.session.client.level (key_asked line))
+
+-- the last ask that was sent for a line, and its worker
+abbrev pub last_ask : Local → Line → ℕ × Sent
+last_ask local line = (worker_asked local.placement local.session.client line (local.out - 1), SentAsk (local.asks + local.out) (key_asked line) (clock_begun local.begun))
 
 -- a reply to the last ask can be told from others: the open line asks, and some of its asks were sent
 pub record CanHear (local : Local) : Type 0 where

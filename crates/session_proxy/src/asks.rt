@@ -1,18 +1,16 @@
 //! Asking for what a get or an await wants.
 ghost use Rattle.std.specs.Prelude.{◌≡◌, ◌↔◌, ◌≤◌, ◌<◌, ◌+◌, ◌-◌, ◌^◌, false, length, map, IsTrue, IfOk, Some, None};
 ghost use Rattle.std.specs.Vec.{vec_capacity};
-ghost use Rattle.mail_contract.specs.Boxes.{FindsNothing, MayTake, box_of};
+ghost use Rattle.mail_contract.specs.OverBoxes as boxes;
 ghost use Rattle.placement.specs.Asked.{replicas_of};
 ghost use Rattle.placement.specs.Config.{IsOneOf};
-ghost use Rattle.session_known.specs.Requests.{SentAsk};
-ghost use Rattle.session_known.specs.declared.script.Line.{Line};
 ghost use Rattle.session_proxy.specs.Lines.{MayRun, most_asks};
 ghost use Rattle.session_proxy.specs.Kept.{KeepsAt};
-ghost use Rattle.session_proxy.specs.Local.{AreAsks, CanHear, CanWork, Hears, TellsNothing, Works, clock_begun, course_of, key_asked, lists_at, worker_asked};
-ghost use Rattle.session_proxy.specs.Polls.{Polls, WantsRoom, counts_at};
+ghost use Rattle.session_proxy.specs.Local.{AreAsks, CanHear, CanWork, Hears, MayAskAt, OnOpen, Works, clock_begun, course_of, key_asked, last_ask, worker_asked};
+ghost use Rattle.session_proxy.specs.OverProxies as over;
 ghost use Rattle.session_proxy.specs.Run.{IsReplyTo, answer_by};
 ghost use Rattle.session_proxy.specs.Share.{IsAsked};
-ghost use Rattle.session_proxy.specs.State.{IsFixed, open_line};
+ghost use Rattle.session_proxy.specs.State.{IsFixed};
 ghost use Rattle.store_msg.specs.Reply.{IsAnswer};
 ghost use Rattle.store_msg.specs.declared.request.Request.TheVariants as requests;
 
@@ -136,9 +134,9 @@ fn next_ask(local: &Local) -> Result<Request, NoMemory>
     requires asks { AreAsks local.now.begun }
     requires open { length local.now.answers.items < length local.now.lines }
     requires few { local.now.asks + local.now.out + 1 < 2 ^ 64 }
-    ensures { IfOk result (λ request. (line : Line) → open_line (course_of local.now) ≡ Some line
-        → request ≡ requests.Get (local.now.asks + local.now.out + 1) (key_asked line)
-        (clock_begun local.now.begun)) }
+    ensures { IfOk result (λ request. OnOpen local.now (λ line. request
+        ≡ requests.Get (local.now.asks + local.now.out + 1) (key_asked line)
+        (clock_begun local.now.begun))) }
 {
     let Begun::Asks(required) = &local.begun else {
         unreachable!()
@@ -154,13 +152,11 @@ fn next_ask(local: &Local) -> Result<Request, NoMemory>
 /// The worker that the ask of the open line at a place, from 0, goes to.
 fn asked_at(local: &Local, place: u32) -> u16
     requires open { length local.now.answers.items < length local.now.lines }
-    requires line { (line : Line) → open_line (course_of local.now) ≡ Some line
-        → MayRun local.now.placement local.now.session.client.level line × IsAsked line
-        × (place < most_asks local.now.placement local.now.session.client.level (key_asked line)) }
+    requires line { OnOpen local.now (λ line. MayAskAt local.now line place) }
     requires session { 1 ≤ local.now.session.client.session }
     requires few { place + 1 < 2 ^ 32 }
-    ensures { (line : Line) → open_line (course_of local.now) ≡ Some line
-        → result ≡ worker_asked local.now.placement local.now.session.client line place }
+    ensures { OnOpen local.now (λ line.
+        result ≡ worker_asked local.now.placement local.now.session.client line place) }
 {
     let line = &local.lines.as_slice()[local.answers.len()];
     worker_asked(&local.placement, local.session.known(), line, place)
@@ -178,16 +174,10 @@ pub(crate) fn ask<T: Tx<Request>, R: Rx<Reply>>(
     ensures keeps { KeepsAt T.sent R.received local.new ends.new }
     ensures fixed { IsFixed (course_of local.old) (course_of local.new) }
     ensures replies { ends.new.replies ≡ ends.old.replies }
-    ensures requests_keys { map T.key ends.new.requests.items
-        ≡ map T.key ends.old.requests.items }
+    ensures requests_keys { map T.key ends.new.requests.items ≡ map T.key ends.old.requests.items }
     ensures requests_numbers { map T.number ends.new.requests.items
         ≡ map T.number ends.old.requests.items }
-    ensures polls { Polls result
-        (lists_at T.sent R.received local.old ends.old)
-        (lists_at T.sent R.received local.new ends.new)
-        (counts_at T.fulls R.answers ends.old) (counts_at T.fulls R.answers ends.new)
-        (WantsRoom T.clear T.roomy T.unseen ends.old.requests.items)
-        (FindsNothing R.keeps (box_of R.received R.answers R.about ends.new.replies)) }
+    ensures polls { over.PollsAt T.Tx R.Rx result local.old ends.old local.new ends.new }
 {
     let request = next_ask(local)?;
     let worker = asked_at(local, local.out);
@@ -205,12 +195,8 @@ pub(crate) fn ask<T: Tx<Request>, R: Rx<Reply>>(
 /// Whether a reply is the one that is awaited: of the ask, the worker, the key and the required clock.
 fn is_awaited(local: &Local, reply: &Reply) -> bool
     requires { CanHear local.now }
-    ensures { (line : Line) → open_line (course_of local.now) ≡ Some line
-        → (IsTrue result ↔ IsReplyTo (
-          worker_asked local.now.placement local.now.session.client line (local.now.out - 1),
-          SentAsk (local.now.asks + local.now.out) (key_asked line) (clock_begun local.now.begun),
-        )
-        reply.now) }
+    ensures { OnOpen local.now (λ line.
+        IsTrue result ↔ IsReplyTo (last_ask local.now line) reply.now) }
 {
     let Begun::Asks(required) = &local.begun else {
         unreachable!()
@@ -227,17 +213,10 @@ fn take_reply<R: Rx<Reply>>(local: &mut Local, replies: &mut R) -> Result<Heard,
     requires { CanHear local.old }
     ensures key { R.key replies.new ≡ R.key replies.old }
     ensures room { vec_capacity local.new.answers ≡ vec_capacity local.old.answers }
-    ensures takes { MayTake R.keeps (R.senders (R.key replies.old))
-        (box_of R.received R.answers R.about replies.old)
-        (box_of R.received R.answers R.about replies.new) }
-    ensures hears { (line : Line) → open_line (course_of local.old) ≡ Some line
-        → Hears result local.old local.new (R.received replies.old) (R.received replies.new)
-        (IsReplyTo (
-          worker_asked local.old.placement local.old.session.client line (local.old.out - 1),
-          SentAsk (local.old.asks + local.old.out) (key_asked line) (clock_begun local.old.begun),
-        )) }
-    ensures nothing { TellsNothing result (R.answers replies.old) (R.answers replies.new)
-        (FindsNothing R.keeps (box_of R.received R.answers R.about replies.new)) }
+    ensures takes { boxes.MayTake R.Rx replies.old replies.new }
+    ensures hears { OnOpen local.old (λ line. Hears result local.old local.new
+        (R.received replies.old) (R.received replies.new) (IsReplyTo (last_ask local.old line))) }
+    ensures nothing { over.TellsNothing R.Rx result replies.old replies.new }
 {
     if let Some(reply) = local.kept.take() {
         return Ok(Heard::Awaited(reply));
@@ -267,15 +246,8 @@ pub(crate) fn hear<T: Tx<Request>, R: Rx<Reply>>(
     ensures fixed { IsFixed (course_of local.old) (course_of local.new) }
     ensures requests { ends.new.requests ≡ ends.old.requests }
     ensures replies_key { R.key ends.new.replies ≡ R.key ends.old.replies }
-    ensures takes { MayTake R.keeps (R.senders (R.key ends.old.replies))
-        (box_of R.received R.answers R.about ends.old.replies)
-        (box_of R.received R.answers R.about ends.new.replies) }
-    ensures polls { Polls result
-        (lists_at T.sent R.received local.old ends.old)
-        (lists_at T.sent R.received local.new ends.new)
-        (counts_at T.fulls R.answers ends.old) (counts_at T.fulls R.answers ends.new)
-        (WantsRoom T.clear T.roomy T.unseen ends.old.requests.items)
-        (FindsNothing R.keeps (box_of R.received R.answers R.about ends.new.replies)) }
+    ensures takes { boxes.MayTake R.Rx ends.old.replies ends.new.replies }
+    ensures polls { over.PollsAt T.Tx R.Rx result local.old ends.old local.new ends.new }
 {
     reserve_one(&mut local.answers)?;
     match take_reply(local, &mut ends.replies)? {

@@ -1,8 +1,7 @@
 //! A session over plain mail, for one thread: a driver carries its parcels.
 ghost use Rattle.std.specs.Prelude.{◌≡◌, ◌-◌, ◌≤◌, length};
-ghost use Rattle.mail_contract.specs.Parcels.{Delivers, GivesUp};
-ghost use Rattle.session_proxy.specs.Share.{Share};
-ghost use Rattle.session_proxy.specs.State.{lists_of};
+ghost use Rattle.mail_contract.specs.OverPlain.{Delivers, GivesUp};
+ghost use Rattle.session_proxy.specs.OverProxies as over;
 
 use crate::{Consistency, ProxyOver};
 use mail_contract::{Parcel, ParcelFault, PlainRx, PlainTx, Rx, Tx, deliver, parcel_of};
@@ -13,10 +12,9 @@ impl<C: Consistency> ProxyOver<C, PlainTx<Request>, PlainRx<Reply>> {
     /// memory.
     pub fn request_parcel(&mut self, worker: u16) -> Parcel<Request>
         requires { (1 ≤ worker) × (worker ≤ length self.old.ends.requests.items) }
-        ensures share { Share (lists_of ⟦<PlainTx<Request> as Tx<Request>>⟧.sent
-            ⟦<PlainRx<Reply> as Rx<Reply>>⟧.received self.new) }
-        ensures parcel { GivesUp ⟦<PlainTx<Request> as Tx<Request>>⟧.number
-            ⟦<PlainTx<Request> as Tx<Request>>⟧.sent ⟦<PlainTx<Request> as Tx<Request>>⟧.key
+        ensures share { over.Share ⟦<PlainTx<Request> as Tx<Request>>⟧
+            ⟦<PlainRx<Reply> as Rx<Reply>>⟧ self.new }
+        ensures parcel { GivesUp ⟦<PlainTx<Request> as Tx<Request>>⟧
             (worker - 1) result self.old.ends.requests.items self.new.ends.requests.items }
         ensures course { self.new.course ≡ self.old.course }
         ensures replies { self.new.ends.replies ≡ self.old.ends.replies }
@@ -28,12 +26,10 @@ impl<C: Consistency> ProxyOver<C, PlainTx<Request>, PlainRx<Reply>> {
 
     /// Takes in a parcel of a worker's replies. A refusal hands it back, and nothing has changed.
     pub fn deliver(&mut self, parcel: Parcel<Reply>) -> Result<(), ParcelFault<Reply>>
-        ensures share { Share (lists_of ⟦<PlainTx<Request> as Tx<Request>>⟧.sent
-            ⟦<PlainRx<Reply> as Rx<Reply>>⟧.received self.new) }
-        ensures delivers { Delivers ⟦<PlainRx<Reply> as Rx<Reply>>⟧.key
-            ⟦<PlainRx<Reply> as Rx<Reply>>⟧.received ⟦<PlainRx<Reply> as Rx<Reply>>⟧.answers
-            ⟦<PlainRx<Reply> as Rx<Reply>>⟧.about
-            parcel result self.old.ends.replies self.new.ends.replies }
+        ensures share { over.Share ⟦<PlainTx<Request> as Tx<Request>>⟧
+            ⟦<PlainRx<Reply> as Rx<Reply>>⟧ self.new }
+        ensures delivers { Delivers ⟦<PlainRx<Reply> as Rx<Reply>>⟧ parcel result
+            self.old.ends.replies self.new.ends.replies }
         ensures course { self.new.course ≡ self.old.course }
         ensures requests { self.new.ends.requests ≡ self.old.ends.requests }
     {

@@ -1,13 +1,12 @@
 //! The proxy of a session.
 ghost use Rattle.std.specs.Prelude.{◌≡◌, ◌≤◌, ◌<◌, ◌^◌, ◌-◌, All, IsTrue, IfOk, [], false, length, map, min, slice_index_or};
-ghost use Rattle.mail_contract.specs.Boxes.{FindsNothing, MayTake, box_of};
+ghost use Rattle.mail_contract.specs.OverBoxes as boxes;
 ghost use Rattle.mail_contract.specs.Standing.{AllPart};
 ghost use Rattle.session_known.specs.Script.{AreEnded};
-ghost use Rattle.session_proxy.specs.Kept.{KeepsAt};
 ghost use Rattle.session_proxy.specs.Lines.{AreReplicas, MayRun};
-ghost use Rattle.session_proxy.specs.Polls.{EndsWhereAnswered, Polls, WantsRoom, counts_of};
-ghost use Rattle.session_proxy.specs.Share.{Share};
-ghost use Rattle.session_proxy.specs.State.{IsFixed, KeysStay, lists_of, opening};
+ghost use Rattle.session_proxy.specs.OverProxies as over;
+ghost use Rattle.session_proxy.specs.Polls.{EndsWhereAnswered};
+ghost use Rattle.session_proxy.specs.State.{IsFixed, opening};
 
 use crate::local::{Begun, Local};
 use crate::steps::step;
@@ -64,7 +63,7 @@ impl<C: Consistency, T: Tx<Request>, R: Rx<Reply>> ProxyOver<C, T, R> {
           course = opening (record { session = me; level = C.level }) placement lines;
           ends = ends;
         }) }
-        ensures share { IfOk result (λ proxy. Share (lists_of T.sent R.received proxy)) }
+        ensures share { IfOk result (over.Share T.Tx R.Rx) }
     {
         let alloc = *ends.requests.allocator();
         let mut answers = Vec::new(alloc);
@@ -101,17 +100,11 @@ impl<C: Consistency, T: Tx<Request>, R: Rx<Reply>> ProxyOver<C, T, R> {
     /// `NoMemory` the answers and what was sent are as before, and a reply that was taken is kept: a later
     /// call works on it.
     pub fn poll(&mut self) -> Result<Progress, NoMemory>
-        ensures share { Share (lists_of T.sent R.received self.new) }
+        ensures share { over.Share T.Tx R.Rx self.new }
         ensures fixed { IsFixed self.old.course self.new.course }
-        ensures keys { KeysStay T.key T.number R.key self.old self.new }
-        ensures polls { Polls result
-            (lists_of T.sent R.received self.old) (lists_of T.sent R.received self.new)
-            (counts_of T.fulls R.answers self.old) (counts_of T.fulls R.answers self.new)
-            (WantsRoom T.clear T.roomy T.unseen self.old.ends.requests.items)
-            (FindsNothing R.keeps (box_of R.received R.answers R.about self.new.ends.replies)) }
-        ensures takes { MayTake R.keeps (R.senders (R.key self.old.ends.replies))
-            (box_of R.received R.answers R.about self.old.ends.replies)
-            (box_of R.received R.answers R.about self.new.ends.replies) }
+        ensures keys { over.KeysStay T.Tx R.Rx self.old self.new }
+        ensures polls { over.Polls T.Tx R.Rx result self.old self.new }
+        ensures takes { boxes.MayTake R.Rx self.old.ends.replies self.new.ends.replies }
         ensures ended { EndsWhereAnswered result self.old.course }
     {
         let progress = step(&mut self.local, &mut self.ends);
@@ -121,7 +114,7 @@ impl<C: Consistency, T: Tx<Request>, R: Rx<Reply>> ProxyOver<C, T, R> {
 
     /// What the session keeps from call to call. It does nothing.
     pub(crate) fn attest(&self)
-        ensures { Share (lists_of T.sent R.received self.now) }
+        ensures { over.Share T.Tx R.Rx self.now }
     {
         let _ = &self.local;
     }
@@ -142,7 +135,7 @@ impl<C: Consistency, T: Tx<Request>, R: Rx<Reply>> ProxyOver<C, T, R> {
 
     /// Nobody is beside the box of replies any longer. Takes no memory.
     pub fn apart(&mut self)
-        ensures share { Share (lists_of T.sent R.received self.new) }
+        ensures share { over.Share T.Tx R.Rx self.new }
         ensures course { self.new.course ≡ self.old.course }
         ensures requests { self.new.ends.requests ≡ self.old.ends.requests }
         ensures key { R.key self.new.ends.replies ≡ R.key self.old.ends.replies }
@@ -157,7 +150,7 @@ impl<C: Consistency, T: Tx<Request>, R: Rx<Reply>> ProxyOver<C, T, R> {
     /// The answers and the ends; every line is answered. Takes no memory.
     pub fn finish(self) -> (Items<Answer>, SessionEndsOver<T, R>)
         requires { length self.course.answers ≡ length self.course.lines }
-        ensures share { Share (lists_of T.sent R.received self) }
+        ensures share { over.Share T.Tx R.Rx self }
         ensures answers { result.0 ≡ self.course.answers }
         ensures ends { result.1 ≡ self.ends }
     {

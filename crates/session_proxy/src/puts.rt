@@ -6,10 +6,9 @@ ghost use Rattle.placement.specs.Asked.{home_at};
 ghost use Rattle.placement.specs.Config.{IsOneOf};
 ghost use Rattle.session_known.specs.Session.{own_count};
 ghost use Rattle.session_known.specs.declared.script.Line.{Line};
-ghost use Rattle.mail_contract.specs.Boxes.{FindsNothing, box_of};
 ghost use Rattle.session_proxy.specs.Kept.{KeepsAt};
-ghost use Rattle.session_proxy.specs.Local.{ArePuts, CanMake, Makes, Prepares, SendsPut, answer_sent, course_of, lists_at, put_at, puts_begun};
-ghost use Rattle.session_proxy.specs.Polls.{Polls, WantsRoom, counts_at};
+ghost use Rattle.session_proxy.specs.Local.{ArePuts, CanMake, Makes, Prepares, SendsPut, OnOpen, answer_sent, next_of, course_of, put_at, puts_begun};
+ghost use Rattle.session_proxy.specs.OverProxies as over;
 ghost use Rattle.session_proxy.specs.State.{IsFixed, open_line};
 
 use crate::Progress;
@@ -46,7 +45,8 @@ fn make(
 fn prepare(local: &mut Local) -> Result<(), NoMemory>
     requires { CanMake local.old.begun local.old.made local.old.session local.old.out }
     ensures makes { Prepares result local.old local.new }
-    ensures room { OnOk result (length local.new.answers.items + 1 ≤ vec_capacity local.new.answers) }
+    ensures room { OnOk result
+        (length local.new.answers.items + 1 ≤ vec_capacity local.new.answers) }
 {
     reserve_one(&mut local.answers)?;
     let Begun::Puts(puts) = &local.begun else {
@@ -59,10 +59,9 @@ fn prepare(local: &mut Local) -> Result<(), NoMemory>
 fn next_home(local: &Local) -> u16
     requires left { local.now.out < length (puts_begun local.now.begun) }
     requires session { 1 ≤ local.now.session.client.session }
-    requires key { IsOneOf (length local.now.placement)
-        (slice_index_or (puts_begun local.now.begun) local.now.out (0, payloads.On)).0 }
+    requires key { IsOneOf (length local.now.placement) (next_of local.now).0 }
     ensures { result ≡ home_at local.now.placement local.now.session.client.session
-        (slice_index_or (puts_begun local.now.begun) local.now.out (0, payloads.On)).0 }
+        (next_of local.now).0 }
 {
     let Begun::Puts(puts) = &local.begun else {
         unreachable!()
@@ -110,8 +109,7 @@ fn sent_put(local: &mut Local)
     requires few { length (puts_begun local.old.begun) < 2 ^ 32 }
     requires open { length local.old.answers.items < length local.old.lines }
     requires room { length local.old.answers.items + 1 ≤ vec_capacity local.old.answers }
-    ensures { (line : Line) → open_line (course_of local.old) ≡ Some line
-        → SendsPut line local.old local.new }
+    ensures { OnOpen local.old (λ line. SendsPut line local.old local.new) }
 {
     local.out += 1;
     let Begun::Puts(puts) = &local.begun else {
@@ -137,16 +135,10 @@ pub(crate) fn put<T: Tx<Request>, R: Rx<Reply>>(
     ensures keeps { KeepsAt T.sent R.received local.new ends.new }
     ensures fixed { IsFixed (course_of local.old) (course_of local.new) }
     ensures replies { ends.new.replies ≡ ends.old.replies }
-    ensures requests_keys { map T.key ends.new.requests.items
-        ≡ map T.key ends.old.requests.items }
+    ensures requests_keys { map T.key ends.new.requests.items ≡ map T.key ends.old.requests.items }
     ensures requests_numbers { map T.number ends.new.requests.items
         ≡ map T.number ends.old.requests.items }
-    ensures polls { Polls result
-        (lists_at T.sent R.received local.old ends.old)
-        (lists_at T.sent R.received local.new ends.new)
-        (counts_at T.fulls R.answers ends.old) (counts_at T.fulls R.answers ends.new)
-        (WantsRoom T.clear T.roomy T.unseen ends.old.requests.items)
-        (FindsNothing R.keeps (box_of R.received R.answers R.about ends.new.replies)) }
+    ensures polls { over.PollsAt T.Tx R.Rx result local.old ends.old local.new ends.new }
 {
     prepare(local)?;
     let home = next_home(local);

@@ -1,10 +1,11 @@
 //! One step of a proxy.
 ghost use Rattle.std.specs.Prelude.{◌≡◌, ◌≢◌, ◌≤◌, ◌<◌, IsTrue, false, length, map};
-ghost use Rattle.mail_contract.specs.Boxes.{FindsNothing, MayTake, box_of};
+ghost use Rattle.mail_contract.specs.OverBoxes as boxes;
 ghost use Rattle.session_known.specs.Session.{held_puts};
 ghost use Rattle.session_proxy.specs.Kept.{KeepsAt};
-ghost use Rattle.session_proxy.specs.Local.{course_of, lists_at};
-ghost use Rattle.session_proxy.specs.Polls.{EndsWhereAnswered, Polls, WantsRoom, counts_at};
+ghost use Rattle.session_proxy.specs.Local.{course_of};
+ghost use Rattle.session_proxy.specs.OverProxies as over;
+ghost use Rattle.session_proxy.specs.Polls.{EndsWhereAnswered};
 ghost use Rattle.session_proxy.specs.State.{IsFixed};
 ghost use Rattle.session_proxy.specs.Steps.{Nexts, Opens, goes_on};
 ghost use Rattle.session_proxy.specs.declared.local.Begun.TheVariants as ways;
@@ -98,20 +99,12 @@ pub(crate) fn step<T: Tx<Request>, R: Rx<Reply>>(
     requires keeps { KeepsAt T.sent R.received local.old ends.old }
     ensures keeps { KeepsAt T.sent R.received local.new ends.new }
     ensures fixed { IsFixed (course_of local.old) (course_of local.new) }
-    ensures requests_keys { map T.key ends.new.requests.items
-        ≡ map T.key ends.old.requests.items }
+    ensures requests_keys { map T.key ends.new.requests.items ≡ map T.key ends.old.requests.items }
     ensures requests_numbers { map T.number ends.new.requests.items
         ≡ map T.number ends.old.requests.items }
     ensures replies_key { R.key ends.new.replies ≡ R.key ends.old.replies }
-    ensures takes { MayTake R.keeps (R.senders (R.key ends.old.replies))
-        (box_of R.received R.answers R.about ends.old.replies)
-        (box_of R.received R.answers R.about ends.new.replies) }
-    ensures polls { Polls result
-        (lists_at T.sent R.received local.old ends.old)
-        (lists_at T.sent R.received local.new ends.new)
-        (counts_at T.fulls R.answers ends.old) (counts_at T.fulls R.answers ends.new)
-        (WantsRoom T.clear T.roomy T.unseen ends.old.requests.items)
-        (FindsNothing R.keeps (box_of R.received R.answers R.about ends.new.replies)) }
+    ensures takes { boxes.MayTake R.Rx ends.old.replies ends.new.replies }
+    ensures polls { over.PollsAt T.Tx R.Rx result local.old ends.old local.new ends.new }
     ensures ended { EndsWhereAnswered result (course_of local.old) }
 {
     match next_task(local)? {

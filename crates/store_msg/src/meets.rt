@@ -1,9 +1,12 @@
 //! What a session and a worker learn of each other where their ends are held together.
-ghost use Rattle.std.specs.Prelude.{◌≡◌, ◌≢◌, ℕ, ◌-◌, ◌≤◌, [], IsTrue, List, length, map, min, slice_index_or};
-ghost use Rattle.mail_contract.specs.Lanes.{IsLaneOf};
+ghost use Rattle.std.specs.Prelude.{◌≡◌, ◌≢◌, ℕ, ◌-◌, ◌≤◌, IsTrue, List, map};
+ghost use Rattle.mail_contract.specs.Beside.{FindsPlaceBy, IsLearned, LearnsUnseenBy};
+ghost use Rattle.mail_contract.specs.OverBoxes as boxes;
 ghost use Rattle.mail_contract.specs.Parts.{Parts};
-ghost use Rattle.mail_contract.specs.Standing.{About, Learned};
+ghost use Rattle.mail_contract.specs.Seen.{Stays};
+ghost use Rattle.mail_contract.specs.Standing.{About};
 ghost use Rattle.mail_contract.specs.Takes.{IsFront, from_sender};
+ghost use Rattle.store_msg.specs.Meets.{FindsPlace, FindsPlaceAt, IsPaired, Learns, LearnsAt, LearnsUnseen, LearnsUnseenAt, OthersStayThere, OthersUnseenStay, TellsFront, TellsFrontAt};
 ghost use Rattle.store_msg.specs.Reply.{PlainReply};
 ghost use Rattle.store_msg.specs.declared.request.Request.{Request as Asked};
 
@@ -61,40 +64,33 @@ pub trait Meets<Q: Rx<Request>, T: Tx<Reply>> {
         ensures requests_key { Q.key requests.new ≡ Q.key requests.old }
         ensures requests_received { Q.received requests.new ≡ Q.received requests.old }
         ensures requests_answers { Q.answers requests.new ≡ Q.answers requests.old }
-        ensures requests_learned { Learned Q.keeps (number self.old worker) (asked self.old worker)
-            (Q.about requests.old) (Q.about requests.new) }
-        ensures requests_told { IsTrue Q.keeps.complete
-            → IsFront (from_sender (number self.old worker) (Q.received requests.old))
-            (asked self.old worker) }
+        ensures requests_learned { Learns Q.Rx number asked self.old worker requests.old
+            requests.new }
+        ensures requests_told { TellsFront Q.Rx number asked self.old worker requests.old }
 
         // The session's sender.
-        ensures roomy { IsTrue Q.keeps.roomy → unseen self.new worker
-            ≡ min 64 (length (asked self.old worker)
-            - length (from_sender (number self.old worker) (Q.received requests.old))) }
-        ensures freed { IsTrue Q.keeps.freed
-            → length (asked self.old worker)
-            ≤ length (from_sender (number self.old worker) (Q.received requests.old))
-            → clear self.new worker }
+        ensures roomy { LearnsUnseen Q.Rx number asked unseen worker requests.old self.old
+            self.new }
+        ensures freed { FindsPlace Q.Rx number asked clear worker requests.old self.old self.new }
         ensures others { (other : ℕ) → 1 ≤ other → other ≢ worker
             → clear self.old other → clear self.new other }
         ensures others_unseen { (other : ℕ) → 1 ≤ other → other ≢ worker
             → unseen self.new other ≡ unseen self.old other }
 
         // The session's box.
-        ensures learned { Learned keeps (T.number replies.old) (T.sent replies.old)
-            (about self.old) (about self.new) }
-        ensures told { IsTrue keeps.complete → IsFront (heard self.old worker) (T.sent replies.old) }
+        ensures learned { IsLearned T.Tx keeps replies.old (about self.old) (about self.new) }
+        ensures told { IsTrue keeps.complete → IsFront (heard self.old worker)
+            (T.sent replies.old) }
 
         // The worker's sender of replies.
         ensures replies_key { T.key replies.new ≡ T.key replies.old }
         ensures replies_number { T.number replies.new ≡ T.number replies.old }
         ensures replies_sent { T.sent replies.new ≡ T.sent replies.old }
         ensures replies_fulls { T.fulls replies.new ≡ T.fulls replies.old }
-        ensures replies_roomy { IsTrue keeps.roomy → T.unseen replies.new
-            ≡ min 64 (length (T.sent replies.old) - length (heard self.old worker)) }
+        ensures replies_roomy { IsTrue keeps.roomy
+            → LearnsUnseenBy T.Tx (heard self.old worker) replies.old replies.new }
         ensures replies_freed { IsTrue keeps.freed
-            → length (T.sent replies.old) ≤ length (heard self.old worker)
-            → T.clear replies.new };
+            → FindsPlaceBy T.Tx (heard self.old worker) replies.old replies.new };
 }
 
 /// Holds the ends of a worker, by its number, beside a session's. Takes no memory.
@@ -104,53 +100,38 @@ pub fn meet_ends<T: Tx<Request>, R: Rx<Reply>, Q: Rx<Request, From = T>>(
     requests: &mut Q,
     replies: &mut R::From,
 )
-    requires asks { IsLaneOf
-        (λ tx rx. Q.pairs rx tx (slice_index_or (map T.number ends.old.requests.items) (worker - 1) 0))
-        (map T.key ends.old.requests.items) (Q.key requests.old) worker }
+    requires asks { IsPaired Q.Rx T.Tx ends.old.requests.items worker requests.old }
     requires hears { R.pairs (R.key ends.old.replies) (R.From.key replies.old)
         (R.From.number replies.old) }
     requires number { R.From.number replies.old ≡ worker }
-    ensures keys { map T.key ends.new.requests.items ≡ map T.key ends.old.requests.items }
-    ensures numbers { map T.number ends.new.requests.items ≡ map T.number ends.old.requests.items }
-    ensures sent { map T.sent ends.new.requests.items ≡ map T.sent ends.old.requests.items }
+    ensures keys { Stays (map T.key) ends.old.requests.items ends.new.requests.items }
+    ensures numbers { Stays (map T.number) ends.old.requests.items ends.new.requests.items }
+    ensures sent { Stays (map T.sent) ends.old.requests.items ends.new.requests.items }
     ensures key { R.key ends.new.replies ≡ R.key ends.old.replies }
     ensures received { R.received ends.new.replies ≡ R.received ends.old.replies }
-    ensures fulls { map T.fulls ends.new.requests.items ≡ map T.fulls ends.old.requests.items }
+    ensures fulls { Stays (map T.fulls) ends.old.requests.items ends.new.requests.items }
     ensures answers { R.answers ends.new.replies ≡ R.answers ends.old.replies }
 
     // The box of requests.
     ensures requests_key { Q.key requests.new ≡ Q.key requests.old }
     ensures requests_received { Q.received requests.new ≡ Q.received requests.old }
     ensures requests_answers { Q.answers requests.new ≡ Q.answers requests.old }
-    ensures requests_learned { Learned Q.keeps
-        (slice_index_or (map T.number ends.old.requests.items) (worker - 1) 0)
-        (slice_index_or (map T.sent ends.old.requests.items) (worker - 1) [])
-        (Q.about requests.old) (Q.about requests.new) }
-    ensures requests_told { IsTrue Q.keeps.complete
-        → IsFront (from_sender (slice_index_or (map T.number ends.old.requests.items) (worker - 1) 0)
-        (Q.received requests.old))
-        (slice_index_or (map T.sent ends.old.requests.items) (worker - 1) []) }
+    ensures requests_learned { LearnsAt Q.Rx T.Tx ends.old.requests.items (worker - 1)
+        requests.old requests.new }
+    ensures requests_told { TellsFrontAt Q.Rx T.Tx ends.old.requests.items (worker - 1)
+        requests.old }
 
     // The session's sender.
-    ensures roomy { IsTrue Q.keeps.roomy
-        → slice_index_or (map T.unseen ends.new.requests.items) (worker - 1) 0
-        ≡ min 64 (length (slice_index_or (map T.sent ends.old.requests.items) (worker - 1) [])
-        - length (from_sender (slice_index_or (map T.number ends.old.requests.items) (worker - 1) 0)
-        (Q.received requests.old))) }
-    ensures freed { IsTrue Q.keeps.freed
-        → length (slice_index_or (map T.sent ends.old.requests.items) (worker - 1) [])
-        ≤ length (from_sender (slice_index_or (map T.number ends.old.requests.items) (worker - 1) 0)
-        (Q.received requests.old))
-        → (tx : T) → slice_index_or ends.new.requests.items (worker - 1) tx ≡ tx → T.clear tx }
-    ensures others { (place : ℕ) (tx : T) → place ≢ worker - 1
-        → slice_index_or ends.new.requests.items place tx ≡ slice_index_or ends.old.requests.items place tx }
-    ensures others_unseen { (place : ℕ) → place ≢ worker - 1
-        → slice_index_or (map T.unseen ends.new.requests.items) place 0
-        ≡ slice_index_or (map T.unseen ends.old.requests.items) place 0 }
+    ensures roomy { LearnsUnseenAt Q.Rx T.Tx (worker - 1) requests.old
+        ends.old.requests.items ends.new.requests.items }
+    ensures freed { FindsPlaceAt Q.Rx T.Tx (worker - 1) requests.old
+        ends.old.requests.items ends.new.requests.items }
+    ensures others { OthersStayThere (worker - 1) ends.old.requests.items ends.new.requests.items }
+    ensures others_unseen { OthersUnseenStay T.Tx (worker - 1)
+        ends.old.requests.items ends.new.requests.items }
 
     // The session's box.
-    ensures learned { Learned R.keeps (R.From.number replies.old) (R.From.sent replies.old)
-        (R.about ends.old.replies) (R.about ends.new.replies) }
+    ensures learned { boxes.Learns R.Rx R.From.Tx replies.old ends.old.replies ends.new.replies }
     ensures told { IsTrue R.keeps.complete
         → IsFront (from_sender worker (R.received ends.old.replies)) (R.From.sent replies.old) }
 
@@ -159,13 +140,10 @@ pub fn meet_ends<T: Tx<Request>, R: Rx<Reply>, Q: Rx<Request, From = T>>(
     ensures replies_number { R.From.number replies.new ≡ R.From.number replies.old }
     ensures replies_sent { R.From.sent replies.new ≡ R.From.sent replies.old }
     ensures replies_fulls { R.From.fulls replies.new ≡ R.From.fulls replies.old }
-    ensures replies_roomy { IsTrue R.keeps.roomy → R.From.unseen replies.new
-        ≡ min 64 (length (R.From.sent replies.old)
-        - length (from_sender worker (R.received ends.old.replies))) }
-    ensures replies_freed { IsTrue R.keeps.freed
-        → length (R.From.sent replies.old)
-        ≤ length (from_sender worker (R.received ends.old.replies))
-        → R.From.clear replies.new }
+    ensures replies_roomy { IsTrue R.keeps.roomy → LearnsUnseenBy R.From.Tx
+        (from_sender worker (R.received ends.old.replies)) replies.old replies.new }
+    ensures replies_freed { IsTrue R.keeps.freed → FindsPlaceBy R.From.Tx
+        (from_sender worker (R.received ends.old.replies)) replies.old replies.new }
 {
     let sender = &mut ends.requests[worker as usize - 1];
     requests.beside(sender);
@@ -174,9 +152,11 @@ pub fn meet_ends<T: Tx<Request>, R: Rx<Reply>, Q: Rx<Request, From = T>>(
 
 impl<T: Tx<Request>, R: Rx<Reply>, Q: Rx<Request, From = T>> Meets<Q, R::From>
     for SessionEndsOver<T, R> {
-    ghost use Rattle.std.specs.Prelude.{◌≡◌, ◌-◌, ℕ, [], List, map, slice_index_or};
+    ghost use Rattle.std.specs.Prelude.{◌≡◌, ◌-◌, ℕ, List, map};
     ghost use Rattle.mail_contract.specs.Lanes.{IsLaneOf};
+    ghost use Rattle.mail_contract.specs.OverSenders.{number_at, sent_at, unseen_at};
     ghost use Rattle.mail_contract.specs.Takes.{Answers, from_sender};
+    ghost use Rattle.store_msg.specs.Meets.{IsClearThere};
     ghost use Rattle.store_msg.specs.Reply.{PlainReply};
     ghost use Rattle.store_msg.specs.declared.request.Request.{Request as Asked};
 
@@ -188,19 +168,15 @@ impl<T: Tx<Request>, R: Rx<Reply>, Q: Rx<Request, From = T>> Meets<Q, R::From>
         IsLaneOf (λ tx rx. Q.pairs rx tx number) key.0 requests worker
         × R.pairs key.1 replies sender × (sender ≡ worker) };
 
-    ghost number = { λ ends worker.
-        slice_index_or (map T.number ends.requests.items) (worker - 1) 0 };
+    ghost number = { λ ends worker. number_at T.Tx ends.requests.items (worker - 1) };
 
-    ghost asked = { λ ends worker.
-        slice_index_or (map T.sent ends.requests.items) (worker - 1) [] };
+    ghost asked = { λ ends worker. sent_at T.Tx ends.requests.items (worker - 1) };
 
     ghost heard = { λ ends worker. from_sender worker (R.received ends.replies) };
 
-    ghost unseen = { λ ends worker.
-        slice_index_or (map T.unseen ends.requests.items) (worker - 1) 0 };
+    ghost unseen = { λ ends worker. unseen_at T.Tx ends.requests.items (worker - 1) };
 
-    ghost clear = { λ ends worker. (tx : T)
-        → slice_index_or ends.requests.items (worker - 1) tx ≡ tx → T.clear tx };
+    ghost clear = { λ ends worker. IsClearThere T.Tx ends.requests.items (worker - 1) };
 
     ghost Rest = { List ℕ × List (List Asked) × List (ℕ × PlainReply) × List ℕ × Answers };
 

@@ -1,11 +1,11 @@
 -- No more keys are changed for a mate than there are keys.
-use Rattle.std.proofs.Common.{◌≡◌, ℕ, zero, suc, ◌+◌, ◌<◌, ◌≤◌, Bool, IsTrue, List, [], ◌∷◌, All, Contains, ap, arith, inl, inr, length, refl, ◌==◌, slice_index_or}
+use Rattle.std.proofs.Common.{◌≡◌, ℕ, zero, suc, ◌<◌, ◌≤◌, Bool, IsTrue, List, [], ◌∷◌, ap, arith, inl, inr, length, refl, ◌==◌, slice_index_or}
 use Rattle.std.specs.List.{list_any}
 use Rattle.std.proofs.lemmas.Bool.{cases_lt, false≢true}
 use Rattle.std.proofs.lemmas.List.Elements.{All-contains_itself}
 use Rattle.worker_core.specs.Kept.{AreChanged, IsKept}
 use Rattle.worker_core.specs.State.{Lists, State, changed_of, lives_at, mate_at}
-use Rattle.worker_core.proofs.KeysLemmas.{few_keys}
+use Rattle.gossip_rounds.proofs.KeysLemmas.{few_keys}
 
 -- some item passes the test, so the list is there
 any_there : {A : Type 0} (test : A → Bool) (lists : List (List A)) (place : ℕ) → IsTrue (list_any test (slice_index_or lists place [])) → place < length lists

@@ -19,12 +19,13 @@ use Rattle.merge_world.specs.declared.private_map.KeyCells.{KeyCells}
 use Rattle.mail_contract.specs.Got.{Added}
 use Rattle.store_msg.specs.Reply.{PlainReply}
 use Rattle.store_msg.specs.declared.request.Request.{Request}
+use Rattle.gossip_rounds.specs.Batches.{Entries}
 use Rattle.worker_core.specs.Kept.{AreEntries, IsBelow, IsFree, IsKept, IsRequest}
 use Rattle.worker_core.specs.Lag.{LagsBy}
 use Rattle.worker_core.specs.Serving.{AddsReplies, Served}
 use Rattle.worker_core.specs.Share.{AreThoseOf, CoversEarlier, IsAnswerCell, IsAtMost, IsHeldFor, IsReplyTo, IsSession, IsTold, WasOwn, entries_in, own_cell, replies_to, shown_of, told_to}
-use Rattle.worker_core.specs.State.{changed_of, dirty, Entries, IsFixed, kept_batch, kept_request, Lists, lives_at, opening_state, State}
-use Rattle.worker_core.specs.Telling.{TellsAll}
+use Rattle.worker_core.specs.State.{changed_of, dirty, IsFixed, kept_batch, kept_request, Lists, lives_at, opening_state, State}
+use Rattle.gossip_rounds.specs.Telling.{TellsAll}
 use Rattle.worker_core.specs.Turns.{Gossips, HandsOver, Serves, counted, marked, reply_to, served}
 use Rattle.worker_core.specs.declared.popped.Popped.{Popped}
 use Rattle.worker_core.specs.declared.popped.Popped.TheVariants as popped

@@ -15,11 +15,12 @@ use Rattle.merge_world.specs.Effects.{cells_at}
 use Rattle.merge_world.specs.declared.private_map.KeyCells.{KeyCells}
 use Rattle.store_msg.specs.declared.request.Request.{Request}
 use Rattle.store_msg.specs.declared.request.Request.TheVariants as requests
+use Rattle.gossip_rounds.specs.Batches.{Entries, told_on}
 use Rattle.worker_core.specs.Lag.{IsCounted, IsPutAt, LagsBy}
-use Rattle.worker_core.specs.Share.{AreClean, AreOwn, IsLast, mate_lives_at, told_on, told_to}
-use Rattle.worker_core.specs.State.{Entries, IsFixed, Lists, State, changed_of, dirty, lives_at}
+use Rattle.worker_core.specs.Share.{AreClean, AreOwn, IsLast, mate_lives_at, told_to}
+use Rattle.worker_core.specs.State.{IsFixed, Lists, State, changed_of, dirty, lives_at}
 use Rattle.worker_core.specs.Turns.{AllTried, Gossips, counted}
-use Rattle.worker_core.proofs.BatchesLemmas.{all_went, among_or_not, sent_batches, sent_has, told_on-append}
+use Rattle.gossip_rounds.proofs.BatchesLemmas.{all_went, among_or_not, sent_batches, sent_has, told_on-append}
 use Rattle.worker_core.proofs.ToldLemmas.{Counts, clean_at_each, gossips_fixed, lives_fixed}
 
 -- a worker has cells of the keys that it holds, and of no others

@@ -6,10 +6,11 @@ use Rattle.lattice_laws.specs.Counts.{one_more}
 use Rattle.mail_contract.specs.Got.{Added}
 use Rattle.store_msg.specs.Reply.{PlainReply}
 use Rattle.store_msg.specs.declared.request.Request.{Request}
+use Rattle.gossip_rounds.specs.Batches.{Entries}
 use Rattle.worker_core.specs.Kept.{AreEntries, IsKept, IsLawful, IsRequest}
 use Rattle.worker_core.specs.Serving.{Resent, Served, since_after}
-use Rattle.worker_core.specs.State.{Entries, Lists, State, dirty}
-use Rattle.worker_core.specs.Telling.{TellsAll}
+use Rattle.worker_core.specs.State.{Lists, State, dirty}
+use Rattle.gossip_rounds.specs.Telling.{TellsAll}
 use Rattle.worker_core.specs.Turns.{Counts, MayAsk, Rounds, counted}
 use Rattle.worker_core.specs.declared.popped.Popped.{Popped}
 use Rattle.worker_core.specs.declared.popped.Popped.TheVariants as popped

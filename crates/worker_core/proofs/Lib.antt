@@ -1,7 +1,5 @@
-pub mod BatchesLemmas
 pub mod FewLemmas
 pub mod KeptLemmas
-pub mod KeysLemmas
 pub mod LagLemmas
 pub mod LawfulLemmas
 pub mod MapLemmas
@@ -13,6 +11,5 @@ pub mod RoomLemmas
 pub mod SealedLemmas
 pub mod ServingLemmas
 pub mod ShowingLemmas
-pub mod TellingLemmas
 pub mod ToldLemmas
 pub mod TurnLemmas

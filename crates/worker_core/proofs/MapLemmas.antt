@@ -27,9 +27,10 @@ use Rattle.merge_world.proofs.KeyCellsLemmas.{heard_on, hears_at}
 use Rattle.merge_world.proofs.PlacesLemmas.{changed_from, changed_here, changed_there}
 use Rattle.store_msg.specs.declared.request.Request.{Request}
 use Rattle.store_msg.specs.declared.request.Request.TheVariants as requests
+use Rattle.gossip_rounds.specs.Batches.{Entries}
 use Rattle.worker_core.specs.Kept.{AreEntries, IsRequest}
 use Rattle.worker_core.specs.Share.{AreOwn, AreWhole, IsMadeFrom, cells_on, entries_in, joined_with, of_kind, own_cell, shown_of}
-use Rattle.worker_core.specs.State.{Entries, lives_at}
+use Rattle.worker_core.specs.State.{lives_at}
 use Rattle.worker_core.specs.Turns.{changes, is_of, served}
 use Rattle.worker_core.proofs.OwnLemmas.{AreRequests, IsCellOfKind, at_most_covers, brought, brought_are, joined_are, joined_at_least, joined_swapped, joined_two, joined_with-append, own_cell-push, own_counts, own_grows, own_is, own_is_cell}
 

@@ -1,6 +1,6 @@
 -- A key is marked for one mate after the other.
 use Rattle.std.proofs.Common.{◌≡◌, ℕ, ◌<◌, ◌≤◌, Bool, if◌then◌else◌, List, [], length, get_or}
-use Rattle.worker_core.specs.Changes.{with_key}
+use Rattle.gossip_rounds.specs.Changes.{with_key}
 
 -- The key is there for each mate before a place that holds it, and all else is as it was.
 pub record MarkedTo (lives : ℕ → Bool) (key place : ℕ) (before now : List (List ℕ)) : Type 0 where

@@ -18,9 +18,10 @@ use Rattle.store_msg.specs.Reply.{PlainReply, answer_of, reply_of, shown_clock}
 use Rattle.store_msg.specs.declared.reply.Answered.TheVariants.{Found, Again}
 use Rattle.store_msg.specs.declared.request.Request.{Request}
 use Rattle.store_msg.specs.declared.request.Request.TheVariants as requests
+use Rattle.gossip_rounds.specs.Batches.{Entries}
 use Rattle.worker_core.specs.Kept.{IsBelow}
 use Rattle.worker_core.specs.Share.{AreAnswered, Asked, CoversEarlier, IsAnswerCell, IsHeldFor, IsMadeFrom, IsReplyTo, IsSession, asked_by, cells_on, entries_in, gets_after, held_for, replies_to, shown_of}
-use Rattle.worker_core.specs.State.{Entries, IsFixed, Lists, State, lives_at}
+use Rattle.worker_core.specs.State.{IsFixed, Lists, State, lives_at}
 use Rattle.worker_core.specs.Turns.{HandsOver, Serves, reply_to}
 
 -- the gets among two lists of requests

@@ -10,10 +10,11 @@ use Rattle.mail_contract.specs.Takes.{Answers}
 use Rattle.merge_world.specs.Effects.{hears}
 use Rattle.merge_world.specs.declared.private_map.KeyCells.{KeyCells}
 use Rattle.store_msg.specs.declared.request.Request.{Request}
+use Rattle.gossip_rounds.specs.Batches.{Entries}
 use Rattle.worker_core.specs.Kept.{AreEntries, IsKept}
 use Rattle.worker_core.specs.Sealed.{HearsOne, JoinsKept, KeepsSealed, batch_kept, batch_of}
 use Rattle.worker_core.specs.Share.{AreThoseOf, entries_in}
-use Rattle.worker_core.specs.State.{Entries, Lists, kept_batch, kept_request}
+use Rattle.worker_core.specs.State.{Lists, kept_batch, kept_request}
 use Rattle.worker_core.specs.declared.popped.Popped.{Popped}
 use Rattle.worker_core.specs.declared.popped.Popped.TheVariants as popped
 use Rattle.worker_core.proofs.KeptLemmas.{added_are}

@@ -14,12 +14,13 @@ use Rattle.merge_world.specs.Effects.{cells_at}
 use Rattle.store_msg.specs.Reply.{PlainReply, reply_of}
 use Rattle.store_msg.specs.declared.request.Request.{Request}
 use Rattle.store_msg.specs.declared.request.Request.TheVariants as requests
+use Rattle.gossip_rounds.specs.Batches.{Entries}
 use Rattle.worker_core.proofs.KeptLemmas.{entries_are, entries_joined, request_is, shows_heard, shows_taken}
 use Rattle.worker_core.proofs.RepliesLemmas.{handed_over, shown_by_answer}
 use Rattle.worker_core.specs.Kept.{AreEntries, IsKept, IsRequest}
 use Rattle.worker_core.specs.Share.{IsHeldFor, IsSession, held_for, replies_to, shown_of, told_to}
 use Rattle.worker_core.specs.Showing.{CountsShown, ShowsMore, shown_count}
-use Rattle.worker_core.specs.State.{Entries, Lists}
+use Rattle.worker_core.specs.State.{Lists}
 use Rattle.worker_core.specs.Turns.{Counts, Gossips, HandsOver, Hears, IsUnmoved, Lacks, Serves, Turns, reply_to}
 use Rattle.worker_core.specs.declared.did.Did.{Did}
 use Rattle.worker_core.specs.declared.did.Did.TheVariants as did

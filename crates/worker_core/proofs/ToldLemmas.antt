@@ -20,12 +20,13 @@ use Rattle.merge_world.specs.World.{is_ascending}
 use Rattle.merge_world.specs.declared.private_map.KeyCells.{KeyCells}
 use Rattle.store_msg.specs.declared.request.Request.{Request}
 use Rattle.store_msg.specs.declared.request.Request.TheVariants as requests
-use Rattle.worker_core.specs.Changes.{with_key}
+use Rattle.gossip_rounds.specs.Batches.{Entries, batches, left_over, told_on, went_out}
+use Rattle.gossip_rounds.specs.Changes.{with_key}
 use Rattle.worker_core.specs.Kept.{AreChanged}
-use Rattle.worker_core.specs.Share.{AreClean, AreOwn, AreTold, IsAtMost, IsLast, IsTold, WasOwn, mate_lives_at, own_cell, told_on, told_to}
-use Rattle.worker_core.specs.State.{Entries, IsFixed, Lists, State, changed_of, dirty, lives_at, mate_at}
-use Rattle.worker_core.specs.Turns.{AllTried, Gossips, Serves, TellsMate, batches, changes, is_of, key_of, left_over, marked, went_out}
-use Rattle.worker_core.proofs.BatchesLemmas.{HasCells, among_or_not, in_with_key, left_among, left_ascends, none_empty, none_to_each, nothing_went, sent_absent, sent_among, sent_batches, sent_of, sent_once, sent_own, sent_present, some_back, told_on-append, with_key_ascends}
+use Rattle.worker_core.specs.Share.{AreClean, AreOwn, AreTold, IsAtMost, IsLast, IsTold, WasOwn, mate_lives_at, own_cell, told_to}
+use Rattle.worker_core.specs.State.{IsFixed, Lists, State, changed_of, dirty, lives_at, mate_at}
+use Rattle.worker_core.specs.Turns.{AllTried, Gossips, Serves, TellsMate, changes, is_of, key_of, marked}
+use Rattle.gossip_rounds.proofs.BatchesLemmas.{HasCells, among_or_not, in_with_key, left_among, left_ascends, none_empty, none_to_each, nothing_went, sent_absent, sent_among, sent_batches, sent_of, sent_once, sent_own, sent_present, some_back, told_on-append, with_key_ascends}
 
 -- own cells of earlier puts are at most those of all puts
 abbrev pub Mono : List Kind → List (ℕ × Request) → Type 0

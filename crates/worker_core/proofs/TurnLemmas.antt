@@ -11,16 +11,17 @@ use Rattle.mail_contract.specs.Got.{Added}
 use Rattle.mail_contract.specs.Takes.{Answers}
 use Rattle.store_msg.specs.Reply.{PlainReply}
 use Rattle.store_msg.specs.declared.request.Request.{Request}
+use Rattle.gossip_rounds.specs.Batches.{Entries, batches}
 use Rattle.worker_core.specs.Serving.{Resent, RoundsIf, Served, TakesGossip, TakesRequest, Worked, WorksOn, did_of, rests_as}
 use Rattle.worker_core.specs.Share.{owed_to}
-use Rattle.worker_core.specs.State.{Entries, Lists, PlainWorker, State, changed_of, dirty, lists_of}
-use Rattle.worker_core.specs.Turns.{AreFirstBack, Counts, Gossips, HaveRoom, Hears, IsBlocked, IsGot, IsIdle, IsTaken, IsUnmoved, KeepsBatch, KeepsRequest, OnNoneSent, Rounds, Serves, SomeRose, Turns, batches, joined_in, marked_at, reply_from, served}
+use Rattle.worker_core.specs.State.{Lists, PlainWorker, State, changed_of, dirty, lists_of}
+use Rattle.worker_core.specs.Turns.{AreFirstBack, Counts, Gossips, Hears, IsBlocked, IsGot, IsIdle, IsTaken, IsUnmoved, KeepsBatch, KeepsRequest, OnNoneSent, Rounds, Serves, SomeRose, Turns, joined_in, marked_at, reply_from, served}
 use Rattle.worker_core.specs.declared.did.Did.{Did}
 use Rattle.worker_core.specs.declared.did.Did.TheVariants as did
 use Rattle.worker_core.specs.declared.popped.Popped.{Popped}
 use Rattle.worker_core.specs.declared.popped.Popped.TheVariants as popped
 use Rattle.worker_core.proofs.ToldLemmas.{blocked_full, clean_at_each, gossips_nothing, nothing_sent}
-use Rattle.worker_core.proofs.BatchesLemmas.{none_to_each}
+use Rattle.gossip_rounds.proofs.BatchesLemmas.{none_to_each}
 use Rattle.worker_core.proofs.LawfulLemmas.{none_held}
 
 -- a request that was taken is worked on, where what is worked on is as before

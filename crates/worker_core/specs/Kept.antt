@@ -9,9 +9,10 @@ use Rattle.merge_world.specs.declared.private_map.KeyCells.{KeyCells}
 use Rattle.store_msg.specs.Reply.{PlainReply, shown_clock}
 use Rattle.store_msg.specs.declared.request.Request.{Request}
 use Rattle.store_msg.specs.declared.request.Request.TheVariants as requests
+use Rattle.gossip_rounds.specs.Batches.{Entries}
 use Rattle.worker_core.specs.Lag.{LagsBy}
 use Rattle.worker_core.specs.Share.{IsSession, Share, entries_in, mate_lives_at, replies_to, shown_of}
-use Rattle.worker_core.specs.State.{Entries, Lists, State, changed_of, kept_batch}
+use Rattle.worker_core.specs.State.{Lists, State, changed_of, kept_batch}
 use Rattle.worker_core.specs.Turns.{counted}
 use Rattle.worker_core.specs.declared.popped.Popped.{Popped}
 use Rattle.worker_core.specs.declared.popped.Popped.TheVariants as popped

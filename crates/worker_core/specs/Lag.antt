@@ -6,7 +6,8 @@ use Rattle.composed_value.specs.Keyed.{kind_at}
 use Rattle.composed_value.specs.Kind.{kind_of}
 use Rattle.composed_value.specs.declared.put.Put.{Put}
 use Rattle.store_msg.specs.declared.request.Request.TheVariants as requests
-use Rattle.worker_core.specs.Share.{mate_lives_at, told_on, told_to}
+use Rattle.gossip_rounds.specs.Batches.{told_on}
+use Rattle.worker_core.specs.Share.{mate_lives_at, told_to}
 use Rattle.worker_core.specs.State.{Lists, lives_at}
 
 -- the request at a place, from 0, is a put that changes a key

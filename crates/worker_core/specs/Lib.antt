@@ -1,7 +1,9 @@
-pub mod Changes
+pub use Rattle.gossip_rounds.specs.Batches
 pub mod Lag
 pub mod Local
 pub mod Order
+pub mod OverSealed
+pub mod OverWorkers
 pub mod Kept
 pub mod Room
 pub mod Sealed
@@ -9,5 +11,4 @@ pub mod Serving
 pub mod Share
 pub mod Showing
 pub mod State
-pub mod Telling
 pub mod Turns

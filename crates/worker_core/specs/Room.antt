@@ -1,29 +1,7 @@
 -- What room a sender has, and what comes back for want of it.
-use Rattle.std.specs.Prelude.{◌≡◌, ◌⊎◌, ℕ, ◌+◌, ◌-◌, ◌≤◌, Bool, true, false, IsTrue, not, List, [], ◌∷◌, length, min, slice_get, Option, Some, IfSome}
-use Rattle.std.specs.List.{list_any}
+use Rattle.std.specs.Prelude.{◌≡◌, ◌⊎◌, ℕ, ◌+◌, ◌-◌, ◌≤◌, Bool, IsTrue, List, length, min, slice_get, Option, Some, IfSome}
 use Rattle.mail_contract.specs.Got.{missing}
 use Rattle.mail_contract.specs.Parts.{Parts}
-
--- the first batch came back
-abbrev pub FirstBack : List Bool → Type 0
-FirstBack [] = ⊥
-FirstBack (went ∷ tries) = went ≡ false
-
--- how many went out before the first that came back
-abbrev pub went_first : List Bool → ℕ
-went_first [] = 0
-went_first (true ∷ tries) = went_first tries + 1
-went_first (false ∷ tries) = 0
-
--- How a sender's room bounds what comes back: the first batch does not where the next message finds a place, and one does only where 64
--- messages or more may take one up.
-pub record HasRoom (clear : Type 0) (roomy : Bool) (unseen : ℕ) (tries : List Bool) : Type 0 where
-  pub first : FirstBack tries → clear → ⊥
-  pub full : IsTrue roomy → IsTrue (list_any not tries) → 64 ≤ unseen + went_first tries
-
--- and so of the sender at a place
-abbrev pub RoomAt : {O : Type 0} → (O → Type 0) → Bool → (O → ℕ) → List O → ℕ → List Bool → Type 0
-RoomAt {O} clear roomy unseen senders place tries = (sender : O) → slice_get senders place ≡ Some sender → HasRoom (clear sender) roomy (unseen sender) tries
 
 -- What a sender learns of its room where it is held beside its box, from what is not handed out of what it sent.
 pub record LearnsRoom {M : Type 0} (clear : Type 0) (unseen : ℕ) (keeps : Parts) (got : ℕ → Option M) (sent : List M) : Type 0 where

@@ -7,9 +7,10 @@ use Rattle.mail_contract.specs.Takes.{Answers}
 use Rattle.merge_world.specs.Effects.{hears}
 use Rattle.merge_world.specs.declared.private_map.KeyCells.{KeyCells}
 use Rattle.store_msg.specs.declared.request.Request.{Request}
+use Rattle.gossip_rounds.specs.Batches.{Entries}
 use Rattle.worker_core.specs.Kept.{AreEntries, IsRequest}
 use Rattle.worker_core.specs.Share.{HoldsReceived, entries_in}
-use Rattle.worker_core.specs.State.{Entries, PlainWorker}
+use Rattle.worker_core.specs.State.{PlainWorker}
 use Rattle.worker_core.specs.declared.popped.Popped.{Popped}
 use Rattle.worker_core.specs.declared.popped.Popped.TheVariants as popped
 

@@ -2,11 +2,11 @@
 use Rattle.std.specs.Prelude.{◌≡◌, ◌⊎◌, ℕ, ◌-◌, ◌<◌, ◌≤◌, ◌==◌, ◌||◌, ltb, Bool, true, false, IsTrue, is_some, if◌then◌else◌, List, [], ◌∷◌, ◌++◌, length, slice_index_or, slice_set, Option, Some, None, Result, Ok, Err, IfOk, OnErr, OnOk, ⊤}
 use Rattle.lattice_laws.specs.Counts.{Rose}
 use Rattle.mail_contract.specs.Takes.{Answers, IsFront}
-use Rattle.merge_world.specs.Effects.{hears}
+use Rattle.merge_world.specs.Effects.{cells_at, hears}
 use Rattle.store_msg.specs.Reply.{PlainReply}
 use Rattle.store_msg.specs.declared.request.Request.{Request}
 use Rattle.worker_core.specs.Share.{IsHeldFor, owed_to}
-use Rattle.worker_core.specs.State.{Lists, State, dirty}
+use Rattle.worker_core.specs.State.{Lists, State, dirty, lives_at}
 use Rattle.worker_core.specs.Turns.{Counts, IsHeldBack, KeepsBatch, KeepsRequest, Rounds, marked, reply_to, served}
 use Rattle.worker_core.specs.declared.did.Did.{Did}
 use Rattle.worker_core.specs.declared.did.Did.TheVariants as did
@@ -30,6 +30,10 @@ pub record Worked (session : ℕ) (request : Request) (before now : State) (repl
   pub replies : AddsReplies session (reply_to before request) replied before.held replied_now now.held
   pub held : IsHeldFor (length replied) now.held
   pub rest : now ≡ record before { cells = now.cells; changed = now.changed; kept = None; held = now.held }
+
+-- the private map has cells of just the keys that live at the worker
+abbrev pub HoldsItsKeys : State → Type 0
+HoldsItsKeys state = (key : ℕ) → is_some (cells_at state.cells key) ≡ lives_at state.placement state.me key
 
 -- and so the message that is kept
 abbrev pub Served : Option Popped → State → State → List (List PlainReply) → List (List PlainReply) → Type 0

@@ -14,7 +14,9 @@ use Rattle.merge_world.specs.declared.private_map.KeyCells.{KeyCells}
 use Rattle.store_msg.specs.Reply.{PlainReply, reply_of, shown_clock}
 use Rattle.store_msg.specs.declared.request.Request.{Request}
 use Rattle.store_msg.specs.declared.request.Request.TheVariants as requests
-use Rattle.worker_core.specs.State.{Entries, Lists, State, changed_of, kept_batch, kept_request, lives_at, mate_at}
+use Rattle.gossip_rounds.specs.Batches.{Entries}
+use Rattle.gossip_rounds.specs.Batches.{told_on}
+use Rattle.worker_core.specs.State.{Lists, State, changed_of, kept_batch, kept_request, lives_at, mate_at}
 
 -- the put of a request, with its key; one without a number is none
 abbrev pub put_in : Request → List (ℕ × Put)
@@ -146,9 +148,6 @@ pub record AreAnswered (lists : Lists) (worked : List (ℕ × Request)) (joined 
 -- the batches that were sent to a mate, by its place from 0, and the cells of a key in them, in order
 abbrev pub told_to : Lists → ℕ → List Entries
 told_to lists place = slice_index_or lists.told place []
-
-abbrev pub told_on : ℕ → List Entries → List PlainCell
-told_on key batches = map (λ entry. entry.1) (filter (λ entry. entry.0 == key) (flat_map (λ batch. batch) batches))
 
 -- the mate at this place holds the key
 abbrev pub mate_lives_at : State → ℕ → ℕ → Bool

@@ -1,19 +1,15 @@
 -- What contracts see of a worker: what it keeps itself, and what went through its ends.
 use Rattle.std.specs.Prelude.{◌≡◌, ℕ, ◌+◌, ◌-◌, List, [], ◌∷◌, length, map, slice_index_or, sum_by, Bool, if◌then◌else◌, ltb, ◌==◌, replicate, Option, Some, None}
 use Rattle.std.specs.List.{list_any}
-use Rattle.composed_value.specs.Cell.{PlainCell}
 use Rattle.composed_value.specs.declared.kind.Kind.{Kind}
 use Rattle.merge_world.specs.Effects.{opening_map}
 use Rattle.merge_world.specs.declared.private_map.KeyCells.{KeyCells}
 use Rattle.store_msg.specs.Reply.{PlainReply}
 use Rattle.store_msg.specs.declared.ends.WorkerEndsOver.{WorkerEndsOver}
 use Rattle.store_msg.specs.declared.request.Request.{Request}
+pub use Rattle.gossip_rounds.specs.Batches.{Entries}
 use Rattle.worker_core.specs.declared.popped.Popped.{Popped}
 use Rattle.worker_core.specs.declared.popped.Popped.TheVariants as popped
-
--- what a batch of gossip holds
-abbrev pub Entries : Type 0
-Entries = List (ℕ × PlainCell)
 
 -- What a worker keeps itself. Keys, sessions and workers are counted from 1; its mates are the other workers, in ascending order.
 pub record State : Type 0 where

@@ -1,5 +1,5 @@
 -- What a worker does in a call, and why it answers what it answers.
-use Rattle.std.specs.Prelude.{◌≡◌, ◌≢◌, ◌⊎◌, ◌&&◌, ◌==◌, ℕ, ◌+◌, ◌-◌, ◌*◌, ◌<◌, ◌≤◌, ◌^◌, Bool, true, false, IsTrue, leb, not, min, if◌then◌else◌, List, [], ◌∷◌, ◌++◌, drop, filter, length, map, slice_index_or, slice_set, sum_by, take, Option, Some, None, Result, Ok, Err, ⊤}
+use Rattle.std.specs.Prelude.{◌≡◌, ◌≢◌, ◌⊎◌, ◌&&◌, ◌==◌, ℕ, ◌+◌, ◌-◌, ◌*◌, ◌<◌, ◌≤◌, ◌^◌, Bool, false, IsTrue, leb, not, min, if◌then◌else◌, List, [], ◌∷◌, ◌++◌, length, map, slice_index_or, slice_set, Option, Some, None, Result, Ok, Err, ⊤}
 use Rattle.std.specs.List.{list_any}
 use Rattle.lattice_laws.specs.Counts.{Rose}
 use Rattle.composed_value.specs.Kind.{kind_of, kind_of_value}
@@ -8,14 +8,16 @@ use Rattle.mail_contract.specs.Got.{Added}
 use Rattle.mail_contract.specs.Parts.{Parts}
 use Rattle.mail_contract.specs.Standing.{About, AreMet}
 use Rattle.mail_contract.specs.Takes.{Answers}
-use Rattle.merge_world.specs.Effects.{cells_at, hears, is_kind, takes, tells}
+use Rattle.merge_world.specs.Effects.{cells_at, hears, is_kind, takes}
 use Rattle.merge_world.specs.declared.private_map.KeyCells.{KeyCells}
 use Rattle.store_msg.specs.Reply.{PlainReply, reply_of}
 use Rattle.store_msg.specs.declared.request.Request.{Request}
 use Rattle.store_msg.specs.declared.request.Request.TheVariants as requests
-use Rattle.worker_core.specs.Changes.{with_key}
+use Rattle.gossip_rounds.specs.Batches.{ToldMate, batches}
+use Rattle.gossip_rounds.specs.Batches.{Entries}
+use Rattle.gossip_rounds.specs.Changes.{with_key}
 use Rattle.worker_core.specs.Share.{IsSession, replies_to, shown_of, told_to}
-use Rattle.worker_core.specs.State.{Entries, Lists, PlainWorker, State, changed_of, dirty, lives_at, mate_at}
+use Rattle.worker_core.specs.State.{Lists, PlainWorker, State, changed_of, dirty, lives_at, mate_at}
 use Rattle.worker_core.specs.declared.did.Did.{Did}
 use Rattle.worker_core.specs.declared.did.Did.TheVariants as did
 use Rattle.worker_core.specs.declared.popped.Popped.TheVariants as popped
@@ -51,11 +53,20 @@ abbrev pub key_of : Request → ℕ
 key_of (requests.Put key put) = key
 key_of (requests.Get ask key required) = key
 
--- what a request makes of the changeset: the key of a put that changes it is there for each mate that holds it
+-- what a key that changed makes of the changeset: it is there for each mate that holds it
+abbrev pub marked_for : List (List ℕ) → ℕ → ℕ → List (List ℕ) → ℕ → List ℕ
+marked_for placement me key changed place =
+    if lives_at placement (mate_at me place) key then with_key key (slice_index_or changed place []) else slice_index_or changed place []
+
+-- what a request makes of it: the key of a put that changes it is there for each mate that holds it
 abbrev pub marked_at : List (List ℕ) → ℕ → List (Option KeyCells) → Request → List (List ℕ) → ℕ → List ℕ
 marked_at placement me cells request changed place =
     if changes cells request (key_of request) && lives_at placement (mate_at me place) (key_of request)
     then with_key (key_of request) (slice_index_or changed place []) else slice_index_or changed place []
+
+abbrev pub AreMarked : List (List ℕ) → ℕ → List (Option KeyCells) → Request → List (List ℕ) → List (List ℕ) → Type 0
+AreMarked placement me cells request changed changed_now =
+    (place : ℕ) → place < length changed → slice_index_or changed_now place [] ≡ marked_at placement me cells request changed place
 
 abbrev pub marked : State → Request → ℕ → List ℕ
 marked state request place = marked_at state.placement state.me state.cells request state.changed place
@@ -96,29 +107,9 @@ pub record Hears (sender : ℕ) (batch : Entries) (before now : Lists) : Type 0 
     got = now.got;
   }
 
--- Batches to a mate, of 16 keys each in order, and the last of what is left: true where one went out, false where it came back for want of a
--- place. These are the keys of those that went out,
-abbrev pub went_out : List Bool → List ℕ → List (List ℕ)
-went_out [] keys = []
-went_out (true ∷ tries) keys = take 16 keys ∷ went_out tries (drop 16 keys)
-went_out (false ∷ tries) keys = went_out tries (drop 16 keys)
-
--- and these stay changed
-abbrev pub left_over : List Bool → List ℕ → List ℕ
-left_over [] keys = keys
-left_over (true ∷ tries) keys = left_over tries (drop 16 keys)
-left_over (false ∷ tries) keys = take 16 keys ++ left_over tries (drop 16 keys)
-
 -- as many requests as a `u64` counts
 abbrev pub counted : ℕ → ℕ
 counted requests = min requests (2 ^ 64 - 1)
-
--- A mate is told of its changed keys, with the present own cells. A batch that came back leaves how many requests were taken by then.
-pub record ToldMate (cells : List (Option KeyCells)) (taken : ℕ) (tries : List Bool) (keys keys_now : List ℕ) (batches batches_now : List Entries) (back back_now : ℕ) : Type 0 where
-  pub no_empty : 16 * length tries < length keys + 16
-  pub told : batches_now ≡ batches ++ map (λ keys. tells keys cells) (went_out tries keys)
-  pub changed : keys_now ≡ left_over tries keys
-  pub turned : back_now ≡ (if list_any not tries then taken else back)
 
 abbrev pub TellsMate : List Bool → ℕ → Lists → Lists → Type 0
 TellsMate tries place before now =
@@ -134,10 +125,6 @@ pub record Gossips (before now : Lists) : Type 0 where
     state = record before.state { changed = now.state.changed; turned = now.state.turned; since = now.state.since };
     told = now.told;
   }
-
--- how many batches went out
-abbrev pub batches : List (List Bool) → ℕ
-batches tries = sum_by (λ of_mate. length (filter (λ went. went) of_mate)) tries
 
 -- a batch was tried for each changed key of each mate
 abbrev pub AllTried : Lists → List (List Bool) → Type 0

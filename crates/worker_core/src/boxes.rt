@@ -1,6 +1,7 @@
 //! Holding a session beside the boxes.
 ghost use Rattle.std.specs.Prelude.{◌≡◌, ◌≢◌, ℕ, ◌≤◌, ◌-◌, [], length, map, min, slice_get, slice_index_or, IsTrue, Some};
-ghost use Rattle.mail_contract.specs.Boxes.{Shows, box_of};
+ghost use Rattle.mail_contract.specs.OverBoxes as boxes;
+ghost use Rattle.mail_contract.specs.OverSenders.{number_at, sent_at};
 ghost use Rattle.mail_contract.specs.Standing.{Learned};
 ghost use Rattle.mail_contract.specs.Takes.{IsFront, from_sender};
 ghost use Rattle.worker_core.specs.Room.{LearnsRoomOf};
@@ -21,9 +22,8 @@ pub(crate) fn meet<Q: Rx<Request>, T: Tx<Reply>, S: Meets<Q, T>>(
         → S.pairs (S.key side.old) me (Q.key requests.old) (S.number side.old me)
         (T.key sender) (T.number sender) }
     ensures requests_key { Q.key requests.new ≡ Q.key requests.old }
-    ensures requests { Shows Q.keeps (S.number side.old me) (S.asked side.old me)
-        (box_of Q.received Q.answers Q.about requests.old)
-        (box_of Q.received Q.answers Q.about requests.new) }
+    ensures requests { boxes.Shows Q.Rx (S.number side.old me) (S.asked side.old me)
+        requests.old requests.new }
     ensures replies_keys { map T.key replies.new.items ≡ map T.key replies.old.items }
     ensures replies_numbers { map T.number replies.new.items ≡ map T.number replies.old.items }
     ensures replies_sent { map T.sent replies.new.items ≡ map T.sent replies.old.items }
@@ -40,13 +40,13 @@ pub(crate) fn meet<Q: Rx<Request>, T: Tx<Reply>, S: Meets<Q, T>>(
         ≤ length (from_sender (S.number side.old me) (Q.received requests.old))
         → S.clear side.new me }
     ensures learned { Learned S.keeps
-        (slice_index_or (map T.number replies.old.items) (session - 1) 0)
-        (slice_index_or (map T.sent replies.old.items) (session - 1) [])
+        (number_at T.Tx replies.old.items (session - 1))
+        (sent_at T.Tx replies.old.items (session - 1))
         (S.about side.old) (S.about side.new) }
     ensures told { IsTrue S.keeps.complete → IsFront (S.heard side.old me)
-        (slice_index_or (map T.sent replies.old.items) (session - 1) []) }
+        (sent_at T.Tx replies.old.items (session - 1)) }
     ensures room { LearnsRoomOf T.clear T.unseen replies.new.items (session - 1) S.keeps
-        (S.heard side.old me) (slice_index_or (map T.sent replies.old.items) (session - 1) []) }
+        (S.heard side.old me) (sent_at T.Tx replies.old.items (session - 1)) }
     ensures other_sessions { (place : ℕ) → place ≢ session - 1
         → slice_get replies.new.items place ≡ slice_get replies.old.items place }
     ensures other_workers { (other : ℕ) → 1 ≤ other → other ≢ me

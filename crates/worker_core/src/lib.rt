@@ -2,9 +2,7 @@
 #![tactic(auto)]
 
 mod boxes;
-mod changeset;
 mod did;
-mod gossip;
 mod local;
 mod mates;
 mod plain;

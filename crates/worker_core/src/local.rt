@@ -1,8 +1,8 @@
 //! What a worker keeps itself.
 
 use crate::Popped;
-use crate::changeset::Changeset;
 use composed_value::Kind;
+use gossip_rounds::Changeset;
 use lattice_laws::Items;
 use merge_world::PrivateMap;
 use placement::Placement;

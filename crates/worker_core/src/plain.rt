@@ -1,9 +1,8 @@
 //! A worker over plain mail, for one thread: a driver carries its parcels.
 ghost use Rattle.std.specs.Prelude.{◌≡◌, ◌-◌, ◌<◌, ◌≤◌, length};
-ghost use Rattle.worker_core.specs.Lag.{Lags};
-ghost use Rattle.mail_contract.specs.Parcels.{Delivers, GivesUp};
-ghost use Rattle.worker_core.specs.Share.{Share};
-ghost use Rattle.worker_core.specs.State.{lists_of, place_at};
+ghost use Rattle.mail_contract.specs.OverPlain.{Delivers, DeliversWeak, GivesUp};
+ghost use Rattle.worker_core.specs.OverWorkers as over;
+ghost use Rattle.worker_core.specs.State.{place_at};
 
 use crate::WorkerOver;
 use crate::mates::place_of;
@@ -13,17 +12,13 @@ use store_msg::{Batch, Reply, Request};
 impl WorkerOver<PlainRx<Request>, PlainTx<Reply>, PlainTx<Batch>, PlainRx<Batch>> {
     /// Takes in a parcel of a session's requests. A refusal hands it back, and nothing has changed.
     pub fn deliver_requests(&mut self, parcel: Parcel<Request>) -> Result<(), ParcelFault<Request>>
-        ensures share { Share (lists_of ⟦<PlainRx<Request> as Rx<Request>>⟧.received
-            ⟦<PlainTx<Reply> as Tx<Reply>>⟧.sent ⟦<PlainTx<Batch> as Tx<Batch>>⟧.sent
-            ⟦<PlainRx<Batch> as GossipRx<Batch>>⟧.got self.new) }
-        ensures lags { Lags (lists_of ⟦<PlainRx<Request> as Rx<Request>>⟧.received
-            ⟦<PlainTx<Reply> as Tx<Reply>>⟧.sent ⟦<PlainTx<Batch> as Tx<Batch>>⟧.sent
-            ⟦<PlainRx<Batch> as GossipRx<Batch>>⟧.got self.new) }
-        ensures delivers { Delivers ⟦<PlainRx<Request> as Rx<Request>>⟧.key
-            ⟦<PlainRx<Request> as Rx<Request>>⟧.received
-            ⟦<PlainRx<Request> as Rx<Request>>⟧.answers
-            ⟦<PlainRx<Request> as Rx<Request>>⟧.about
-            parcel result self.old.ends.requests self.new.ends.requests }
+        ensures share { over.Share
+            ⟦<PlainRx<Request> as Rx<Request>>⟧ ⟦<PlainTx<Reply> as Tx<Reply>>⟧
+            ⟦<PlainTx<Batch> as Tx<Batch>>⟧ ⟦<PlainRx<Batch> as GossipRx<Batch>>⟧ self.new }
+        ensures lags { over.Lags ⟦<PlainRx<Request> as Rx<Request>>⟧ ⟦<PlainTx<Reply> as Tx<Reply>>⟧
+            ⟦<PlainTx<Batch> as Tx<Batch>>⟧ ⟦<PlainRx<Batch> as GossipRx<Batch>>⟧ self.new }
+        ensures delivers { Delivers ⟦<PlainRx<Request> as Rx<Request>>⟧ parcel result
+            self.old.ends.requests self.new.ends.requests }
         ensures rest { self.new ≡ record self.old {
           ends = record self.old.ends { requests = self.new.ends.requests };
         } }
@@ -35,17 +30,13 @@ impl WorkerOver<PlainRx<Request>, PlainTx<Reply>, PlainTx<Batch>, PlainRx<Batch>
 
     /// Takes in a parcel of a mate's gossip. A refusal hands it back, and nothing has changed.
     pub fn deliver_gossip(&mut self, parcel: Parcel<Batch>) -> Result<(), ParcelFault<Batch>>
-        ensures share { Share (lists_of ⟦<PlainRx<Request> as Rx<Request>>⟧.received
-            ⟦<PlainTx<Reply> as Tx<Reply>>⟧.sent ⟦<PlainTx<Batch> as Tx<Batch>>⟧.sent
-            ⟦<PlainRx<Batch> as GossipRx<Batch>>⟧.got self.new) }
-        ensures lags { Lags (lists_of ⟦<PlainRx<Request> as Rx<Request>>⟧.received
-            ⟦<PlainTx<Reply> as Tx<Reply>>⟧.sent ⟦<PlainTx<Batch> as Tx<Batch>>⟧.sent
-            ⟦<PlainRx<Batch> as GossipRx<Batch>>⟧.got self.new) }
-        ensures delivers { Delivers ⟦<PlainRx<Batch> as GossipRx<Batch>>⟧.key
-            ⟦<PlainRx<Batch> as GossipRx<Batch>>⟧.got
-            ⟦<PlainRx<Batch> as GossipRx<Batch>>⟧.answers
-            ⟦<PlainRx<Batch> as GossipRx<Batch>>⟧.about
-            parcel result self.old.ends.gossip_in self.new.ends.gossip_in }
+        ensures share { over.Share
+            ⟦<PlainRx<Request> as Rx<Request>>⟧ ⟦<PlainTx<Reply> as Tx<Reply>>⟧
+            ⟦<PlainTx<Batch> as Tx<Batch>>⟧ ⟦<PlainRx<Batch> as GossipRx<Batch>>⟧ self.new }
+        ensures lags { over.Lags ⟦<PlainRx<Request> as Rx<Request>>⟧ ⟦<PlainTx<Reply> as Tx<Reply>>⟧
+            ⟦<PlainTx<Batch> as Tx<Batch>>⟧ ⟦<PlainRx<Batch> as GossipRx<Batch>>⟧ self.new }
+        ensures delivers { DeliversWeak ⟦<PlainRx<Batch> as GossipRx<Batch>>⟧ parcel result
+            self.old.ends.gossip_in self.new.ends.gossip_in }
         ensures rest { self.new ≡ record self.old {
           ends = record self.old.ends { gossip_in = self.new.ends.gossip_in };
         } }
@@ -59,14 +50,12 @@ impl WorkerOver<PlainRx<Request>, PlainTx<Reply>, PlainTx<Batch>, PlainRx<Batch>
     /// memory.
     pub fn reply_parcel(&mut self, session: u16) -> Parcel<Reply>
         requires { (1 ≤ session) × (session ≤ length self.old.ends.replies.items) }
-        ensures share { Share (lists_of ⟦<PlainRx<Request> as Rx<Request>>⟧.received
-            ⟦<PlainTx<Reply> as Tx<Reply>>⟧.sent ⟦<PlainTx<Batch> as Tx<Batch>>⟧.sent
-            ⟦<PlainRx<Batch> as GossipRx<Batch>>⟧.got self.new) }
-        ensures lags { Lags (lists_of ⟦<PlainRx<Request> as Rx<Request>>⟧.received
-            ⟦<PlainTx<Reply> as Tx<Reply>>⟧.sent ⟦<PlainTx<Batch> as Tx<Batch>>⟧.sent
-            ⟦<PlainRx<Batch> as GossipRx<Batch>>⟧.got self.new) }
-        ensures parcel { GivesUp ⟦<PlainTx<Reply> as Tx<Reply>>⟧.number
-            ⟦<PlainTx<Reply> as Tx<Reply>>⟧.sent ⟦<PlainTx<Reply> as Tx<Reply>>⟧.key
+        ensures share { over.Share
+            ⟦<PlainRx<Request> as Rx<Request>>⟧ ⟦<PlainTx<Reply> as Tx<Reply>>⟧
+            ⟦<PlainTx<Batch> as Tx<Batch>>⟧ ⟦<PlainRx<Batch> as GossipRx<Batch>>⟧ self.new }
+        ensures lags { over.Lags ⟦<PlainRx<Request> as Rx<Request>>⟧ ⟦<PlainTx<Reply> as Tx<Reply>>⟧
+            ⟦<PlainTx<Batch> as Tx<Batch>>⟧ ⟦<PlainRx<Batch> as GossipRx<Batch>>⟧ self.new }
+        ensures parcel { GivesUp ⟦<PlainTx<Reply> as Tx<Reply>>⟧
             (session - 1) result self.old.ends.replies.items self.new.ends.replies.items }
         ensures rest { self.new ≡ record self.old {
           ends = record self.old.ends { replies = self.new.ends.replies };
@@ -83,14 +72,12 @@ impl WorkerOver<PlainRx<Request>, PlainTx<Reply>, PlainTx<Batch>, PlainRx<Batch>
         requires differs { (mate ≡ self.old.state.me) → ⊥ }
         requires from_one { 1 ≤ mate }
         requires place { place_at self.old.state.me mate < length self.old.ends.gossip_out.items }
-        ensures share { Share (lists_of ⟦<PlainRx<Request> as Rx<Request>>⟧.received
-            ⟦<PlainTx<Reply> as Tx<Reply>>⟧.sent ⟦<PlainTx<Batch> as Tx<Batch>>⟧.sent
-            ⟦<PlainRx<Batch> as GossipRx<Batch>>⟧.got self.new) }
-        ensures lags { Lags (lists_of ⟦<PlainRx<Request> as Rx<Request>>⟧.received
-            ⟦<PlainTx<Reply> as Tx<Reply>>⟧.sent ⟦<PlainTx<Batch> as Tx<Batch>>⟧.sent
-            ⟦<PlainRx<Batch> as GossipRx<Batch>>⟧.got self.new) }
-        ensures parcel { GivesUp ⟦<PlainTx<Batch> as Tx<Batch>>⟧.number
-            ⟦<PlainTx<Batch> as Tx<Batch>>⟧.sent ⟦<PlainTx<Batch> as Tx<Batch>>⟧.key
+        ensures share { over.Share
+            ⟦<PlainRx<Request> as Rx<Request>>⟧ ⟦<PlainTx<Reply> as Tx<Reply>>⟧
+            ⟦<PlainTx<Batch> as Tx<Batch>>⟧ ⟦<PlainRx<Batch> as GossipRx<Batch>>⟧ self.new }
+        ensures lags { over.Lags ⟦<PlainRx<Request> as Rx<Request>>⟧ ⟦<PlainTx<Reply> as Tx<Reply>>⟧
+            ⟦<PlainTx<Batch> as Tx<Batch>>⟧ ⟦<PlainRx<Batch> as GossipRx<Batch>>⟧ self.new }
+        ensures parcel { GivesUp ⟦<PlainTx<Batch> as Tx<Batch>>⟧
             (place_at self.old.state.me mate) result
             self.old.ends.gossip_out.items self.new.ends.gossip_out.items }
         ensures rest { self.new ≡ record self.old {

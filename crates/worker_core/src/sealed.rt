@@ -1,10 +1,10 @@
 //! A worker whose sessions have ended, and which receives gossip alone.
 ghost use Rattle.std.specs.Prelude.{◌≡◌, is_some, option_map, IfOk, IsTrue, None, Some};
-ghost use Rattle.mail_contract.specs.Boxes.{FindsNothingWeak, MayHandOut, SettlesWeak, weak_box_of};
+ghost use Rattle.mail_contract.specs.OverWeakBoxes as weak;
 ghost use Rattle.mail_contract.specs.Standing.{IsSettled};
 ghost use Rattle.merge_world.specs.Effects.{cells_at};
-ghost use Rattle.worker_core.specs.Sealed.{HearsOne, HoldsSealed, JoinsKept, TakesBatch, batch_kept, batch_of, heard_in};
-ghost use Rattle.worker_core.specs.Turns.{FewerMayCome, may_come};
+ghost use Rattle.worker_core.specs.OverSealed as over;
+ghost use Rattle.worker_core.specs.Sealed.{HoldsSealed, JoinsKept, batch_of, heard_in};
 
 use crate::Popped;
 use crate::serve::attest_entries;
@@ -62,18 +62,9 @@ impl<Q: Rx<Request>, G: GossipRx<Batch>> SealedOver<Q, G> {
           gossip_in = self.new.gossip_in;
         } }
         ensures key { G.key self.new.gossip_in ≡ G.key self.old.gossip_in }
-        ensures gossip { MayHandOut G.keeps (G.senders (G.key self.old.gossip_in))
-            (weak_box_of G.got G.answers G.about G.due G.most self.old.gossip_in)
-            (weak_box_of G.got G.answers G.about G.due G.most self.new.gossip_in) }
-        ensures hears { HearsOne result self.old.cells self.new.cells self.old.kept self.new.kept
-            (G.got self.old.gossip_in) (G.got self.new.gossip_in)
-            (G.answers self.old.gossip_in) (G.answers self.new.gossip_in)
-            (FindsNothingWeak G.keeps
-            (weak_box_of G.got G.answers G.about G.due G.most self.new.gossip_in)) }
-        ensures fewer { FewerMayCome G.keeps (G.senders (G.key self.old.gossip_in))
-            (G.about self.old.gossip_in) (heard_in result)
-            (may_come (G.most self.old.gossip_in) (batch_kept self.old.kept))
-            (may_come (G.most self.new.gossip_in) (batch_kept self.new.kept)) }
+        ensures gossip { weak.MayHandOut G.GossipRx self.old.gossip_in self.new.gossip_in }
+        ensures hears { over.HearsOne G.GossipRx result self.old self.new }
+        ensures fewer { over.FewerMayCome G.GossipRx (heard_in result) self.old self.new }
     {
         let heard = self.hear_next();
         self.attest();
@@ -87,18 +78,9 @@ impl<Q: Rx<Request>, G: GossipRx<Batch>> SealedOver<Q, G> {
           gossip_in = self.new.gossip_in;
         } }
         ensures key { G.key self.new.gossip_in ≡ G.key self.old.gossip_in }
-        ensures gossip { MayHandOut G.keeps (G.senders (G.key self.old.gossip_in))
-            (weak_box_of G.got G.answers G.about G.due G.most self.old.gossip_in)
-            (weak_box_of G.got G.answers G.about G.due G.most self.new.gossip_in) }
-        ensures hears { HearsOne result self.old.cells self.new.cells self.old.kept self.new.kept
-            (G.got self.old.gossip_in) (G.got self.new.gossip_in)
-            (G.answers self.old.gossip_in) (G.answers self.new.gossip_in)
-            (FindsNothingWeak G.keeps
-            (weak_box_of G.got G.answers G.about G.due G.most self.new.gossip_in)) }
-        ensures fewer { FewerMayCome G.keeps (G.senders (G.key self.old.gossip_in))
-            (G.about self.old.gossip_in) (heard_in result)
-            (may_come (G.most self.old.gossip_in) (batch_kept self.old.kept))
-            (may_come (G.most self.new.gossip_in) (batch_kept self.new.kept)) }
+        ensures gossip { weak.MayHandOut G.GossipRx self.old.gossip_in self.new.gossip_in }
+        ensures hears { over.HearsOne G.GossipRx result self.old self.new }
+        ensures fewer { over.FewerMayCome G.GossipRx (heard_in result) self.old self.new }
     {
         if self.has_kept() {
             return self.join();
@@ -123,18 +105,9 @@ impl<Q: Rx<Request>, G: GossipRx<Batch>> SealedOver<Q, G> {
           gossip_in = self.new.gossip_in;
         } }
         ensures key { G.key self.new.gossip_in ≡ G.key self.old.gossip_in }
-        ensures gossip { MayHandOut G.keeps (G.senders (G.key self.old.gossip_in))
-            (weak_box_of G.got G.answers G.about G.due G.most self.old.gossip_in)
-            (weak_box_of G.got G.answers G.about G.due G.most self.new.gossip_in) }
-        ensures takes { TakesBatch result self.new.kept
-            (G.got self.old.gossip_in) (G.got self.new.gossip_in)
-            (G.answers self.old.gossip_in) (G.answers self.new.gossip_in)
-            (FindsNothingWeak G.keeps
-            (weak_box_of G.got G.answers G.about G.due G.most self.new.gossip_in)) }
-        ensures fewer { FewerMayCome G.keeps (G.senders (G.key self.old.gossip_in))
-            (G.about self.old.gossip_in) 0
-            (may_come (G.most self.old.gossip_in) (batch_kept self.old.kept))
-            (may_come (G.most self.new.gossip_in) (batch_kept self.new.kept)) }
+        ensures gossip { weak.MayHandOut G.GossipRx self.old.gossip_in self.new.gossip_in }
+        ensures takes { over.TakesBatch G.GossipRx result self.old self.new }
+        ensures fewer { over.FewerMayCome G.GossipRx 0 self.old self.new }
     {
         match take_weak(&mut self.gossip_in)? {
             Some((sender, batch)) => {
@@ -182,10 +155,8 @@ impl<Q: Rx<Request>, G: GossipRx<Batch>> SealedOver<Q, G> {
         requires once { IsSettled (G.about self.old.gossip_in (G.From.number ended)).standing → ⊥ }
         ensures holds { HoldsSealed Q.received G.got self.new }
         ensures key { G.key self.new.gossip_in ≡ G.key self.old.gossip_in }
-        ensures settles { SettlesWeak G.keeps (G.senders (G.key self.old.gossip_in))
-            (G.From.number ended) (G.From.sent ended)
-            (weak_box_of G.got G.answers G.about G.due G.most self.old.gossip_in)
-            (weak_box_of G.got G.answers G.about G.due G.most self.new.gossip_in) }
+        ensures settles { weak.Settles G.GossipRx G.From.Tx ended self.old.gossip_in
+            self.new.gossip_in }
         ensures rest { self.new ≡ record self.old { gossip_in = self.new.gossip_in } }
     {
         settle_weak(&mut self.gossip_in, ended);

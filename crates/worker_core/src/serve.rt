@@ -4,20 +4,19 @@ ghost use Rattle.lattice_laws.specs.Counts.{one_more};
 ghost use Rattle.mail_contract.specs.Sends.{FullsAfter, OnFull, OnSent, Posted};
 ghost use Rattle.merge_world.specs.Effects.{cells_at, takes};
 ghost use Rattle.store_msg.specs.declared.request.Request.TheVariants as requests;
-ghost use Rattle.worker_core.specs.Changes.{with_key};
 ghost use Rattle.worker_core.specs.Kept.{AreEntries, IsFree, IsRequest};
 ghost use Rattle.worker_core.specs.Local.{state_of};
 ghost use Rattle.worker_core.specs.Room.{HasNoRoom, StayClear, WantsPlace};
-ghost use Rattle.worker_core.specs.Serving.{AddsReplies, HoldsBack, NoneTakenBack, Resent, Served, Worked, did_of, since_after};
+ghost use Rattle.worker_core.specs.Serving.{AddsReplies, HoldsBack, HoldsItsKeys, NoneTakenBack, Resent, Served, Worked, did_of, since_after};
 ghost use Rattle.worker_core.specs.Share.{IsHeldFor};
 ghost use Rattle.worker_core.specs.State.{lives_at, mate_at};
-ghost use Rattle.worker_core.specs.Turns.{IsHeldBack, changes, is_of, marked_at, reply_from};
+ghost use Rattle.worker_core.specs.Turns.{AreMarked, IsHeldBack, is_of, marked_for, reply_from};
 
-use crate::changeset::Changeset;
 use crate::local::Local;
 use crate::{Did, Popped};
 use clock_lattice::Clock;
 use composed_value::{Cell, Kind, Put};
+use gossip_rounds::Changeset;
 use lattice_laws::{Lattice, NoMemory};
 use mail_contract::{Refused, Tx, post};
 use merge_world::PrivateMap;
@@ -62,9 +61,7 @@ fn mark(changes: &mut Changeset, placement: &Placement, me: u16, key: u16)
     ensures mates { length changes.new.of_mates ≡ length changes.old.of_mates }
     ensures keys { (place : ℕ) → place < length changes.old.of_mates
         → slice_index_or changes.new.of_mates place []
-        ≡ (if lives_at placement.now (mate_at me place) key
-        then with_key key (slice_index_or changes.old.of_mates place [])
-        else slice_index_or changes.old.of_mates place []) }
+        ≡ marked_for placement.now me key changes.old.of_mates place }
 {
     for place in 0..changes.mates() {
         if lives_at(placement, mate_at(me, place), key) {
@@ -89,9 +86,8 @@ pub(crate) fn take_put(
     ensures most { changes.new.most ≡ changes.old.most }
     ensures mates { length changes.new.of_mates ≡ length changes.old.of_mates }
     ensures cells { OnOk result (map.new ≡ takes key put.now map.old) }
-    ensures changed { OnOk result ((place : ℕ) → place < length changes.old.of_mates
-        → slice_index_or changes.new.of_mates place []
-        ≡ marked_at placement.now me map.old (requests.Put key put.now) changes.old.of_mates place) }
+    ensures changed { OnOk result (AreMarked placement.now me map.old (requests.Put key put.now)
+        changes.old.of_mates changes.new.of_mates) }
     ensures err { OnErr result ((map.new ≡ map.old) × (changes.new ≡ changes.old)) }
 {
     let changed = is_changed(map, key, put);
@@ -190,7 +186,8 @@ fn give<T: Tx<Reply>>(
         × (map T.sent replies.new.items ≡ map T.sent replies.old.items)) }
     ensures held_back { OnOk result (IsHeldBack held.new
         (map T.fulls replies.old.items) (map T.fulls replies.new.items)) }
-    ensures stay_clear { OnOk result (StayClear T.clear T.sent replies.old.items replies.new.items) }
+    ensures stay_clear { OnOk result
+        (StayClear T.clear T.sent replies.old.items replies.new.items) }
 {
     match post(replies, usize::from(session) - 1, reply) {
         Ok(()) => Ok(()),
@@ -214,7 +211,8 @@ pub(crate) fn resend<T: Tx<Reply>>(
     ensures resent { Resent result held.old held.new
         (map T.sent replies.old.items) (map T.sent replies.new.items)
         (map T.fulls replies.old.items) (map T.fulls replies.new.items) }
-    ensures stay_clear { OnOk result (StayClear T.clear T.sent replies.old.items replies.new.items) }
+    ensures stay_clear { OnOk result
+        (StayClear T.clear T.sent replies.old.items replies.new.items) }
     ensures wants_place { OnOk result (WantsPlace T.clear replies.old.items held.new) }
     ensures no_room { OnOk result (HasNoRoom T.roomy T.unseen replies.old.items held.new) }
     ensures none_held { held.old ≡ None → replies.new ≡ replies.old }
@@ -244,8 +242,7 @@ fn serve_request<T: Tx<Reply>>(
 ) -> Result<(), NoMemory>
     requires mates { length local.old.changes.of_mates + 1 < 2 ^ 16 }
     requires most { local.old.changes.most ≡ length local.old.placement }
-    requires holds { (key : ℕ) → is_some (cells_at local.old.map key)
-        ≡ lives_at local.old.placement local.old.me key }
+    requires holds { HoldsItsKeys (state_of local.old) }
     requires none_kept { local.old.kept ≡ None }
     requires none_held { local.old.held ≡ None }
     ensures keys { map T.key replies.new.items ≡ map T.key replies.old.items }
@@ -259,7 +256,8 @@ fn serve_request<T: Tx<Reply>>(
         (map T.fulls replies.old.items) (map T.fulls replies.new.items)) }
     ensures err { OnErr result ((state_of local.new ≡ state_of local.old)
         × (map T.sent replies.new.items ≡ map T.sent replies.old.items)) }
-    ensures stay_clear { OnOk result (StayClear T.clear T.sent replies.old.items replies.new.items) }
+    ensures stay_clear { OnOk result
+        (StayClear T.clear T.sent replies.old.items replies.new.items) }
 {
     match request {
         Request::Put { key, put } => take_put(
@@ -285,8 +283,7 @@ fn serve_request<T: Tx<Reply>>(
 pub(crate) fn serve<T: Tx<Reply>>(local: &mut Local, replies: &mut Vec<T>) -> Result<Did, NoMemory>
     requires mates { length local.old.changes.of_mates + 1 < 2 ^ 16 }
     requires most { local.old.changes.most ≡ length local.old.placement }
-    requires holds { (key : ℕ) → is_some (cells_at local.old.map key)
-        ≡ lives_at local.old.placement local.old.me key }
+    requires holds { HoldsItsKeys (state_of local.old) }
     requires kept { IsTrue (is_some local.old.kept) }
     requires free { IsFree local.old.kept local.old.held }
     ensures keys { map T.key replies.new.items ≡ map T.key replies.old.items }
@@ -301,7 +298,8 @@ pub(crate) fn serve<T: Tx<Reply>>(local: &mut Local, replies: &mut Vec<T>) -> Re
         (map T.fulls replies.old.items) (map T.fulls replies.new.items)) }
     ensures err { OnErr result ((state_of local.new ≡ state_of local.old)
         × (map T.sent replies.new.items ≡ map T.sent replies.old.items)) }
-    ensures stay_clear { OnOk result (StayClear T.clear T.sent replies.old.items replies.new.items) }
+    ensures stay_clear { OnOk result
+        (StayClear T.clear T.sent replies.old.items replies.new.items) }
 {
     match local.kept.take() {
         Some(Popped::Request(session, request)) => {

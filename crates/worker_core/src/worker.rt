@@ -1,24 +1,22 @@
 //! A worker.
 ghost use Rattle.std.specs.Prelude.{◌≡◌, ◌≢◌, ◌⊎◌, ℕ, ◌<◌, ◌≤◌, ◌+◌, ◌-◌, ◌^◌, All, Bool, true, false, List, [], is_some, length, map, option_map, min, replicate, slice_get, slice_index_or, None, Some, Ok, IsTrue, IfOk, OnOk, OnErr, MatchResult};
 ghost use Rattle.lattice_laws.specs.Counts.{Rose};
-ghost use Rattle.mail_contract.specs.Boxes.{FindsNothing, FindsNothingWeak, MayHandOut, MayTake, Settles, Shows, box_of, weak_box_of};
+ghost use Rattle.mail_contract.specs.OverBoxes as boxes;
+ghost use Rattle.mail_contract.specs.OverSenders.{number_at, sent_at};
+ghost use Rattle.mail_contract.specs.OverWeakBoxes as weak;
 ghost use Rattle.mail_contract.specs.Standing.{AllPart, IsSettled, Learned};
 ghost use Rattle.mail_contract.specs.Takes.{IsFront, from_sender};
 ghost use Rattle.merge_world.specs.Effects.{cells_at};
-ghost use Rattle.worker_core.specs.Kept.{IsKept, IsRequest};
-ghost use Rattle.worker_core.specs.Lag.{Lags};
-ghost use Rattle.worker_core.specs.Order.{InOrder, IsDue};
-ghost use Rattle.worker_core.specs.Room.{HasNoRoom, LearnsRoomOf, RoomAt, StayClear, WantsPlace};
+ghost use Rattle.worker_core.specs.Kept.{IsRequest};
+ghost use Rattle.worker_core.specs.Order.{IsDue};
+ghost use Rattle.worker_core.specs.OverWorkers as over;
+ghost use Rattle.worker_core.specs.Room.{LearnsRoomOf};
 ghost use Rattle.worker_core.specs.Sealed.{HoldsSealed, sealed_of};
-ghost use Rattle.worker_core.specs.Serving.{HoldsBack, NoneTakenBack, Resent, RoundsIf, TakesGossip, TakesRequest, WorksOn, rests_as};
-ghost use Rattle.worker_core.specs.Share.{Share};
-ghost use Rattle.worker_core.specs.Showing.{ShowsMore};
-ghost use Rattle.worker_core.specs.State.{IsFixed, KeysStay, changed_of, dirty, kept_batch, kept_request, lists_of, opening_state};
-ghost use Rattle.worker_core.specs.Turns.{FewerMayCome, MayAsk, OnNoneSent, OnNothing, Rounds, StayOrCameBack, Turns, TurnsOnlyWhereFull, counts_of, joined_in, may_come};
+ghost use Rattle.worker_core.specs.Serving.{rests_as};
+ghost use Rattle.worker_core.specs.State.{IsFixed, changed_of, dirty, kept_request, lists_of, opening_state};
+ghost use Rattle.worker_core.specs.Turns.{MayAsk, OnNoneSent, OnNothing, joined_in};
 
 use crate::boxes::meet;
-use crate::changeset::Changeset;
-use crate::gossip::gossip;
 use crate::local::Local;
 use crate::sealed::batch_of;
 use crate::serve::{
@@ -26,6 +24,7 @@ use crate::serve::{
 };
 use crate::{Did, Popped, SealedOver};
 use composed_value::{Cell, Kind};
+use gossip_rounds::{Changeset, gossip};
 use lattice_laws::{Items, NoMemory};
 use mail_contract::{GossipRx, Rx, Tx, settle_one, take_one, take_weak};
 use merge_world::PrivateMap;
@@ -91,10 +90,8 @@ impl<Q: Rx<Request>, T: Tx<Reply>, O: Tx<Batch>, G: GossipRx<Batch, From = O>> W
           state = opening_state me round placement kinds (length ends.gossip_out.items);
           ends = ends;
         }) }
-        ensures share { IfOk result (λ worker.
-            Share (lists_of Q.received T.sent O.sent G.got worker)) }
-        ensures lags { IfOk result (λ worker.
-            Lags (lists_of Q.received T.sent O.sent G.got worker)) }
+        ensures share { IfOk result (over.Share Q.Rx T.Tx O.Tx G.GossipRx) }
+        ensures lags { IfOk result (over.Lags Q.Rx T.Tx O.Tx G.GossipRx) }
     {
         let alloc = *ends.gossip_out.allocator();
         let mates = ends.gossip_out.len();
@@ -136,56 +133,28 @@ impl<Q: Rx<Request>, T: Tx<Reply>, O: Tx<Batch>, G: GossipRx<Batch, From = O>> W
     /// What came before what it did is told by `in_order`. Whatever it answers, what was told to each mate goes on from
     /// what was, no less is shown of any key, and each reply since counts at least what was shown of its key.
     pub fn turn(&mut self) -> Result<Did, NoMemory>
-        ensures share { Share (lists_of Q.received T.sent O.sent G.got self.new) }
-        ensures lags { Lags (lists_of Q.received T.sent O.sent G.got self.new) }
+        ensures share { over.Share Q.Rx T.Tx O.Tx G.GossipRx self.new }
+        ensures lags { over.Lags Q.Rx T.Tx O.Tx G.GossipRx self.new }
         ensures fixed { IsFixed self.old.state self.new.state }
-        ensures keys { KeysStay Q.key T.key T.number O.key O.number G.key self.old self.new }
-        ensures replied { NoneTakenBack (map T.sent self.old.ends.replies.items)
-            (map T.sent self.new.ends.replies.items) }
-        ensures did { Turns result
-            (lists_of Q.received T.sent O.sent G.got self.old)
-            (lists_of Q.received T.sent O.sent G.got self.new)
-            (counts_of Q.answers T.fulls O.fulls G.answers self.old)
-            (counts_of Q.answers T.fulls O.fulls G.answers self.new)
-            (RoomAt O.clear O.roomy O.unseen self.old.ends.gossip_out.items) }
-        ensures turned { TurnsOnlyWhereFull
-            (lists_of Q.received T.sent O.sent G.got self.old)
-            (lists_of Q.received T.sent O.sent G.got self.new)
-            (counts_of Q.answers T.fulls O.fulls G.answers self.old)
-            (counts_of Q.answers T.fulls O.fulls G.answers self.new) }
-        ensures requests { MayTake Q.keeps (Q.senders (Q.key self.old.ends.requests))
-            (box_of Q.received Q.answers Q.about self.old.ends.requests)
-            (box_of Q.received Q.answers Q.about self.new.ends.requests) }
-        ensures gossip { MayHandOut G.keeps (G.senders (G.key self.old.ends.gossip_in))
-            (weak_box_of G.got G.answers G.about G.due G.most self.old.ends.gossip_in)
-            (weak_box_of G.got G.answers G.about G.due G.most self.new.ends.gossip_in) }
+        ensures keys { over.KeysStay Q.Rx T.Tx O.Tx G.GossipRx self.old self.new }
+        ensures replied { over.NoneTakenBack T.Tx self.old self.new }
+        ensures did { over.Turns Q.Rx T.Tx O.Tx G.GossipRx result self.old self.new }
+        ensures turned { over.TurnsOnlyWhereFull Q.Rx T.Tx O.Tx G.GossipRx self.old self.new }
+        ensures requests { boxes.MayTake Q.Rx self.old.ends.requests self.new.ends.requests }
+        ensures gossip { weak.MayHandOut G.GossipRx self.old.ends.gossip_in
+            self.new.ends.gossip_in }
         ensures no_request { OnNothing result (IsTrue (is_some self.new.state.held)
-            ⊎ FindsNothing Q.keeps (box_of Q.received Q.answers Q.about self.new.ends.requests)) }
-        ensures no_gossip { OnNothing result (FindsNothingWeak G.keeps
-            (weak_box_of G.got G.answers G.about G.due G.most self.new.ends.gossip_in)) }
-        ensures fewer { FewerMayCome G.keeps (G.senders (G.key self.old.ends.gossip_in))
-            (G.about self.old.ends.gossip_in) (joined_in result)
-            (may_come (G.most self.old.ends.gossip_in) (kept_batch self.old.state.kept))
-            (may_come (G.most self.new.ends.gossip_in) (kept_batch self.new.state.kept)) }
-        ensures senders { OnNoneSent result (StayOrCameBack
-            self.old.ends.gossip_out self.new.ends.gossip_out
-            (lists_of Q.received T.sent O.sent G.got self.old)
-            (RoomAt O.clear O.roomy O.unseen self.old.ends.gossip_out.items)) }
-        ensures stay_clear { OnOk result (StayClear T.clear T.sent
-            self.old.ends.replies.items self.new.ends.replies.items) }
-        ensures wants_place { OnNothing result (WantsPlace T.clear
-            self.old.ends.replies.items self.new.state.held) }
-        ensures no_room { OnNothing result (HasNoRoom T.roomy T.unseen
-            self.old.ends.replies.items self.new.state.held) }
-        ensures in_order { InOrder result
-            (lists_of Q.received T.sent O.sent G.got self.old)
-            (lists_of Q.received T.sent O.sent G.got self.new)
-            (counts_of Q.answers T.fulls O.fulls G.answers self.old)
-            (counts_of Q.answers T.fulls O.fulls G.answers self.new)
-            (RoomAt O.clear O.roomy O.unseen self.old.ends.gossip_out.items) }
-        ensures shows_more { ShowsMore
-            (lists_of Q.received T.sent O.sent G.got self.old)
-            (lists_of Q.received T.sent O.sent G.got self.new) }
+            ⊎ boxes.FindsNothing Q.Rx self.new.ends.requests) }
+        ensures no_gossip { OnNothing result
+            (weak.FindsNothing G.GossipRx self.new.ends.gossip_in) }
+        ensures fewer { over.FewerMayCome G.GossipRx (joined_in result) self.old self.new }
+        ensures senders { OnNoneSent result
+            (over.StayOrCameBack Q.Rx T.Tx O.Tx G.GossipRx self.old self.new) }
+        ensures stay_clear { OnOk result (over.StayClear T.Tx self.old self.new) }
+        ensures wants_place { OnNothing result (over.WantsPlace T.Tx self.old self.new) }
+        ensures no_room { OnNothing result (over.HasNoRoom T.Tx self.old self.new) }
+        ensures in_order { over.InOrder Q.Rx T.Tx O.Tx G.GossipRx result self.old self.new }
+        ensures shows_more { over.ShowsMore Q.Rx T.Tx O.Tx G.GossipRx self.old self.new }
     {
         self.attest_kept();
         let did = self.step();
@@ -198,8 +167,8 @@ impl<Q: Rx<Request>, T: Tx<Reply>, O: Tx<Batch>, G: GossipRx<Batch, From = O>> W
     /// it received is one that there can be, and that it counts changed keys for each mate, for none of them
     /// more than there are keys. It does nothing, and takes no memory.
     pub fn attest(&self)
-        ensures share { Share (lists_of Q.received T.sent O.sent G.got self.now) }
-        ensures lags { Lags (lists_of Q.received T.sent O.sent G.got self.now) }
+        ensures share { over.Share Q.Rx T.Tx O.Tx G.GossipRx self.now }
+        ensures lags { over.Lags Q.Rx T.Tx O.Tx G.GossipRx self.now }
         ensures requests { All (λ message. IsRequest message.1)
             (Q.received self.now.ends.requests) }
         ensures mates { length self.now.state.changed ≡ length self.now.ends.gossip_out.items }
@@ -211,57 +180,31 @@ impl<Q: Rx<Request>, T: Tx<Reply>, O: Tx<Batch>, G: GossipRx<Batch, From = O>> W
 
     /// Tells all that the worker keeps from call to call.
     fn attest_kept(&self)
-        ensures { IsKept (lists_of Q.received T.sent O.sent G.got self.now) }
+        ensures { over.IsKept Q.Rx T.Tx O.Tx G.GossipRx self.now }
     {
         let _ = &self.local;
     }
 
     fn step(&mut self) -> Result<Did, NoMemory>
         ensures fixed { IsFixed self.old.state self.new.state }
-        ensures keys { KeysStay Q.key T.key T.number O.key O.number G.key self.old self.new }
-        ensures replied { NoneTakenBack (map T.sent self.old.ends.replies.items)
-            (map T.sent self.new.ends.replies.items) }
-        ensures did { Turns result
-            (lists_of Q.received T.sent O.sent G.got self.old)
-            (lists_of Q.received T.sent O.sent G.got self.new)
-            (counts_of Q.answers T.fulls O.fulls G.answers self.old)
-            (counts_of Q.answers T.fulls O.fulls G.answers self.new)
-            (RoomAt O.clear O.roomy O.unseen self.old.ends.gossip_out.items) }
-        ensures turned { TurnsOnlyWhereFull
-            (lists_of Q.received T.sent O.sent G.got self.old)
-            (lists_of Q.received T.sent O.sent G.got self.new)
-            (counts_of Q.answers T.fulls O.fulls G.answers self.old)
-            (counts_of Q.answers T.fulls O.fulls G.answers self.new) }
-        ensures requests { MayTake Q.keeps (Q.senders (Q.key self.old.ends.requests))
-            (box_of Q.received Q.answers Q.about self.old.ends.requests)
-            (box_of Q.received Q.answers Q.about self.new.ends.requests) }
-        ensures gossip { MayHandOut G.keeps (G.senders (G.key self.old.ends.gossip_in))
-            (weak_box_of G.got G.answers G.about G.due G.most self.old.ends.gossip_in)
-            (weak_box_of G.got G.answers G.about G.due G.most self.new.ends.gossip_in) }
+        ensures keys { over.KeysStay Q.Rx T.Tx O.Tx G.GossipRx self.old self.new }
+        ensures replied { over.NoneTakenBack T.Tx self.old self.new }
+        ensures did { over.Turns Q.Rx T.Tx O.Tx G.GossipRx result self.old self.new }
+        ensures turned { over.TurnsOnlyWhereFull Q.Rx T.Tx O.Tx G.GossipRx self.old self.new }
+        ensures requests { boxes.MayTake Q.Rx self.old.ends.requests self.new.ends.requests }
+        ensures gossip { weak.MayHandOut G.GossipRx self.old.ends.gossip_in
+            self.new.ends.gossip_in }
         ensures no_request { OnNothing result (IsTrue (is_some self.new.state.held)
-            ⊎ FindsNothing Q.keeps (box_of Q.received Q.answers Q.about self.new.ends.requests)) }
-        ensures no_gossip { OnNothing result (FindsNothingWeak G.keeps
-            (weak_box_of G.got G.answers G.about G.due G.most self.new.ends.gossip_in)) }
-        ensures fewer { FewerMayCome G.keeps (G.senders (G.key self.old.ends.gossip_in))
-            (G.about self.old.ends.gossip_in) (joined_in result)
-            (may_come (G.most self.old.ends.gossip_in) (kept_batch self.old.state.kept))
-            (may_come (G.most self.new.ends.gossip_in) (kept_batch self.new.state.kept)) }
-        ensures senders { OnNoneSent result (StayOrCameBack
-            self.old.ends.gossip_out self.new.ends.gossip_out
-            (lists_of Q.received T.sent O.sent G.got self.old)
-            (RoomAt O.clear O.roomy O.unseen self.old.ends.gossip_out.items)) }
-        ensures stay_clear { OnOk result (StayClear T.clear T.sent
-            self.old.ends.replies.items self.new.ends.replies.items) }
-        ensures wants_place { OnNothing result (WantsPlace T.clear
-            self.old.ends.replies.items self.new.state.held) }
-        ensures no_room { OnNothing result (HasNoRoom T.roomy T.unseen
-            self.old.ends.replies.items self.new.state.held) }
-        ensures in_order { InOrder result
-            (lists_of Q.received T.sent O.sent G.got self.old)
-            (lists_of Q.received T.sent O.sent G.got self.new)
-            (counts_of Q.answers T.fulls O.fulls G.answers self.old)
-            (counts_of Q.answers T.fulls O.fulls G.answers self.new)
-            (RoomAt O.clear O.roomy O.unseen self.old.ends.gossip_out.items) }
+            ⊎ boxes.FindsNothing Q.Rx self.new.ends.requests) }
+        ensures no_gossip { OnNothing result
+            (weak.FindsNothing G.GossipRx self.new.ends.gossip_in) }
+        ensures fewer { over.FewerMayCome G.GossipRx (joined_in result) self.old self.new }
+        ensures senders { OnNoneSent result
+            (over.StayOrCameBack Q.Rx T.Tx O.Tx G.GossipRx self.old self.new) }
+        ensures stay_clear { OnOk result (over.StayClear T.Tx self.old self.new) }
+        ensures wants_place { OnNothing result (over.WantsPlace T.Tx self.old self.new) }
+        ensures no_room { OnNothing result (over.HasNoRoom T.Tx self.old self.new) }
+        ensures in_order { over.InOrder Q.Rx T.Tx O.Tx G.GossipRx result self.old self.new }
     {
         if self.has_kept() {
             return self.work();
@@ -325,42 +268,31 @@ impl<Q: Rx<Request>, T: Tx<Reply>, O: Tx<Batch>, G: GossipRx<Batch, From = O>> W
     fn work(&mut self) -> Result<Did, NoMemory>
         requires { IsTrue (is_some self.old.state.kept) }
         ensures fixed { IsFixed self.old.state self.new.state }
-        ensures keys { KeysStay Q.key T.key T.number O.key O.number G.key self.old self.new }
-        ensures replied { NoneTakenBack (map T.sent self.old.ends.replies.items)
-            (map T.sent self.new.ends.replies.items) }
+        ensures keys { over.KeysStay Q.Rx T.Tx O.Tx G.GossipRx self.old self.new }
+        ensures replied { over.NoneTakenBack T.Tx self.old self.new }
         ensures requests { self.new.ends.requests ≡ self.old.ends.requests }
         ensures gossip_in { self.new.ends.gossip_in ≡ self.old.ends.gossip_in }
         ensures gossip_out { self.new.ends.gossip_out ≡ self.old.ends.gossip_out }
-        ensures works { WorksOn result
-            (lists_of Q.received T.sent O.sent G.got self.old)
-            (lists_of Q.received T.sent O.sent G.got self.new) }
+        ensures works { over.WorksOn Q.Rx T.Tx O.Tx G.GossipRx result self.old self.new }
         ensures turned { self.new.state.turned ≡ self.old.state.turned }
-        ensures held_back { OnOk result (HoldsBack self.old.state.kept self.new.state.held
-            (map T.fulls self.old.ends.replies.items) (map T.fulls self.new.ends.replies.items)) }
-        ensures stay_clear { OnOk result (StayClear T.clear T.sent
-            self.old.ends.replies.items self.new.ends.replies.items) }
+        ensures held_back { OnOk result (over.HoldsBack T.Tx self.old self.new) }
+        ensures stay_clear { OnOk result (over.StayClear T.Tx self.old self.new) }
     {
         serve(&mut self.local, &mut self.ends.replies)
     }
 
     /// Sends the reply that is held again, and tells whether it went out.
     fn resend(&mut self) -> Result<bool, NoMemory>
-        ensures keys { KeysStay Q.key T.key T.number O.key O.number G.key self.old self.new }
-        ensures replied { NoneTakenBack (map T.sent self.old.ends.replies.items)
-            (map T.sent self.new.ends.replies.items) }
+        ensures keys { over.KeysStay Q.Rx T.Tx O.Tx G.GossipRx self.old self.new }
+        ensures replied { over.NoneTakenBack T.Tx self.old self.new }
         ensures requests { self.new.ends.requests ≡ self.old.ends.requests }
         ensures gossip_in { self.new.ends.gossip_in ≡ self.old.ends.gossip_in }
         ensures gossip_out { self.new.ends.gossip_out ≡ self.old.ends.gossip_out }
         ensures state { self.new.state ≡ record self.old.state { held = self.new.state.held } }
-        ensures resent { Resent result self.old.state.held self.new.state.held
-            (map T.sent self.old.ends.replies.items) (map T.sent self.new.ends.replies.items)
-            (map T.fulls self.old.ends.replies.items) (map T.fulls self.new.ends.replies.items) }
-        ensures stay_clear { OnOk result (StayClear T.clear T.sent
-            self.old.ends.replies.items self.new.ends.replies.items) }
-        ensures wants_place { OnOk result (WantsPlace T.clear
-            self.old.ends.replies.items self.new.state.held) }
-        ensures no_room { OnOk result (HasNoRoom T.roomy T.unseen
-            self.old.ends.replies.items self.new.state.held) }
+        ensures resent { over.Resent T.Tx result self.old self.new }
+        ensures stay_clear { OnOk result (over.StayClear T.Tx self.old self.new) }
+        ensures wants_place { OnOk result (over.WantsPlace T.Tx self.old self.new) }
+        ensures no_room { OnOk result (over.HasNoRoom T.Tx self.old self.new) }
         ensures none_held { self.old.state.held ≡ None
             → self.new.ends.replies ≡ self.old.ends.replies }
     {
@@ -370,23 +302,14 @@ impl<Q: Rx<Request>, T: Tx<Reply>, O: Tx<Batch>, G: GossipRx<Batch, From = O>> W
     /// Takes a batch of gossip out of its box, which is kept then, and tells whether there was one.
     fn take_gossip(&mut self) -> Result<bool, NoMemory>
         requires { self.old.state.kept ≡ None }
-        ensures keys { KeysStay Q.key T.key T.number O.key O.number G.key self.old self.new }
+        ensures keys { over.KeysStay Q.Rx T.Tx O.Tx G.GossipRx self.old self.new }
         ensures requests { self.new.ends.requests ≡ self.old.ends.requests }
         ensures replies { self.new.ends.replies ≡ self.old.ends.replies }
         ensures gossip_out { self.new.ends.gossip_out ≡ self.old.ends.gossip_out }
-        ensures hands_out { MayHandOut G.keeps (G.senders (G.key self.old.ends.gossip_in))
-            (weak_box_of G.got G.answers G.about G.due G.most self.old.ends.gossip_in)
-            (weak_box_of G.got G.answers G.about G.due G.most self.new.ends.gossip_in) }
-        ensures kept { TakesGossip result
-            (lists_of Q.received T.sent O.sent G.got self.old)
-            (lists_of Q.received T.sent O.sent G.got self.new)
-            (G.answers self.old.ends.gossip_in) (G.answers self.new.ends.gossip_in)
-            (FindsNothingWeak G.keeps
-            (weak_box_of G.got G.answers G.about G.due G.most self.new.ends.gossip_in)) }
-        ensures fewer { FewerMayCome G.keeps (G.senders (G.key self.old.ends.gossip_in))
-            (G.about self.old.ends.gossip_in) 0
-            (may_come (G.most self.old.ends.gossip_in) (kept_batch self.old.state.kept))
-            (may_come (G.most self.new.ends.gossip_in) (kept_batch self.new.state.kept)) }
+        ensures hands_out { weak.MayHandOut G.GossipRx self.old.ends.gossip_in
+            self.new.ends.gossip_in }
+        ensures kept { over.TakesGossip Q.Rx T.Tx O.Tx G.GossipRx result self.old self.new }
+        ensures fewer { over.FewerMayCome G.GossipRx 0 self.old self.new }
     {
         match take_weak(&mut self.ends.gossip_in)? {
             Some((sender, batch)) => {
@@ -402,19 +325,12 @@ impl<Q: Rx<Request>, T: Tx<Reply>, O: Tx<Batch>, G: GossipRx<Batch, From = O>> W
     fn take_request(&mut self) -> Result<bool, NoMemory>
         requires kept { self.old.state.kept ≡ None }
         requires asks { MayAsk self.old.state }
-        ensures keys { KeysStay Q.key T.key T.number O.key O.number G.key self.old self.new }
+        ensures keys { over.KeysStay Q.Rx T.Tx O.Tx G.GossipRx self.old self.new }
         ensures gossip_in { self.new.ends.gossip_in ≡ self.old.ends.gossip_in }
         ensures replies { self.new.ends.replies ≡ self.old.ends.replies }
         ensures gossip_out { self.new.ends.gossip_out ≡ self.old.ends.gossip_out }
-        ensures takes { MayTake Q.keeps (Q.senders (Q.key self.old.ends.requests))
-            (box_of Q.received Q.answers Q.about self.old.ends.requests)
-            (box_of Q.received Q.answers Q.about self.new.ends.requests) }
-        ensures kept { TakesRequest result
-            (lists_of Q.received T.sent O.sent G.got self.old)
-            (lists_of Q.received T.sent O.sent G.got self.new)
-            (Q.answers self.old.ends.requests) (Q.answers self.new.ends.requests)
-            (FindsNothing Q.keeps
-            (box_of Q.received Q.answers Q.about self.new.ends.requests)) }
+        ensures takes { boxes.MayTake Q.Rx self.old.ends.requests self.new.ends.requests }
+        ensures kept { over.TakesRequest Q.Rx T.Tx O.Tx G.GossipRx result self.old self.new }
         ensures none_held { IfOk result (λ taken. IsTrue taken → self.old.state.held ≡ None) }
     {
         if self.local.held.is_some() {
@@ -437,19 +353,14 @@ impl<Q: Rx<Request>, T: Tx<Reply>, O: Tx<Batch>, G: GossipRx<Batch, From = O>> W
     ///
     /// With `NoMemory` some keys were told, and all others stay changed.
     pub fn round(&mut self) -> Result<u32, NoMemory>
-        ensures share { Share (lists_of Q.received T.sent O.sent G.got self.new) }
-        ensures lags { Lags (lists_of Q.received T.sent O.sent G.got self.new) }
+        ensures share { over.Share Q.Rx T.Tx O.Tx G.GossipRx self.new }
+        ensures lags { over.Lags Q.Rx T.Tx O.Tx G.GossipRx self.new }
         ensures fixed { IsFixed self.old.state self.new.state }
-        ensures keys { KeysStay Q.key T.key T.number O.key O.number G.key self.old self.new }
+        ensures keys { over.KeysStay Q.Rx T.Tx O.Tx G.GossipRx self.old self.new }
         ensures requests { self.new.ends.requests ≡ self.old.ends.requests }
         ensures replies { self.new.ends.replies ≡ self.old.ends.replies }
         ensures gossip_in { self.new.ends.gossip_in ≡ self.old.ends.gossip_in }
-        ensures rounds { Rounds result
-            (lists_of Q.received T.sent O.sent G.got self.old)
-            (lists_of Q.received T.sent O.sent G.got self.new)
-            (counts_of Q.answers T.fulls O.fulls G.answers self.old)
-            (counts_of Q.answers T.fulls O.fulls G.answers self.new)
-            (RoomAt O.clear O.roomy O.unseen self.old.ends.gossip_out.items) }
+        ensures rounds { over.Rounds Q.Rx T.Tx O.Tx G.GossipRx result self.old self.new }
     {
         let sent = self.tell();
         self.attest();
@@ -459,19 +370,14 @@ impl<Q: Rx<Request>, T: Tx<Reply>, O: Tx<Batch>, G: GossipRx<Batch, From = O>> W
     /// Makes a round of gossip, or none, and gives the number of batches that went out.
     fn tell_if(&mut self, made: bool) -> Result<u32, NoMemory>
         ensures fixed { IsFixed self.old.state self.new.state }
-        ensures keys { KeysStay Q.key T.key T.number O.key O.number G.key self.old self.new }
+        ensures keys { over.KeysStay Q.Rx T.Tx O.Tx G.GossipRx self.old self.new }
         ensures requests { self.new.ends.requests ≡ self.old.ends.requests }
         ensures replies { self.new.ends.replies ≡ self.old.ends.replies }
         ensures gossip_in { self.new.ends.gossip_in ≡ self.old.ends.gossip_in }
         ensures gossip_out { made ≡ false → self.new.ends.gossip_out ≡ self.old.ends.gossip_out }
         ensures asks { OnOk result (IsTrue made → MayAsk self.new.state) }
         ensures mates { length self.new.state.changed ≡ length self.new.ends.gossip_out.items }
-        ensures rounds { RoundsIf made result
-            (lists_of Q.received T.sent O.sent G.got self.old)
-            (lists_of Q.received T.sent O.sent G.got self.new)
-            (counts_of Q.answers T.fulls O.fulls G.answers self.old)
-            (counts_of Q.answers T.fulls O.fulls G.answers self.new)
-            (RoomAt O.clear O.roomy O.unseen self.old.ends.gossip_out.items) }
+        ensures rounds { over.RoundsIf Q.Rx T.Tx O.Tx G.GossipRx made result self.old self.new }
     {
         let _ = &self.local;
         if made { self.tell() } else { Ok(0) }
@@ -480,18 +386,13 @@ impl<Q: Rx<Request>, T: Tx<Reply>, O: Tx<Batch>, G: GossipRx<Batch, From = O>> W
     /// Tells each mate what changed.
     fn tell(&mut self) -> Result<u32, NoMemory>
         ensures fixed { IsFixed self.old.state self.new.state }
-        ensures keys { KeysStay Q.key T.key T.number O.key O.number G.key self.old self.new }
+        ensures keys { over.KeysStay Q.Rx T.Tx O.Tx G.GossipRx self.old self.new }
         ensures requests { self.new.ends.requests ≡ self.old.ends.requests }
         ensures replies { self.new.ends.replies ≡ self.old.ends.replies }
         ensures gossip_in { self.new.ends.gossip_in ≡ self.old.ends.gossip_in }
         ensures asks { OnOk result (MayAsk self.new.state) }
         ensures mates { length self.new.state.changed ≡ length self.new.ends.gossip_out.items }
-        ensures rounds { Rounds result
-            (lists_of Q.received T.sent O.sent G.got self.old)
-            (lists_of Q.received T.sent O.sent G.got self.new)
-            (counts_of Q.answers T.fulls O.fulls G.answers self.old)
-            (counts_of Q.answers T.fulls O.fulls G.answers self.new)
-            (RoomAt O.clear O.roomy O.unseen self.old.ends.gossip_out.items) }
+        ensures rounds { over.Rounds Q.Rx T.Tx O.Tx G.GossipRx result self.old self.new }
     {
         let alloc = *self.local.turned.allocator();
         let told = gossip(
@@ -526,13 +427,13 @@ impl<Q: Rx<Request>, T: Tx<Reply>, O: Tx<Batch>, G: GossipRx<Batch, From = O>> W
     pub fn settle(&mut self, ended: Q::From)
         requires pair { Q.pairs (Q.key self.old.ends.requests)
             (Q.From.key ended) (Q.From.number ended) }
-        requires once { IsSettled (Q.about self.old.ends.requests (Q.From.number ended)).standing → ⊥ }
-        ensures share { Share (lists_of Q.received T.sent O.sent G.got self.new) }
-        ensures lags { Lags (lists_of Q.received T.sent O.sent G.got self.new) }
+        requires once { IsSettled (Q.about self.old.ends.requests (Q.From.number ended)).standing →
+            ⊥ }
+        ensures share { over.Share Q.Rx T.Tx O.Tx G.GossipRx self.new }
+        ensures lags { over.Lags Q.Rx T.Tx O.Tx G.GossipRx self.new }
         ensures key { Q.key self.new.ends.requests ≡ Q.key self.old.ends.requests }
-        ensures settles { Settles Q.keeps (Q.From.number ended) (Q.From.sent ended)
-            (box_of Q.received Q.answers Q.about self.old.ends.requests)
-            (box_of Q.received Q.answers Q.about self.new.ends.requests) }
+        ensures settles { boxes.Settles Q.Rx Q.From.Tx ended
+            self.old.ends.requests self.new.ends.requests }
         ensures rest { self.new ≡ record self.old {
           ends = record self.old.ends { requests = self.new.ends.requests };
         } }
@@ -546,20 +447,18 @@ impl<Q: Rx<Request>, T: Tx<Reply>, O: Tx<Batch>, G: GossipRx<Batch, From = O>> W
     /// memory.
     pub fn beside_session<S: Meets<Q, T>>(&mut self, session: u16, side: &mut S)
         requires session { (1 ≤ session) × (session ≤ length self.old.ends.replies.items) }
-        requires pairs { (sender : T)
-            → slice_get self.old.ends.replies.items (session - 1) ≡ Some sender
+        requires pairs { (sender : T) → over.IsReplier self.old session sender
             → S.pairs (S.key side.old) self.old.state.me (Q.key self.old.ends.requests)
             (S.number side.old self.old.state.me) (T.key sender) (T.number sender) }
-        ensures share { Share (lists_of Q.received T.sent O.sent G.got self.new) }
-        ensures lags { Lags (lists_of Q.received T.sent O.sent G.got self.new) }
+        ensures share { over.Share Q.Rx T.Tx O.Tx G.GossipRx self.new }
+        ensures lags { over.Lags Q.Rx T.Tx O.Tx G.GossipRx self.new }
         ensures state { self.new.state ≡ self.old.state }
         ensures gossip_in { self.new.ends.gossip_in ≡ self.old.ends.gossip_in }
         ensures gossip_out { self.new.ends.gossip_out ≡ self.old.ends.gossip_out }
         ensures requests_key { Q.key self.new.ends.requests ≡ Q.key self.old.ends.requests }
-        ensures requests { Shows Q.keeps
+        ensures requests { boxes.Shows Q.Rx
             (S.number side.old self.old.state.me) (S.asked side.old self.old.state.me)
-            (box_of Q.received Q.answers Q.about self.old.ends.requests)
-            (box_of Q.received Q.answers Q.about self.new.ends.requests) }
+            self.old.ends.requests self.new.ends.requests }
         ensures replies_keys { map T.key self.new.ends.replies.items
             ≡ map T.key self.old.ends.replies.items }
         ensures replies_numbers { map T.number self.new.ends.replies.items
@@ -581,14 +480,15 @@ impl<Q: Rx<Request>, T: Tx<Reply>, O: Tx<Batch>, G: GossipRx<Batch, From = O>> W
             ≤ length (from_sender (S.number side.old self.old.state.me)
             (Q.received self.old.ends.requests)) → S.clear side.new self.old.state.me }
         ensures learned { Learned S.keeps
-            (slice_index_or (map T.number self.old.ends.replies.items) (session - 1) 0)
-            (slice_index_or (map T.sent self.old.ends.replies.items) (session - 1) [])
+            (number_at T.Tx self.old.ends.replies.items (session - 1))
+            (sent_at T.Tx self.old.ends.replies.items (session - 1))
             (S.about side.old) (S.about side.new) }
         ensures told { IsTrue S.keeps.complete → IsFront (S.heard side.old self.old.state.me)
-            (slice_index_or (map T.sent self.old.ends.replies.items) (session - 1) []) }
-        ensures room { LearnsRoomOf T.clear T.unseen self.new.ends.replies.items (session - 1) S.keeps
+            (sent_at T.Tx self.old.ends.replies.items (session - 1)) }
+        ensures room { LearnsRoomOf T.clear T.unseen self.new.ends.replies.items (session - 1)
+            S.keeps
             (S.heard side.old self.old.state.me)
-            (slice_index_or (map T.sent self.old.ends.replies.items) (session - 1) []) }
+            (sent_at T.Tx self.old.ends.replies.items (session - 1)) }
         ensures other_sessions { (place : ℕ) → place ≢ session - 1
             → slice_get self.new.ends.replies.items place
             ≡ slice_get self.old.ends.replies.items place }
@@ -608,8 +508,8 @@ impl<Q: Rx<Request>, T: Tx<Reply>, O: Tx<Batch>, G: GossipRx<Batch, From = O>> W
 
     /// Nobody is beside the worker's boxes any longer. Takes no memory.
     pub fn apart(&mut self)
-        ensures share { Share (lists_of Q.received T.sent O.sent G.got self.new) }
-        ensures lags { Lags (lists_of Q.received T.sent O.sent G.got self.new) }
+        ensures share { over.Share Q.Rx T.Tx O.Tx G.GossipRx self.new }
+        ensures lags { over.Lags Q.Rx T.Tx O.Tx G.GossipRx self.new }
         ensures state { self.new.state ≡ self.old.state }
         ensures replies { self.new.ends.replies ≡ self.old.ends.replies }
         ensures gossip_out { self.new.ends.gossip_out ≡ self.old.ends.gossip_out }

@@ -58,7 +58,7 @@ impl<M: Message> Lane<M> for PlainLane<M> {
 impl<M: Message> PlainLane<M> {
     ghost use Rattle.std.specs.Prelude.{◌≡◌, ◌++◌, [], false, length};
     ghost use Rattle.mail_contract.specs.Lanes.{nothing};
-    ghost use Rattle.mail_contract.specs.Plain.{IsCause, OnDelivered, with_more};
+    ghost use Rattle.mail_contract.specs.Plain.{Becomes, IsCause, with_more};
 
     pub(super) fn new(alloc: Global) -> PlainLane<M>
         ensures key { ⟦<PlainLane<M> as Lane<M>>⟧.key result ≡ [] }
@@ -76,14 +76,10 @@ impl<M: Message> PlainLane<M> {
     pub(super) fn accept(&mut self, parcel: Parcel<M>) -> Result<(), ParcelFault<M>>
         ensures cause { IsCause ((self.old.settled ≡ false) × (parcel.begin ≡ self.old.delivered))
             parcel result }
-        ensures key { OnDelivered result
-            (⟦<PlainLane<M> as Lane<M>>⟧.key self.new
-            ≡ ⟦<PlainLane<M> as Lane<M>>⟧.key self.old ++ parcel.messages)
-            (⟦<PlainLane<M> as Lane<M>>⟧.key self.new ≡ ⟦<PlainLane<M> as Lane<M>>⟧.key self.old) }
-        ensures lane { OnDelivered result
-            (⟦<PlainLane<M> as Lane<M>>⟧.lane self.new
-            ≡ with_more (length parcel.messages) (⟦<PlainLane<M> as Lane<M>>⟧.lane self.old))
-            (⟦<PlainLane<M> as Lane<M>>⟧.lane self.new ≡ ⟦<PlainLane<M> as Lane<M>>⟧.lane self.old) }
+        ensures key { Becomes result ⟦<PlainLane<M> as Lane<M>>⟧.key
+            (λ given. given ++ parcel.messages) self.old self.new }
+        ensures lane { Becomes result ⟦<PlainLane<M> as Lane<M>>⟧.lane
+            (with_more (length parcel.messages)) self.old self.new }
     {
         if self.settled || parcel.begin != self.delivered {
             return Err(ParcelFault::Strange(parcel));

@@ -1,14 +1,12 @@
-use Rattle.std.proofs.Common.{rules, ◌≡◌, ℕ, List, Option, Some, None, MatchOption, All, sym, subst}
+use Rattle.std.proofs.Common.{rules, ◌≡◌, List, Some, None, All, sym, subst}
 use Rattle.std.specs.List.{AllZip}
 use Rattle.composed_value.specs.declared.kind.Kind.{Kind}
 use Rattle.session_known.specs.Accepted.{accepted}
-use Rattle.session_known.specs.Legal.{IsLawfulFinal}
 use Rattle.session_known.specs.declared.report.Answer.{Answer}
 use Rattle.session_known.specs.declared.report.FinalCell.{FinalCell}
 use Rattle.session_known.specs.declared.script.SessionPlan.{SessionPlan}
-use Rattle.anna_check.specs.Counted.{AreOfTheirPuts}
 use Rattle.anna_check.specs.AgainstPuts.{StandFor, CanAllBeHeldAgainst, CanBeFinal}
-use Rattle.anna_check.specs.Unlawful.{AreTrueOf, IsFirstUntrueFrom, IsFirstUnlawfulFinal}
+use Rattle.anna_check.proofs.VerdictLemmas.{all_stand, same_untrue, same_unlawful}
 use Rattle.anna_check.proofs.judge.hold_against.Goals as goal
 
 pub find_untrue-requires-clause-held : goal.find_untrue-requires-clause-held
@@ -16,11 +14,7 @@ find_untrue-requires-clause-held c =
     let kinds = c.args.script.now.kinds in
     let workers = c.args.script.now.config.workers in
     let made = accepted c.args.script.now c.args.report.now in
-    let stand : StandFor kinds workers made c.args.accepted.now c.in_ok-cells.cells = record {
-      puts = c.requires.puts;
-      numbered = c.requires.numbered;
-      cells_are = subst (λ kinds. AreOfTheirPuts kinds workers made c.in_ok-cells.cells) c.as_slice.ensures (c.in_ok-cells.ensures.of_their_puts made c.requires.numbered);
-    } in (
+    let stand = all_stand kinds c.as_slice.result.now workers made c.args.accepted.now c.in_ok-cells.cells c.requires.puts c.requires.numbered c.as_slice.ensures (c.in_ok-cells.ensures.of_their_puts made c.requires.numbered) in (
       workers,
       made,
       subst (λ kinds. StandFor kinds workers made c.args.accepted.now c.in_ok-cells.cells) (sym c.requires.puts.kinds_are) stand,
@@ -32,25 +26,16 @@ returns-in-Some c =
     let kinds = c.args.script.now.kinds in
     let workers = c.args.script.now.config.workers in
     let made = accepted c.args.script.now c.args.report.now in
-    let stand : StandFor kinds workers made c.args.accepted.now c.in_ok-cells.cells = record {
-      puts = c.requires.puts;
-      numbered = c.requires.numbered;
-      cells_are = subst (λ kinds. AreOfTheirPuts kinds workers made c.in_ok-cells.cells) c.as_slice.ensures (c.in_ok-cells.ensures.of_their_puts made c.requires.numbered);
-    } in
+    let stand = all_stand kinds c.as_slice.result.now workers made c.args.accepted.now c.in_ok-cells.cells c.requires.puts c.requires.numbered c.as_slice.ensures (c.in_ok-cells.ensures.of_their_puts made c.requires.numbered) in
     let place_is : c.in_ok-session.field-0 ≡ Some (c.in-Some.session, c.in-Some.command) = search rules in
-    let untrue = subst (λ (at : Option (ℕ × ℕ) × List SessionPlan × List (List Answer)). MatchOption at.0 (AllZip (AreTrueOf kinds made) at.1 at.2) (λ place. IsFirstUntrueFrom kinds made 1 at.1 at.2 place.0 place.1)) (λ j. (place_is j, c.as_slice-sessions.ensures j, c.as_slice-answers.ensures j)) (c.in_ok-session.ensures.true_of kinds workers made stand) in
-    untrue
+    same_untrue kinds made place_is c.as_slice-sessions.ensures c.as_slice-answers.ensures (c.in_ok-session.ensures.true_of kinds workers made stand)
 
 pub find_unlawful_final-requires : goal.find_unlawful_final-requires
 find_unlawful_final-requires c =
     let kinds = c.args.script.now.kinds in
     let workers = c.args.script.now.config.workers in
     let made = accepted c.args.script.now c.args.report.now in
-    let stand : StandFor kinds workers made c.args.accepted.now c.in_ok-cells.cells = record {
-      puts = c.requires.puts;
-      numbered = c.requires.numbered;
-      cells_are = subst (λ kinds. AreOfTheirPuts kinds workers made c.in_ok-cells.cells) c.as_slice.ensures (c.in_ok-cells.ensures.of_their_puts made c.requires.numbered);
-    } in (
+    let stand = all_stand kinds c.as_slice.result.now workers made c.args.accepted.now c.in_ok-cells.cells c.requires.puts c.requires.numbered c.as_slice.ensures (c.in_ok-cells.ensures.of_their_puts made c.requires.numbered) in (
       workers,
       made,
       subst (λ kinds. StandFor kinds workers made c.args.accepted.now c.find_untrue.new.cells) (sym c.requires.puts.kinds_are) (c.find_untrue.ensures.stand kinds workers made stand),
@@ -62,15 +47,11 @@ returns-in-Some-2 c =
     let kinds = c.args.script.now.kinds in
     let workers = c.args.script.now.config.workers in
     let made = accepted c.args.script.now c.args.report.now in
-    let stand : StandFor kinds workers made c.args.accepted.now c.in_ok-cells.cells = record {
-      puts = c.requires.puts;
-      numbered = c.requires.numbered;
-      cells_are = subst (λ kinds. AreOfTheirPuts kinds workers made c.in_ok-cells.cells) c.as_slice.ensures (c.in_ok-cells.ensures.of_their_puts made c.requires.numbered);
-    } in
+    let stand = all_stand kinds c.as_slice.result.now workers made c.args.accepted.now c.in_ok-cells.cells c.requires.puts c.requires.numbered c.as_slice.ensures (c.in_ok-cells.ensures.of_their_puts made c.requires.numbered) in
     let all_true : c.in_ok-session.field-0 ≡ None = search rules in
     let last_is : c.in_ok-key.field-0 ≡ Some (c.in-Some-2.key, c.in-Some-2.worker) = search rules in
-    let untrue = subst (λ (at : Option (ℕ × ℕ) × List SessionPlan × List (List Answer)). MatchOption at.0 (AllZip (AreTrueOf kinds made) at.1 at.2) (λ place. IsFirstUntrueFrom kinds made 1 at.1 at.2 place.0 place.1)) (λ j. (all_true j, c.as_slice-sessions.ensures j, c.as_slice-answers.ensures j)) (c.in_ok-session.ensures.true_of kinds workers made stand) in
-    let finals = subst (λ (at : Option (ℕ × ℕ) × List FinalCell). MatchOption at.0 (All (IsLawfulFinal kinds made) at.1) (λ place. IsFirstUnlawfulFinal kinds made at.1 place.0 place.1)) (λ j. (last_is j, c.as_slice-finals.ensures j)) (c.in_ok-key.ensures kinds workers made (c.find_untrue.ensures.stand kinds workers made stand)) in
+    let untrue = same_untrue kinds made all_true c.as_slice-sessions.ensures c.as_slice-answers.ensures (c.in_ok-session.ensures.true_of kinds workers made stand) in
+    let finals = same_unlawful kinds made last_is c.as_slice-finals.ensures (c.in_ok-key.ensures kinds workers made (c.find_untrue.ensures.stand kinds workers made stand)) in
     (untrue, finals)
 
 pub returns : goal.returns
@@ -78,13 +59,9 @@ returns c =
     let kinds = c.args.script.now.kinds in
     let workers = c.args.script.now.config.workers in
     let made = accepted c.args.script.now c.args.report.now in
-    let stand : StandFor kinds workers made c.args.accepted.now c.in_ok-cells.cells = record {
-      puts = c.requires.puts;
-      numbered = c.requires.numbered;
-      cells_are = subst (λ kinds. AreOfTheirPuts kinds workers made c.in_ok-cells.cells) c.as_slice.ensures (c.in_ok-cells.ensures.of_their_puts made c.requires.numbered);
-    } in
+    let stand = all_stand kinds c.as_slice.result.now workers made c.args.accepted.now c.in_ok-cells.cells c.requires.puts c.requires.numbered c.as_slice.ensures (c.in_ok-cells.ensures.of_their_puts made c.requires.numbered) in
     let all_true : c.in_ok-session.field-0 ≡ None = search rules in
     let all_lawful : c.in_ok-key.field-0 ≡ None = search rules in
-    let untrue = subst (λ (at : Option (ℕ × ℕ) × List SessionPlan × List (List Answer)). MatchOption at.0 (AllZip (AreTrueOf kinds made) at.1 at.2) (λ place. IsFirstUntrueFrom kinds made 1 at.1 at.2 place.0 place.1)) (λ j. (all_true j, c.as_slice-sessions.ensures j, c.as_slice-answers.ensures j)) (c.in_ok-session.ensures.true_of kinds workers made stand) in
-    let finals = subst (λ (at : Option (ℕ × ℕ) × List FinalCell). MatchOption at.0 (All (IsLawfulFinal kinds made) at.1) (λ place. IsFirstUnlawfulFinal kinds made at.1 place.0 place.1)) (λ j. (all_lawful j, c.as_slice-finals.ensures j)) (c.in_ok-key.ensures kinds workers made (c.find_untrue.ensures.stand kinds workers made stand)) in
+    let untrue = same_untrue kinds made all_true c.as_slice-sessions.ensures c.as_slice-answers.ensures (c.in_ok-session.ensures.true_of kinds workers made stand) in
+    let finals = same_unlawful kinds made all_lawful c.as_slice-finals.ensures (c.in_ok-key.ensures kinds workers made (c.find_untrue.ensures.stand kinds workers made stand)) in
     (untrue, finals)

@@ -159,7 +159,7 @@ settle_all-requires-2-clause-many g c =
     many_of 1 (length c.in_ok-sealed.sealed.items) c.in_ok-sealed.gossip.items (map (mates_of g) turned)
     (rows_of (λ (worker : Worker g). worker.ends.gossip_out) c.in_ok-sealed.gossip.items turned c.in_ok-sealed.ensures.gossip)
     (subst (λ n. All (λ senders. length senders + 1 ≡ n) (map (mates_of g) turned)) (sym (sealed_long g turned c.in_ok-sealed.sealed.items c.in_ok-sealed.ensures.sealed))
-    (many_gossip c.requires.run c.settle_all.new.parties.items turned c.settle_all.ensures.long c.turn_all.ensures.long only c.turn_all.ensures.gone_on c.turn_all.ensures.gossip_stands))
+    (many_gossip c.requires.run c.settle_all.new.parties.items turned c.settle_all.ensures.long c.turn_all.ensures.gone_on.long only c.turn_all.ensures.gone_on.gone_on c.turn_all.ensures.gone_on.gossip_stands))
 
 pub settle_all-requires-2-clause-may : goal.settle_all-requires-2-clause-may
 settle_all-requires-2-clause-may g c = λ place party there.
@@ -170,7 +170,7 @@ settle_all-requires-2-clause-may g c = λ place party there.
     subst (λ rows. MayTakeAll (MayTakeGossip g) (TakesGossip g) (column true 0 rows place) party)
     (sym (rows_of (λ (its : Worker g). its.ends.gossip_out) c.in_ok-sealed.gossip.items turned c.in_ok-sealed.ensures.gossip))
     (subst (MayTakeAll (MayTakeGossip g) (TakesGossip g) (column true 0 (map (mates_of g) turned) place)) worker.2
-    (may_take_gossip c.requires.run c.settle_all.new.parties.items turned c.settle_all.ensures.long c.turn_all.ensures.long only c.turn_all.ensures.gone_on c.turn_all.ensures.gossip_stands
+    (may_take_gossip c.requires.run c.settle_all.new.parties.items turned c.settle_all.ensures.long c.turn_all.ensures.gone_on.long only c.turn_all.ensures.gone_on.gone_on c.turn_all.ensures.gone_on.gossip_stands
     g.O.Tx.sent g.G.GossipRx.keeps g.G.GossipRx.answers g.G.GossipRx.due g.G.GossipRx.most place worker.0 worker.1))
 
 pub hear_all-requires-clause-met : goal.hear_all-requires-clause-met
@@ -178,7 +178,7 @@ hear_all-requires-clause-met g c =
     let turned = c.turn_all.new.workers.items in
     let takes = took g c.in_ok-answers.requests.items c.args.sessions.items c.in_ok-answers.ensures.requests c.args.workers.items c.settle_all.new.parties.items c.settle_all.ensures.takes in
     let only = only_requests c.requires.run g.Q.Rx.keeps g.Q.Rx.answers c.settle_all.new.parties.items c.settle_all.ensures.long takes in
-    all_met c.requires.run c.settle_all.new.parties.items turned c.settle_all.ensures.long c.turn_all.ensures.long only c.turn_all.ensures.gone_on c.turn_all.ensures.gossip_stands
+    all_met c.requires.run c.settle_all.new.parties.items turned c.settle_all.ensures.long c.turn_all.ensures.gone_on.long only c.turn_all.ensures.gone_on.gone_on c.turn_all.ensures.gone_on.gossip_stands
     g.O.Tx.sent g.G.GossipRx.keeps g.G.GossipRx.answers g.G.GossipRx.due g.G.GossipRx.most c.settle_all-2.new.parties.items
     (c.settle_all-2.ensures.long ∙ sealed_long g turned c.in_ok-sealed.sealed.items c.in_ok-sealed.ensures.sealed)
     (took_gossip g c.in_ok-sealed.gossip.items turned c.in_ok-sealed.ensures.gossip c.in_ok-sealed.sealed.items c.settle_all-2.new.parties.items c.in_ok-sealed.ensures.sealed c.settle_all-2.ensures.takes)
@@ -191,7 +191,7 @@ settle_all-requires-3-clause-many g c =
     many_of 0 (length c.in_ok-answers.boxes.items) c.in_ok-sealed.replies.items (map (replies_of g) turned)
     (rows_of (λ (worker : Worker g). worker.ends.replies) c.in_ok-sealed.replies.items turned c.in_ok-sealed.ensures.replies)
     (subst (λ boxes. All (λ senders. length senders + 0 ≡ length boxes) (map (replies_of g) turned)) (sym c.in_ok-answers.ensures.replies)
-    (replies_making c.requires.run c.settle_all.new.parties.items turned c.settle_all.ensures.long c.turn_all.ensures.long only c.turn_all.ensures.gone_on).many)
+    (replies_making c.requires.run c.settle_all.new.parties.items turned c.settle_all.ensures.long c.turn_all.ensures.gone_on.long only c.turn_all.ensures.gone_on.gone_on).many)
 
 pub settle_all-requires-3-clause-may : goal.settle_all-requires-3-clause-may
 settle_all-requires-3-clause-may g c = λ session box there.
@@ -200,7 +200,7 @@ settle_all-requires-3-clause-may g c = λ session box there.
     let only = only_requests c.requires.run g.Q.Rx.keeps g.Q.Rx.answers c.settle_all.new.parties.items c.settle_all.ensures.long takes in
     subst (λ rows. MayTakeAll (MayTakeReplies g) (TakesReplies g) (column false 0 rows session) box)
     (sym (rows_of (λ (its : Worker g). its.ends.replies) c.in_ok-sealed.replies.items turned c.in_ok-sealed.ensures.replies))
-    (may_take_replies c.requires.run c.settle_all.new.parties.items turned c.settle_all.ensures.long c.turn_all.ensures.long only c.turn_all.ensures.gone_on g.R.Rx.answers g.R.Rx.keeps session box
+    (may_take_replies c.requires.run c.settle_all.new.parties.items turned c.settle_all.ensures.long c.turn_all.ensures.gone_on.long only c.turn_all.ensures.gone_on.gone_on g.R.Rx.answers g.R.Rx.keeps session box
     (ap (λ all. slice_get all session) (sym c.in_ok-answers.ensures.replies) ∙ there))
 
 pub returns-clause-drained : goal.returns-clause-drained
@@ -212,15 +212,15 @@ returns-clause-drained g c =
     let finished = c.hear_all.new.workers.items in
     let boxes = c.settle_all-3.new.parties.items in
     let long = c.settle_all.ensures.long in
-    let as_long = c.turn_all.ensures.long in
-    let gone = c.turn_all.ensures.gone_on in
+    let as_long = c.turn_all.ensures.gone_on.long in
+    let gone = c.turn_all.ensures.gone_on.gone_on in
     let takes = took g c.in_ok-answers.requests.items c.args.sessions.items c.in_ok-answers.ensures.requests c.args.workers.items settled c.settle_all.ensures.takes in
     let only = only_requests run g.Q.Rx.keeps g.Q.Rx.answers settled long takes in
     let gathered_long = c.settle_all-2.ensures.long ∙ sealed_long g turned c.in_ok-sealed.sealed.items c.in_ok-sealed.ensures.sealed in
     let gossip_takes = took_gossip g c.in_ok-sealed.gossip.items turned c.in_ok-sealed.ensures.gossip c.in_ok-sealed.sealed.items gathered c.in_ok-sealed.ensures.sealed c.settle_all-2.ensures.takes in
     let replies_take = took_replies g c.in_ok-sealed.replies.items turned c.in_ok-sealed.ensures.replies c.in_ok-answers.boxes.items c.args.sessions.items c.in_ok-answers.ensures.replies boxes c.settle_all-3.ensures.takes in
     let boxes_long = c.settle_all-3.ensures.long ∙ ap length c.in_ok-answers.ensures.replies in
-    let stands = c.turn_all.ensures.gossip_stands in
+    let stands = c.turn_all.ensures.gone_on.gossip_stands in
     let done = c.in_ok-turn_all.ensures.done in
     let heard = c.in_ok-hear_all.ensures.heard in
     let heard_long = c.hear_all.ensures.long in
@@ -248,17 +248,17 @@ returns-clause-goes_on g c =
     let gathered = c.settle_all-2.new.parties.items in
     let finished = c.hear_all.new.workers.items in
     let long = c.settle_all.ensures.long in
-    let as_long = c.turn_all.ensures.long in
+    let as_long = c.turn_all.ensures.gone_on.long in
     let takes = took g c.in_ok-answers.requests.items c.args.sessions.items c.in_ok-answers.ensures.requests c.args.workers.items settled c.settle_all.ensures.takes in
     let gossip_takes = took_gossip g c.in_ok-sealed.gossip.items turned c.in_ok-sealed.ensures.gossip c.in_ok-sealed.sealed.items gathered c.in_ok-sealed.ensures.sealed c.settle_all-2.ensures.takes in
-    goes_on run settled turned long as_long (only_requests run g.Q.Rx.keeps g.Q.Rx.answers settled long takes) c.turn_all.ensures.gone_on c.turn_all.ensures.gossip_stands
+    goes_on run settled turned long as_long (only_requests run g.Q.Rx.keeps g.Q.Rx.answers settled long takes) c.turn_all.ensures.gone_on.gone_on c.turn_all.ensures.gone_on.gossip_stands
     g.O.Tx.sent g.G.GossipRx.keeps g.G.GossipRx.answers g.G.GossipRx.due g.G.GossipRx.most gathered (c.settle_all-2.ensures.long ∙ sealed_long g turned c.in_ok-sealed.sealed.items c.in_ok-sealed.ensures.sealed) gossip_takes
     finished c.hear_all.ensures.long c.in_ok-hear_all.ensures.heard (same_received run g.Q.Rx.keeps g.Q.Rx.answers settled long takes)
 
 pub returns-clause-sound : goal.returns-clause-sound
 returns-clause-sound g c = λ place worker there.
     let long = c.settle_all.ensures.long in
-    let as_long = c.turn_all.ensures.long in
+    let as_long = c.turn_all.ensures.gone_on.long in
     let gathered_long = c.settle_all-2.ensures.long ∙ sealed_long g c.turn_all.new.workers.items c.in_ok-sealed.sealed.items c.in_ok-sealed.ensures.sealed in
     let now = there_too c.hear_all.new.workers.items c.args.workers.items place worker (sym (c.hear_all.ensures.long ∙ gathered_long ∙ as_long ∙ long)) there in
     let within = slice_get_within c.args.workers.items place worker there in

@@ -1,6 +1,7 @@
 use Rattle.std.proofs.Common.{◌≡◌, ◌∙◌, ◌++◌, ℕ, List, OnOk, ap, drop, inl, inr, length, slice_get, subst, sym, take, Some}
 use Rattle.mail_contract.specs.Boxes.{box_of}
 use Rattle.worker_core.specs.State.{PlainWorker}
+use Rattle.drain_turns.specs.OverWorkers.{HaveGoneOn}
 use Rattle.drain_turns.specs.Ready.{FindPlaces}
 use Rattle.party_turns.specs.Turning.{IsDone}
 use Rattle.party_turns.proofs.PairListsLemmas.{whole}
@@ -25,10 +26,11 @@ turn_passes-requires-clause-room g c = λ returns. elim (c.requires.room returns
 ]
 
 pub returns-clause-gone_on : goal.returns-clause-gone_on
-returns-clause-gone_on g c = λ place before now before_there now_there.
+returns-clause-gone_on g c =
     let here = (goal.at.returns-clause-gone_on g c).After-turn_passes in
-    c.turn_passes.ensures.gone_on.gone_on place before now (ap (λ those. slice_get those place) c.deref_mut.ensures.value ∙ before_there)
-    (ap (λ those. slice_get those place) (sym (all_put_back g here)) ∙ now_there)
+    let goes = HaveGoneOn g.Q.Rx g.T.Tx g.O.Tx g.G.GossipRx in
+    subst (goes c.args.workers.now.items) (sym (all_put_back g here))
+    (subst (λ (those : List (Worker g)). goes those c.turn_passes.new.workers) c.deref_mut.ensures.value c.turn_passes.ensures.gone_on)
 
 pub returns-clause-done : goal.returns-clause-done
 returns-clause-done g c =

@@ -2,7 +2,7 @@ use Rattle.std.proofs.Common.{◌≡◌, ◌∙◌, ◌<◌, All, Some, length, 
 use Rattle.std.proofs.lemmas.Option.{slice_get-get_or}
 use Rattle.parties.specs.Session.{proxy_of}
 use Rattle.party_ends.proofs.PartiesLemmas.{session_is_new}
-use Rattle.run_ledger.proofs.ReplicasLemmas.{table_has_replicas}
+use Rattle.session_proxy.proofs.ReplicasLemmas.{table_has_replicas}
 use Rattle.session_proxy.specs.Lines.{AreReplicas}
 use Rattle.party_ends.proofs.beginning.new_session.Goals as goal
 

@@ -16,12 +16,12 @@ module _ (g : Over) (c : After-remove-own g) where
 pub settle_weak-requires-clause-pair : goal.settle_weak-requires-clause-pair
 settle_weak-requires-clause-pair g c =
     let here = (goal.at.settle_weak-requires-clause-pair g c).After-remove-own in
-    subst (λ own. g.G.GossipRx.pairs (g.G.GossipRx.key c.args.mailbox.now) (g.O.Tx.key own) (g.O.Tx.number own)) (sym (its_own g here)) c.requires.2.0
+    subst (λ own. g.G.GossipRx.pairs (g.G.GossipRx.key c.args.inbox.now) (g.O.Tx.key own) (g.O.Tx.number own)) (sym (its_own g here)) c.requires.2.0
 
 pub settle_weak-requires-clause-once : goal.settle_weak-requires-clause-once
 settle_weak-requires-clause-once g c =
     let here = (goal.at.settle_weak-requires-clause-once g c).After-remove-own in
-    λ settled. c.requires.2.1 (subst (λ own. IsSettled (g.G.GossipRx.about c.args.mailbox.now (g.O.Tx.number own)).standing) (its_own g here) settled)
+    λ settled. c.requires.2.1 (subst (λ own. IsSettled (g.G.GossipRx.about c.args.inbox.now (g.O.Tx.number own)).standing) (its_own g here) settled)
 
 pub returns : goal.returns
 returns g c =

@@ -38,9 +38,9 @@ loop-place-preserved g c =
     subst
     (λ rows. AreDoneBefore
     (TakesInOwn g.O.Tx.number g.O.Tx.sent g.G.GossipRx.key g.G.GossipRx.senders g.G.GossipRx.keeps (weak_box_of g.G.GossipRx.got g.G.GossipRx.answers g.G.GossipRx.about g.G.GossipRx.due g.G.GossipRx.most))
-    (map (λ row. row.items) c.args.rows.now.items) c.args.boxes.now.items (c.loop-place.place + 1) rows (slice_set c.loop-place.boxes.items c.loop-place.place c.settle_own.new.mailbox))
+    (map (λ row. row.items) c.args.rows.now.items) c.args.boxes.now.items (c.loop-place.place + 1) rows (slice_set c.loop-place.boxes.items c.loop-place.place c.settle_own.new.inbox))
     (sym (map-set (λ row. row.items) c.loop-place.rows.items c.loop-place.place c.settle_own.new.row))
     (one_done
     (TakesInOwn g.O.Tx.number g.O.Tx.sent g.G.GossipRx.key g.G.GossipRx.senders g.G.GossipRx.keeps (weak_box_of g.G.GossipRx.got g.G.GossipRx.answers g.G.GossipRx.about g.G.GossipRx.due g.G.GossipRx.most))
     (map (λ row. row.items) c.args.rows.now.items) c.args.boxes.now.items c.loop-place.place (map (λ row. row.items) c.loop-place.rows.items) c.loop-place.boxes.items
-    c.index_mut.result.now.items c.settle_own.new.row.items c.index_mut-in-loop-place.result.now c.settle_own.new.mailbox (row_there g here) (box_there g here) c.settle_own.ensures c.loop-place.invariant)
+    c.index_mut.result.now.items c.settle_own.new.row.items c.index_mut-in-loop-place.result.now c.settle_own.new.inbox (row_there g here) (box_there g here) c.settle_own.ensures c.loop-place.invariant)

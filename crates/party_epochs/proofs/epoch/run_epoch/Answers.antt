@@ -3,8 +3,8 @@ use Rattle.std.proofs.lemmas.List.{length-append, length-map}
 use Rattle.std.proofs.lemmas.Simd.{map-map}
 use Rattle.session_proxy.specs.State as sessions
 use Rattle.worker_core.specs.State as workers
-use Rattle.run_measure.specs.Laws.{IsPlaced}
-use Rattle.run_measure.specs.Steps.{HasDone, HasServed}
+use Rattle.parties.specs.Laws.{IsPlaced}
+use Rattle.parties.specs.Steps.{HasDone, HasServed}
 use Rattle.session_proxy.specs.Share.{Share}
 use Rattle.party_turns.proofs.ItemsLemmas.{of_mapped}
 use Rattle.party_turns.specs.Ends.{Ends, mail_of, session_lists, worker_lists}

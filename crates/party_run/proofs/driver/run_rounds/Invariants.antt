@@ -5,7 +5,7 @@ use Rattle.parties.specs.Session.{proxy_of}
 use Rattle.party_turns.specs.Steps.{StepsOn}
 use Rattle.parties.specs.Sweeping.{AllAwait, AllToAsks}
 use Rattle.run_measure.specs.Measure.{measure_of_all}
-use Rattle.run_waiting.specs.Told.{AreAllTold}
+use Rattle.parties.specs.Told.{AreAllTold}
 use Rattle.party_run.proofs.driver.run_rounds.Given as goal
 
 abbrev pub invariant-loop-turns : goal.invariant-loop-turns

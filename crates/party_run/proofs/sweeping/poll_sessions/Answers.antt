@@ -1,10 +1,10 @@
 use Rattle.std.proofs.Common.{◌∙◌, ◌+◌, arith, false, inl, inr, subst, sym}
-use Rattle.std.proofs.lemmas.Bool.{false≢true}
+use Rattle.std.proofs.lemmas.Bool.{and_cases, and_parts}
 use Rattle.std.proofs.lemmas.Option.{slice_get_within}
 use Rattle.party_turns.proofs.TogetherLemmas.{done_no_less}
 use Rattle.party_run.proofs.SweptLemmas.{PolledTo, all_swept, none_polled, one_more, one_passed, one_polled, served_still}
 use Rattle.party_run.proofs.sweeping.poll_sessions.Goals as goal
-use Rattle.party_run.proofs.sweeping.poll_sessions.Goals.{else-rested_at+in_ok-its+else-all_ended, else-rested_at+in_ok-its+then-all_ended, then-rested_at}
+use Rattle.party_run.proofs.sweeping.poll_sessions.Goals.{else-rested_at+in_ok-its, then-rested_at}
 
 pub loop-place-init : goal.loop-place-init
 loop-place-init g c = none_polled g.R.Run c.args.came.now c.args.run.now (g.met.R.Run.no_steps c.args.run.now)
@@ -39,13 +39,13 @@ loop-place-preserved g c =
           subst (λ all. PolledTo run came (place + 1) all before now) (sym w.all_ended-is)
           (subst (PolledTo run came (place + 1) false before) (sym w.run-is)
           (one_passed run came place c.loop-place.all_ended before mid (sym c.rested_at.ensures ∙ w.if-rested_at.true) so_far))
-      | else-rested_at+in_ok-its+then-all_ended w ↦
+      | else-rested_at+in_ok-its w ↦
           let its = w.in_ok-its.its in
           subst (PolledTo run came (place + 1) c.if-rested_at.all_ended before) (sym w.run-is)
           (one_more run came place c.loop-place.all_ended c.if-rested_at.all_ended before mid w.poll_session.new.self its
           (sym c.rested_at.ensures ∙ w.if-rested_at.false) w.poll_session.ensures.workers w.poll_session.ensures.others w.poll_session.ensures.beside
           (g.met.R.Run.more_steps _ _ _ so_far.steps w.in_ok-its.ensures.steps) w.in_ok-its.ensures.ended
-          (λ all. (w.if-all_ended.true, sym w.all_ended-is ∙ all))
+          (λ all. and_parts _ _ (sym w.all_ended-is ∙ all))
           (λ so_far served.
           let ready = served.ready in
           let on = g.met.R.Run.goes_on _ _ so_far.steps ready.running ready.none_kept in
@@ -56,23 +56,5 @@ loop-place-preserved g c =
           (w.in_ok-its.ensures.served on.0 on.1 (omega arith) ready.free (λ worker. so_far.beside worker place (omega arith) (served.beside worker place))
           (served_still (run.worker_lists before) (run.worker_lists mid) (run.session_lists before) (run.session_lists mid) place so_far.workers (so_far.later place (omega arith))
           ready.await_theirs served.served))
-          (λ not_all. inr (sym w.all_ended-is ∙ not_all)) (so_far.swept served)) so_far)
-      | else-rested_at+in_ok-its+else-all_ended w ↦
-          let its = w.in_ok-its.its in
-          subst (PolledTo run came (place + 1) c.if-rested_at.all_ended before) (sym w.run-is)
-          (one_more run came place c.loop-place.all_ended c.if-rested_at.all_ended before mid w.poll_session.new.self its
-          (sym c.rested_at.ensures ∙ w.if-rested_at.false) w.poll_session.ensures.workers w.poll_session.ensures.others w.poll_session.ensures.beside
-          (g.met.R.Run.more_steps _ _ _ so_far.steps w.in_ok-its.ensures.steps) w.in_ok-its.ensures.ended
-          (λ all. absurd (false≢true (sym w.if-all_ended.false ∙ sym w.all_ended-is ∙ all)))
-          (λ so_far served.
-          let ready = served.ready in
-          let on = g.met.R.Run.goes_on _ _ so_far.steps ready.running ready.none_kept in
-          let next = g.met.R.Run.goes_on _ _ w.in_ok-its.ensures.steps on.0 on.1 in
-          one_polled came place c.loop-place.all_ended c.if-rested_at.all_ended (run.session_lists before) (run.session_lists mid) (run.session_lists w.poll_session.new.self) its
-          ready.await_theirs served.to_asks (so_far.later place (omega arith)) (omega (arith, within, c.loop-place-test.true, c.sessions-place-end.ensures)) next.2.sessions_long
-          w.poll_session.ensures.others (done_no_less _ _ on.2.sessions_long on.2.done_more) next.2.done_more (w.in_ok-its.ensures.moved on.0) w.in_ok-its.ensures.ended
-          (w.in_ok-its.ensures.served on.0 on.1 (omega arith) ready.free (λ worker. so_far.beside worker place (omega arith) (served.beside worker place))
-          (served_still (run.worker_lists before) (run.worker_lists mid) (run.session_lists before) (run.session_lists mid) place so_far.workers (so_far.later place (omega arith))
-          ready.await_theirs served.served))
-          (λ not_all. inl w.if-all_ended.false) (so_far.swept served)) so_far)
+          (λ not_all. and_cases _ _ (sym w.all_ended-is ∙ not_all)) (so_far.swept served)) so_far)
     ]

@@ -1,6 +1,6 @@
 use Rattle.std.proofs.Common.{◌≡◌, ◌∙◌, All, ap, slice_get, subst, sym}
 use Rattle.std.proofs.lemmas.List.Elements.{All-weaker}
-use Rattle.run_waiting.specs.Waiting.{AreSigned, AreToAsks}
+use Rattle.parties.specs.Waiting.{AreSigned, AreToAsks}
 use Rattle.parties.specs.Sweeping.{AllAwait, AllServed, AreAnswered}
 use Rattle.party_run.specs.Ready.{HasSwept, IsReady}
 use Rattle.party_run.proofs.sweeping.sweep.Given.{Over}

@@ -2,7 +2,7 @@ use Rattle.std.proofs.Common.{◌∙◌, All, ap, arith, inl, inr, refl, slice_g
 use Rattle.std.proofs.lemmas.Bool.{cases_eq}
 use Rattle.std.proofs.lemmas.Option.{slice_get_within}
 use Rattle.parties.specs.Sweeping.{HasServedEach}
-use Rattle.run_waiting.specs.Waiting.{AreSigned}
+use Rattle.parties.specs.Waiting.{AreSigned}
 use Rattle.party_run.proofs.sweeping.turn_workers.Goals as goal
 
 pub loop-place-init : goal.loop-place-init

@@ -6,6 +6,7 @@ use Rattle.party_turns.proofs.PairLemmas.{is_steady, sees_mate, either_way, show
 use Rattle.party_turns.proofs.PairListsLemmas.{back_read, both_change, front_read}
 use Rattle.party_turns.proofs.MatesLemmas.{has_sender_to, is_paired, numbers_differ}
 use Rattle.party_turns.proofs.pairing.show_pair.Given.{Over}
+use Rattle.worker_core.specs.OverWorkers.{Learns}
 use Rattle.party_turns.proofs.pairing.show_pair.Goals as goal
 use Rattle.party_turns.proofs.pairing.show_pair.Goals.{After-beside_mate, After-index-back-0}
 
@@ -57,39 +58,28 @@ module _ (g : Over) where
     abbrev high : Worker
     high = slice_index_or c.split_at_mut-front.result.1.now 0 c.index-back-0.result
 
-    steady_low : steady c.beside_mate.new.self ≡ steady low
-    steady_low =
-        let is = c.beside_mate.ensures in
-        is_steady g.O.Tx.key g.O.Tx.number g.O.Tx.sent g.G.GossipRx.key g.G.GossipRx.got low c.beside_mate.new.self is.state is.requests is.replies is.gossip_out_keys is.gossip_out_numbers
-        is.gossip_out_sent is.gossip_key is.gossip.got
-
-    steady_high : steady c.beside_mate.new.mate ≡ steady high
-    steady_high =
-        let is = c.beside_mate.ensures in
-        is_steady g.O.Tx.key g.O.Tx.number g.O.Tx.sent g.G.GossipRx.key g.G.GossipRx.got high c.beside_mate.new.mate is.mate_state is.mate_requests is.mate_replies is.mate_gossip_out_keys
-        is.mate_gossip_out_numbers is.mate_gossip_out_sent is.mate_gossip_key is.mate_gossip.got
+    -- a worker is steady that learns of a mate
+    stays : (was now mate : Worker) → Learns g.Q.Rx g.T.Tx g.O.Tx g.G.GossipRx was now mate → steady now ≡ steady was
+    stays was now mate is =
+        is_steady g.O.Tx.key g.O.Tx.number g.O.Tx.sent g.G.GossipRx.key g.G.GossipRx.got was now is.state is.requests_stay is.replies_stay is.keys is.numbers is.sent is.gossip_key is.shows.got
 
     -- each learned of the other
     module _ (below : c.min-low.result < c.max-high.result) (within : c.max-high.result < length c.args.workers.now) (low_there : slice_get c.args.workers.now c.min-low.result ≡ Some low)
         (high_there : slice_get c.args.workers.now c.max-high.result ≡ Some high) (differs : c.max-high.result ≢ c.min-low.result) where
-      sees : SeesMate c.min-low.result c.max-high.result low c.beside_mate.new.self high
-      sees =
-          let is = c.beside_mate.ensures in
-          sees_mate c.requires.mates c.min-low.result c.max-high.result low c.beside_mate.new.self high low_there high_there differs is.gossip.learned is.gossip.told is.room is.others is.gossip.due
-          is.gossip.still_due
-
-      seen : SeesMate c.max-high.result c.min-low.result high c.beside_mate.new.mate low
-      seen =
-          let is = c.beside_mate.ensures in
-          sees_mate c.requires.mates c.max-high.result c.min-low.result high c.beside_mate.new.mate low high_there low_there (λ same. differs (sym same)) is.mate_gossip.learned
-          is.mate_gossip.told is.mate_room is.mate_others is.mate_gossip.due is.mate_gossip.still_due
+      learns : (place other : ℕ) (was now mate : Worker) → slice_get c.args.workers.now place ≡ Some was → slice_get c.args.workers.now other ≡ Some mate → other ≢ place
+          → Learns g.Q.Rx g.T.Tx g.O.Tx g.G.GossipRx was now mate → SeesMate place other was now mate
+      learns place other was now mate there its_there differ is =
+          sees_mate c.requires.mates place other was now mate there its_there differ is.shows.learned is.shows.told is.learns_room is.others is.shows.due is.shows.still_due
 
       shown : Shown c.min-low.result c.max-high.result c.args.workers.now
           (slice_set c.split_at_mut-front.result.0.now c.min-low.result c.beside_mate.new.self ++ slice_set c.split_at_mut-front.result.1.now 0 c.beside_mate.new.mate)
       shown =
           shown_both
           (both_change c.args.workers.now c.split_at_mut-front.result.0.now c.split_at_mut-front.result.1.now (sym c.split_at_mut-front.ensures.value) c.min-low.result c.max-high.result
-          c.split_at_mut-front.ensures.front_len below within c.index-front-low.result c.index-back-0.result c.beside_mate.new.self c.beside_mate.new.mate) steady_low steady_high sees seen
+          c.split_at_mut-front.ensures.front_len below within c.index-front-low.result c.index-back-0.result c.beside_mate.new.self c.beside_mate.new.mate)
+          (stays low c.beside_mate.new.self high c.beside_mate.ensures.learns) (stays high c.beside_mate.new.mate low c.beside_mate.ensures.mate_learns)
+          (learns c.min-low.result c.max-high.result low c.beside_mate.new.self high low_there high_there differs c.beside_mate.ensures.learns)
+          (learns c.max-high.result c.min-low.result high c.beside_mate.new.mate low high_there low_there (λ same. differs (sym same)) c.beside_mate.ensures.mate_learns)
 
 pub beside_mate-requires-clause-differ : goal.beside_mate-requires-clause-differ
 beside_mate-requires-clause-differ g c =

@@ -1,5 +1,5 @@
 use Rattle.std.proofs.Common.{ℕ, ap}
-use Rattle.worker_core.specs.Room.{RoomAt}
+use Rattle.worker_core.specs.Batches.{RoomAt}
 use Rattle.worker_core.specs.State.{PlainWorker}
 use Rattle.run_measure.proofs.ServedLemmas.{served_if}
 use Rattle.party_turns.proofs.ItemsLemmas.{long_alike}

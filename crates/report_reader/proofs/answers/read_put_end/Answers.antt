@@ -13,4 +13,4 @@ returns-in-len1 c = λ script key payload.
 pub returns-in-len3 : goal.returns-in-len3
 returns-in-len3 c = λ script key payload.
     let words = texts_three c.args.words.now _ (codes "at") c.in-len3.len_at_least c.in-len3.len_below (one_text _ _ (sym c.eq.ensures ∙ c.if-eq.true) ∙ c.as_slice.ensures) in
-    answer_same script c.args.level (lines.Put key payload) (lines.Put key payload) _ _ c.read_accepted.result refl (ap (λ rest. codes "put" ∷ key_name script key ∷ rest) words) (c.read_accepted.ensures script c.args.level key payload)
+    answer_same script c.args.level (lines.Put key payload) (lines.Put key payload) _ _ c.read_accepted.result refl (ap (λ rest. codes "put" ∷ key_name script key ∷ rest) words) (c.read_accepted.ensures c.args.level script key payload)

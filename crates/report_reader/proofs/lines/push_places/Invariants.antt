@@ -1,6 +1,6 @@
-use Rattle.std.proofs.Common.{◌≡◌, ℕ, ◌++◌, map}
-use Rattle.report_reader.proofs.ReadPartLemmas.{replicas_within}
+use Rattle.std.proofs.Common.{◌≡◌, ◌++◌}
+use Rattle.report_reader.specs.ReadLines.{places_within}
 use Rattle.report_reader.proofs.lines.push_places.Given as goal
 
 abbrev pub invariant-loop-i : goal.invariant-loop-i
-invariant-loop-i l = l.places.items ≡ l.fn.places.items ++ map (λ (worker : ℕ). (l.key, worker)) (replicas_within l.replicas l.i)
+invariant-loop-i l = l.places.items ≡ l.fn.places.items ++ places_within l.key l.replicas l.i

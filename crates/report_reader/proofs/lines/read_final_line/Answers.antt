@@ -1,9 +1,9 @@
-use Rattle.std.proofs.Common.{refl, sym, ap, subst, ◌∙◌, [], ◌∷◌}
+use Rattle.std.proofs.Common.{refl, ap, ◌∙◌, [], ◌∷◌}
 use Rattle.std.specs.List.{join_with_byte}
 use Rattle.report_lines.proofs.NamesLemmas.{tells_names}
 use Rattle.report_reader.specs.ReadLines.{FinalOf, IsFinalAt, IsPartFault}
 use Rattle.report_lines.specs.Text.{final_words}
-use Rattle.report_reader.proofs.ReadLineLemmas.{fault_first, fault_on, out_at_end, out_here}
+use Rattle.report_reader.proofs.ReadLineLemmas.{fault_first, fault_told, out_at_end, out_here}
 use Rattle.report_reader.proofs.ReadRows.{none_reads}
 use Rattle.report_reader.proofs.lines.read_final_line.Goals as goal
 
@@ -12,8 +12,8 @@ returns-in_err-text-clause-fault c =
     let script = c.args.script.now in
     let names = tells_names script c.requires.valid.0 c.requires.valid.1 in
     let due = FinalOf c.args.key c.args.worker in
-    fault_on c.from_residual.result (IsPartFault script (due ∷ []) c.args.lines.now) _ c.from_residual.ensures.1
-    (λ fault is. subst (IsPartFault script (due ∷ []) c.args.lines.now) (sym (is ∙ c.in_err-text.ensures.fault)) (fault_first script due [] c.args.lines.now c.args.lines.now.1 refl (out_at_end script names due c.args.lines.now.0 c.in_err-text.ensures.none)))
+    fault_told c.from_residual.result (IsPartFault script (due ∷ []) c.args.lines.now) c.from_residual.ensures.1 c.in_err-text.ensures.fault
+    (fault_first script due [] c.args.lines.now c.args.lines.now.1 refl (out_at_end script names due c.args.lines.now.0 c.in_err-text.ensures.none))
 
 pub returns-in_default-clause-fault : goal.returns-in_default-clause-fault
 returns-in_default-clause-fault c =

@@ -1,7 +1,6 @@
-use Rattle.std.proofs.Common.{rules, sym, subst}
-use Rattle.std.specs.List.{flat_map}
-use Rattle.report_reader.specs.ReadLines.{IsPartFault, session_dues}
-use Rattle.report_reader.proofs.ReadLineLemmas.{sessions_next, sessions_room, sessions_fault, fault_on}
+use Rattle.std.proofs.Common.{rules, refl}
+use Rattle.report_reader.specs.ReadLines.{IsPartFault, sessions_dues}
+use Rattle.report_reader.proofs.ReadLineLemmas.{sessions_next, sessions_room, sessions_fault, fault_told}
 use Rattle.report_reader.proofs.lines.read_sessions.Goals as goal
 
 pub read_session_part-requires-clause-room : goal.read_session_part-requires-clause-room
@@ -12,8 +11,7 @@ pub returns-in_err-read_session_part-clause-fault : goal.returns-in_err-read_ses
 returns-in_err-read_session_part-clause-fault c =
     let fault = c.in_err-read_session_part.field-0.0 in
     let out = sessions_fault c.args.script.now c.args.plans.now c.args.lines.now c.loop-plan.plan-index c.loop-plan.lines c.loop-plan.answers c.plan-item.result fault (search rules) (search rules) c.loop-plan.invariant c.in_err-read_session_part.ensures.fault in
-    fault_on c.from_residual.result (IsPartFault c.args.script.now (flat_map session_dues c.args.plans.now) c.args.lines.now) _ c.from_residual.ensures.1
-    (λ other is. subst (IsPartFault c.args.script.now (flat_map session_dues c.args.plans.now) c.args.lines.now) (sym is) out)
+    fault_told c.from_residual.result (IsPartFault c.args.script.now (sessions_dues c.args.plans.now) c.args.lines.now) c.from_residual.ensures.1 refl out
 
 pub loop-plan-preserved : goal.loop-plan-preserved
 loop-plan-preserved c =

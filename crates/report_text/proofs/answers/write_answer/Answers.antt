@@ -1,7 +1,6 @@
-use Rattle.std.proofs.Common.{[], ◌∷◌}
-use Rattle.std.specs.Fmt.{decimal}
+use Rattle.std.proofs.Common.{[]}
 use Rattle.outside.proofs.GatheringLemmas.{Adds-as}
-use Rattle.session_known.specs.Script.{key_name, session_name}
+use Rattle.report_lines.specs.Text.{awaited_words}
 use Rattle.report_text.proofs.ReportLemmas.{answer_line}
 use Rattle.report_text.proofs.WritesLemmas.{Adds-line, Adds-words}
 use Rattle.report_text.proofs.answers.write_answer.Goals as goal
@@ -30,13 +29,13 @@ pub returns-in-Await-Got : goal.returns-in-Await-Got
 returns-in-Await-Got g c =
     let script = c.args.script.now in
     let got = c.in-Await-Got in
-    Adds-as (answer_line c.args.script.now c.args.line.now _ c.args.answer.now _ c.in-Await-Got.is-0 c.in-Await-Got.is-1) (Adds-line _ _ c.write.ensures (Adds-words (key_name script got.key ∷ session_name script got.session ∷ decimal got.count ∷ []) _ c.write_awaited.ensures c.write_shown.ensures) c.write-in-Await-Got.ensures)
+    Adds-as (answer_line c.args.script.now c.args.line.now _ c.args.answer.now _ c.in-Await-Got.is-0 c.in-Await-Got.is-1) (Adds-line _ _ c.write.ensures (Adds-words (awaited_words script got.key got.session got.count []) _ c.write_awaited.ensures c.write_shown.ensures) c.write-in-Await-Got.ensures)
 
 pub returns-in-Await-Again : goal.returns-in-Await-Again
 returns-in-Await-Again g c =
     let script = c.args.script.now in
     let got = c.in-Await-Again in
-    Adds-as (answer_line c.args.script.now c.args.line.now _ c.args.answer.now _ c.in-Await-Again.is-0 c.in-Await-Again.is-1) (Adds-line _ _ c.write-in-Await-Again.ensures (Adds-words (key_name script got.key ∷ session_name script got.session ∷ decimal got.count ∷ []) _ c.write_awaited-in-Await-Again.ensures c.write_gave_up.ensures) c.write-in-Await-Again-2.ensures)
+    Adds-as (answer_line c.args.script.now c.args.line.now _ c.args.answer.now _ c.in-Await-Again.is-0 c.in-Await-Again.is-1) (Adds-line _ _ c.write-in-Await-Again.ensures (Adds-words (awaited_words script got.key got.session got.count []) _ c.write_awaited-in-Await-Again.ensures c.write_gave_up.ensures) c.write-in-Await-Again-2.ensures)
 
 pub returns-in-Commit-Committed : goal.returns-in-Commit-Committed
 returns-in-Commit-Committed g c =

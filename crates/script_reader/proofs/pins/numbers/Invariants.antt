@@ -1,5 +1,5 @@
 use Rattle.std.proofs.Common.{map, take}
-use Rattle.script_reader.proofs.PinLemmas.{AreNumbers}
+use Rattle.script_reader.specs.Words.{AreNumbers}
 use Rattle.script_reader.proofs.pins.numbers.Given as goal
 
 abbrev pub invariant-loop-word : goal.invariant-loop-word

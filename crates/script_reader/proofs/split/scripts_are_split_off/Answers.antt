@@ -8,4 +8,4 @@ pub returns-clause-same : goal.returns-clause-same
 returns-clause-same c = same_place
 
 pub returns-clause-whole : goal.returns-clause-whole
-returns-clause-whole c = split_whole
+returns-clause-whole c = λ text more script is ends. split_whole text more script ends.0 ends.1 is ends.2 ends.3

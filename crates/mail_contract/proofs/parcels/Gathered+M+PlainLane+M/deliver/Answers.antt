@@ -28,34 +28,19 @@ invariant_of-self g c =
       few = subst (λ n. n < 2 ^ 16) (sym (length-set _ _ _)) self.few;
     }
 
-pub returns-clause-received : goal.returns-clause-received
-returns-clause-received g c =
-    let self = c.args.self.now in
-    let has = has_lane c.parcel.inside.sender c.args.parcel.sender self.lanes.items (search rules) (omega (arith, c.if-sender-eq0.false)) (omega (arith, c.if-sender-len.false)) in
-    let taken = still_taken c.accept.result _ _ _ c.accept.ensures.lane in
-    still_received lane_in key_in self.lanes.items c.args.parcel.sender c.parcel.inside.sender _ _ has.0 has.1 has.2 c.index_mut-lane.ensures.value taken self.order.items
-
-pub returns-clause-cause : goal.returns-clause-cause
-returns-clause-cause g c =
+pub returns : goal.returns
+returns g c =
     let self = c.args.self.now in
     let has = has_lane c.parcel.inside.sender c.args.parcel.sender self.lanes.items (search rules) (omega (arith, c.if-sender-eq0.false)) (omega (arith, c.if-sender-len.false)) in
     let old = c.index_mut-lane.result.now in
     let at = c.index_mut-lane.ensures.value in
-    same_cause _ _ (follows lane_in key_in self.lanes.items c.args.parcel c.parcel.inside.sender old old has.0 has.1 has.2 at old.given.items old.taken old.delivered old.settled refl refl old.some_delivered)
-    (followed lane_in key_in self.lanes.items c.args.parcel c.parcel.inside.sender old old has.0 has.1 has.2 at old.given.items old.taken old.delivered old.settled refl refl old.some_delivered) c.args.parcel c.accept.result c.accept.ensures.cause
-
-pub returns-clause-left : goal.returns-clause-left
-returns-clause-left g c =
-    let self = c.args.self.now in
-    let has = has_lane c.parcel.inside.sender c.args.parcel.sender self.lanes.items (search rules) (omega (arith, c.if-sender-eq0.false)) (omega (arith, c.if-sender-len.false)) in
-    let at = c.index_mut-lane.ensures.value in
-    on_delivered c.accept.result _ _ _ _ (is_left lane_in key_in self.lanes.items c.args.parcel c.parcel.inside.sender _ _ has.0 has.1 has.2 at)
-    (λ (stays : lane_in c.accept.new.self ≡ lane_in c.index_mut-lane.result.now). ap about_of (same_map lane_in self.lanes.items (c.parcel.inside.sender - 1) _ _ at stays)) c.accept.ensures.lane
-
-pub returns-clause-delivered : goal.returns-clause-delivered
-returns-clause-delivered g c =
-    let self = c.args.self.now in
-    let has = has_lane c.parcel.inside.sender c.args.parcel.sender self.lanes.items (search rules) (omega (arith, c.if-sender-eq0.false)) (omega (arith, c.if-sender-len.false)) in
-    let at = c.index_mut-lane.ensures.value in
-    on_delivered c.accept.result _ _ _ _ (is_delivered lane_in key_in self.lanes.items c.args.parcel c.parcel.inside.sender _ _ has.0 has.1 has.2 at)
-    (λ (stays : key_in c.accept.new.self ≡ key_in c.index_mut-lane.result.now). same_map key_in self.lanes.items (c.parcel.inside.sender - 1) _ _ at stays) c.accept.ensures.key
+    record {
+      cause = same_cause _ _ (follows lane_in key_in self.lanes.items c.args.parcel c.parcel.inside.sender old old has.0 has.1 has.2 at old.given.items old.taken old.delivered old.settled refl refl old.some_delivered)
+          (followed lane_in key_in self.lanes.items c.args.parcel c.parcel.inside.sender old old has.0 has.1 has.2 at old.given.items old.taken old.delivered old.settled refl refl old.some_delivered) c.args.parcel c.accept.result c.accept.ensures.cause;
+      delivered = on_delivered c.accept.result _ _ _ _ (is_delivered lane_in key_in self.lanes.items c.args.parcel c.parcel.inside.sender _ _ has.0 has.1 has.2 at)
+          (λ (stays : key_in c.accept.new.self ≡ key_in old). same_map key_in self.lanes.items (c.parcel.inside.sender - 1) _ _ at stays) c.accept.ensures.key;
+      left = on_delivered c.accept.result _ _ _ _ (is_left lane_in key_in self.lanes.items c.args.parcel c.parcel.inside.sender _ _ has.0 has.1 has.2 at)
+          (λ (stays : lane_in c.accept.new.self ≡ lane_in old). ap about_of (same_map lane_in self.lanes.items (c.parcel.inside.sender - 1) _ _ at stays)) c.accept.ensures.lane;
+      received = still_received lane_in key_in self.lanes.items c.args.parcel.sender c.parcel.inside.sender _ _ has.0 has.1 has.2 at (still_taken c.accept.result _ _ _ c.accept.ensures.lane) self.order.items;
+      answers = refl;
+    }

@@ -5,8 +5,9 @@ use Rattle.std.proofs.lemmas.Result.{err_from_is_err_and, on_ok_weaker}
 use Rattle.lattice_laws.specs.Counts.{Rose}
 use Rattle.lattice_laws.specs.declared.lattice.NoMemory.{NoMemory}
 use Rattle.mail_contract.specs.Standing.{AreMet}
+use Rattle.gossip_rounds.specs.Batches.{RoomAt}
 use Rattle.worker_core.specs.Order.{AsksGossip, IsDue}
-use Rattle.worker_core.specs.Room.{RoomAt, StayClear}
+use Rattle.worker_core.specs.Room.{StayClear}
 use Rattle.worker_core.specs.Serving.{RoundsIf}
 use Rattle.worker_core.specs.State.{Lists, PlainWorker, dirty, kept_batch, lists_of}
 use Rattle.worker_core.specs.Turns.{Counts, Gossips, IsHeldBack, KeepsRequest, MayAsk, SomeRose, StayOrCameBack, Turns, counts_of, joined_in}

@@ -1,6 +1,6 @@
 use Rattle.std.proofs.Common.{ℕ, map, subst, sym}
+use Rattle.gossip_rounds.specs.Batches.{RoomAt}
 use Rattle.worker_core.specs.Local.{state_of}
-use Rattle.worker_core.specs.Room.{RoomAt}
 use Rattle.worker_core.specs.State.{Lists, PlainWorker, lists_of}
 use Rattle.worker_core.specs.Turns.{Rounds, counts_of}
 use Rattle.worker_core.proofs.LawfulLemmas.{round_lawful, rounds}

@@ -1,0 +1,3 @@
+pub mod BatchesLemmas
+pub mod KeysLemmas
+pub mod TellingLemmas

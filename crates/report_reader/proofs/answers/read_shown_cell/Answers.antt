@@ -1,7 +1,0 @@
-use Rattle.report_reader.proofs.ReadCellLemmas.{no_shown}
-use Rattle.report_reader.proofs.answers.read_shown_cell.Goals as goal
-
-pub returns-in_default-2 : goal.returns-in_default-2
-returns-in_default-2 c =
-    let cut = c.in-Some.ensures in
-    no_shown c.args.script.now c.args.level c.args.key c.args.words.now c.in-Some.cell.now c.in_ok-cell.field-0 c.in_default-2.is cut.cases.1 c.in_ok-cell.ensures

@@ -1,6 +1,0 @@
-use Rattle.std.proofs.Common.{◌≡◌, take}
-use Rattle.merge_world.specs.Effects.{tells}
-use Rattle.worker_core.proofs.gossip.batch_of.Given as goal
-
-abbrev pub invariant-loop-key : goal.invariant-loop-key
-invariant-loop-key l = l.batch ≡ tells (take l.key-index l.keys) l.map
