@@ -8,17 +8,16 @@ ghost use Rattle.lattice_laws.specs.EntriesLaws.{map_laws, map_associative};
 
 use crate::{MaxNum, Word};
 use lattice_laws::entries::{
-    at_most_entries, attest_entries, copy_entries, find_entry, join_entries, push_entry,
-    raise_entry,
+    at_most_entries, attest_entries, find_entry, join_shared, push_shared, raise_shared,
 };
-use lattice_laws::{AllFit, Lattice, MapKey, NoMemory};
+use lattice_laws::{AllFit, Lattice, MapKey, NoMemory, Shared};
 use std::alloc::Global;
 use std::marker::Model;
 
 /// A map whose values merge key by key. Contracts see its entries in the order of their keys.
 #[derive(Debug, Drop)]
 pub struct MapOf<K: MapKey, L: AllFit> {
-    entries: Vec<(K, L)>,
+    entries: Shared<(K, L)>,
 }
 
 impl<K: MapKey, L: AllFit> Model for MapOf<K, L> {
@@ -28,9 +27,9 @@ impl<K: MapKey, L: AllFit> Model for MapOf<K, L> {
 
     ghost Value = { List (K × L) };
 
-    ghost view = { λ map. map.entries.items };
+    ghost view = { λ map. map.entries };
 
-    ghost invariant = { λ map. IsTrue (is_sorted K.cmp (plain_entries L.plain map.entries.items)) };
+    ghost invariant = { λ map. IsTrue (is_sorted K.cmp (plain_entries L.plain map.entries)) };
 }
 
 /// A map that merges each field to the greatest number put on it.
@@ -42,7 +41,7 @@ impl<K: MapKey, L: AllFit> MapOf<K, L> {
         ensures { result ≡ [] }
     {
         MapOf {
-            entries: Vec::new(alloc),
+            entries: Shared::new(alloc),
         }
     }
 
@@ -54,7 +53,7 @@ impl<K: MapKey, L: AllFit> MapOf<K, L> {
         ensures err { OnErr result
             (plain_entries L.plain self.new ≡ plain_entries L.plain self.old) }
     {
-        raise_entry(&mut self.entries, key, value)
+        raise_shared(&mut self.entries, key, value)
     }
 
     /// Adds an entry after the others, and answers whether its key comes after theirs; else the map
@@ -67,7 +66,7 @@ impl<K: MapKey, L: AllFit> MapOf<K, L> {
         ensures err { OnErr result
             (plain_entries L.plain self.new ≡ plain_entries L.plain self.old) }
     {
-        push_entry(&mut self.entries, key, value)
+        push_shared(&mut self.entries, key, value)
     }
 
     /// The value at the key, and nothing where the key is not there. Takes no memory.
@@ -82,14 +81,14 @@ impl<K: MapKey, L: AllFit> MapOf<K, L> {
     pub fn len(&self) -> usize
         ensures { result ≡ length self.now }
     {
-        self.entries.len()
+        self.entries.as_slice().len()
     }
 
     /// Whether there is no key. Takes no memory.
     pub fn is_empty(&self) -> bool
         ensures { IsTrue result ↔ (self.now ≡ []) }
     {
-        self.entries.is_empty()
+        self.entries.as_slice().is_empty()
     }
 
     /// The entry at place `i`, counted from 0 in the order of the keys, and nothing past the last.
@@ -97,7 +96,7 @@ impl<K: MapKey, L: AllFit> MapOf<K, L> {
     pub fn at(&self, i: usize) -> Option<(&K, &L)>
         ensures { option_map (λ entry. (entry.0.now, entry.1.now)) result ≡ slice_get self.now i }
     {
-        let entry = self.entries.get(i)?;
+        let entry = self.entries.as_slice().get(i)?;
         Some((&entry.0, &entry.1))
     }
 
@@ -176,16 +175,15 @@ impl<K: MapKey, L: AllFit> Lattice for MapOf<K, L> {
     fn join(&mut self, other: &Self) -> Result<(), NoMemory> {
         // One entry goes into its place, so that putting into a large map copies none of it.
         if let [(key, value)] = other.entries.as_slice() {
-            return raise_entry(&mut self.entries, key.copy()?, value.copy()?);
+            return raise_shared(&mut self.entries, key.copy()?, value.copy()?);
         }
-        let alloc = *self.entries.allocator();
-        self.entries = join_entries(alloc, self.entries.as_slice(), other.entries.as_slice())?;
+        self.entries = join_shared(&self.entries, &other.entries)?;
         Ok(())
     }
 
     fn copy(&self) -> Result<Self, NoMemory> {
         Ok(MapOf {
-            entries: copy_entries(*self.entries.allocator(), self.entries.as_slice())?,
+            entries: self.entries.share()?,
         })
     }
 

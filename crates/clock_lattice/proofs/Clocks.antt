@@ -1,5 +1,5 @@
 -- What calls leave is a clock, or needs, whether they found memory or not; and how code tests what covers what.
-use Rattle.std.specs.Prelude.{◌≡◌, ◌↔◌, ℕ, ◌<◌, ◌^◌, max, Bool, true, false, IsTrue, List, Result, Ok, Err, IfOk, OnOk, OnErr}
+use Rattle.std.specs.Prelude.{◌≡◌, ◌↔◌, ℕ, ◌<◌, ◌^◌, max, Bool, true, false, IsTrue, List, Result, Ok, Err, OnOk, OnErr}
 use Rattle.std.proofs.Common.{refl, sym, ap, subst, ◌∙◌}
 use mathlib.Core.Bool.{false≢true}
 use Rattle.std.specs.Ordering.{nat_cmp}
@@ -11,7 +11,6 @@ use Rattle.clock_lattice.specs.ClockLaws.{clock_laws}
 use Rattle.clock_lattice.proofs.ClockLemmas.{one_count_is_clock, one_count_entry}
 use Rattle.clock_lattice.specs.ClockOrder.{clock_cmp}
 use Rattle.clock_lattice.specs.Coverage.{CoverageLaws}
-use Rattle.clock_lattice.proofs.CoverageLemmas.{clock_coverage}
 use Rattle.clock_lattice.specs.Needs.{IsSomeClock, IsNeeds, joined_needs}
 use Rattle.clock_lattice.specs.NeedsLaws.{needs_laws}
 use Rattle.clock_lattice.proofs.NeedsLemmas.{one_need_is_needs, one_need_entry}
@@ -29,30 +28,12 @@ raised_is_clock session n clock s_fits n_fits some is = subst (λ one. IsClock (
 pub raised_is_needs : (key : ℕ) (clock : List (ℕ × ℕ)) (needs : List (ℕ × List (ℕ × ℕ))) → key < 2 ^ 16 → IsSomeClock clock → IsNeeds needs → IsNeeds (raised nat_cmp joined_clocks key clock needs)
 raised_is_needs key clock needs k_fits some is = subst (λ one. IsNeeds (joined_needs needs one)) (one_need_entry key clock some.1) (needs_laws.closed needs _ is (one_need_is_needs key clock k_fits some.0) tt).0
 
--- the join of two clocks, of which one covers the other, is that one
-pub joined_covering : {E : Type 0} (result : Result (List (ℕ × ℕ)) E) (mine theirs self other : List (ℕ × ℕ)) → mine ≡ self → theirs ≡ other → IsSomeClock mine → IsSomeClock theirs
-    → IsTrue (covers mine theirs) → IfOk result (λ both. both ≡ self) → IfOk result (λ both. both ≡ joined_clocks self other)
-joined_covering result mine theirs self other m t vm vt h both =
-    let is_mine : joined_clocks mine theirs ≡ mine = clock_laws.commutative mine theirs vm.0 vt.0 tt ∙ (clock_coverage.changes_nothing theirs mine vt.0 vm.0).0 h in
-    let is_self : self ≡ joined_clocks self other = sym (ap (λ x. joined_clocks x other) (sym m) ∙ ap (joined_clocks mine) (sym t) ∙ is_mine ∙ m) in
-    subst (λ x. IfOk result (λ both. both ≡ x)) is_self both
-
-pub joined_covered : {E : Type 0} (result : Result (List (ℕ × ℕ)) E) (mine theirs self other : List (ℕ × ℕ)) → mine ≡ self → theirs ≡ other → IsSomeClock mine → IsSomeClock theirs
-    → IsTrue (covers theirs mine) → IfOk result (λ both. both ≡ other) → IfOk result (λ both. both ≡ joined_clocks self other)
-joined_covered result mine theirs self other m t vm vt h both =
-    let swapped = clock_laws.commutative self other (subst IsSomeClock m vm).0 (subst IsSomeClock t vt).0 tt in
-    subst (λ x. IfOk result (λ both. both ≡ x)) (sym swapped) (joined_covering result theirs mine other self t m vt vm h both)
-
 -- two tests that pass together answer alike
 pub same_test : {P : Type 0} (a b : Bool) → IsTrue a ↔ P → IsTrue b ↔ P → a ≡ b
 same_test true true to_a to_b = refl
 same_test true false to_a to_b = absurd (false≢true (to_b.1 (to_a.0 refl)))
 same_test false true to_a to_b = absurd (false≢true (to_a.1 (to_b.0 refl)))
 same_test false false to_a to_b = refl
-
--- what is joined from the slices of two lists is joined from the lists
-pub joined_slices : {A P : Type 0} (plain : List A → P) (joined : P → P → P) (is_value : P → Type 0) (mine theirs mine_items theirs_items all : List A) → mine ≡ mine_items → theirs ≡ theirs_items → plain all ≡ joined (plain mine) (plain theirs) → is_value (joined (plain mine_items) (plain theirs_items)) → is_value (plain all)
-joined_slices plain joined is_value mine theirs mine_items theirs_items all m t e v = subst is_value (sym (e ∙ ap (λ xs. joined (plain xs) (plain theirs)) m ∙ ap (λ xs. joined (plain mine_items) (plain xs)) t)) v
 
 -- a test of the slices of two lists is one of what the lists are seen as
 pub covers_slices : {A P : Type 0} (plain : List A → P) (is_value : P → Type 0) (joined : P → P → P) (covers : P → P → Bool) → CoverageLaws is_value joined covers → (result : Bool) (mine theirs mine_items theirs_items : List A) (self other : P) → mine ≡ mine_items → theirs ≡ theirs_items → plain mine_items ≡ self → plain theirs_items ≡ other → IsTrue result ↔ (joined (plain theirs) (plain mine) ≡ plain mine) → is_value (plain mine_items) → is_value (plain theirs_items) → result ≡ covers self other

@@ -7,10 +7,8 @@ ghost use Rattle.clock_lattice.specs.ClockLaws.{clock_laws, clock_associative};
 ghost use Rattle.clock_lattice.specs.ClockOrder.{clock_eq, clock_cmp, clock_partial_cmp, clock_total, clock_equivalence, clock_partial_equivalence, clock_partial_order, clock_ties};
 
 use crate::count::Count;
-use lattice_laws::entries::{
-    at_most_entries, copy_entries, find_entry, join_entries, push_entry, raise_entry,
-};
-use lattice_laws::{AllFit, Lattice, NoMemory};
+use lattice_laws::entries::{at_most_entries, find_entry, join_shared, push_shared, raise_shared};
+use lattice_laws::{AllFit, Lattice, NoMemory, Shared};
 use std::alloc::Global;
 use std::cmp::Ordering;
 use std::marker::Model;
@@ -18,9 +16,11 @@ use std::marker::Model;
 /// A vector clock: for each session how many of its puts are counted, 0 for most. A merge keeps the
 /// greater count of each session. Contracts see the entries (session, count) in the order of the
 /// sessions; a session of which nothing is counted has none.
+///
+/// A copy shares the entries, and takes no memory; and the join of two clocks of which one covers the other is that one.
 #[derive(Debug, Drop)]
 pub struct Clock {
-    counts: Vec<(u16, Count)>,
+    counts: Shared<(u16, Count)>,
 }
 
 impl Model for Clock {
@@ -30,9 +30,9 @@ impl Model for Clock {
 
     ghost Value = { List (ℕ × ℕ) };
 
-    ghost view = { λ clock. plain_entries (λ n. n) clock.counts.items };
+    ghost view = { λ clock. plain_entries (λ n. n) clock.counts };
 
-    ghost invariant = { λ clock. IsClock (plain_entries (λ n. n) clock.counts.items) };
+    ghost invariant = { λ clock. IsClock (plain_entries (λ n. n) clock.counts) };
 }
 
 impl Clock {
@@ -41,13 +41,8 @@ impl Clock {
         ensures { result ≡ [] }
     {
         Clock {
-            counts: Vec::new(alloc),
+            counts: Shared::new(alloc),
         }
-    }
-
-    /// Where it takes its memory.
-    pub(crate) fn alloc(&self) -> Global {
-        *self.counts.allocator()
     }
 
     /// Raises the count of a session to `n`, where it is below it. After `NoMemory` the clock is as
@@ -59,7 +54,7 @@ impl Clock {
         if n == 0 {
             return Ok(());
         }
-        raise_entry(&mut self.counts, session, Count::of(n))
+        raise_shared(&mut self.counts, session, Count::of(n))
     }
 
     /// Adds the count `n` of a session after the others, and answers whether the session comes after
@@ -70,7 +65,7 @@ impl Clock {
         ensures err { OnErr result (self.new ≡ self.old) }
     {
         if n > 0 {
-            push_entry(&mut self.counts, session, Count::of(n))
+            push_shared(&mut self.counts, session, Count::of(n))
         } else {
             Ok(false)
         }
@@ -81,11 +76,7 @@ impl Clock {
         ensures { IfOk result (λ both. both ≡ joined_clocks self.now other.now) }
     {
         Ok(Clock {
-            counts: join_entries(
-                self.alloc(),
-                self.counts.as_slice(),
-                other.counts.as_slice(),
-            )?,
+            counts: join_shared(&self.counts, &other.counts)?,
         })
     }
 
@@ -111,14 +102,14 @@ impl Clock {
     pub fn len(&self) -> usize
         ensures { result ≡ length self.now }
     {
-        self.counts.len()
+        self.counts.as_slice().len()
     }
 
     /// Whether nothing is counted. Takes no memory.
     pub fn is_empty(&self) -> bool
         ensures { IsTrue result ↔ (self.now ≡ []) }
     {
-        self.counts.is_empty()
+        self.counts.as_slice().is_empty()
     }
 
     /// The session and count at place `i`, counted from 0 in the order of the sessions, and nothing
@@ -126,7 +117,7 @@ impl Clock {
     pub fn at(&self, i: usize) -> Option<(u16, u64)>
         ensures { result ≡ slice_get self.now i }
     {
-        let (session, count) = self.counts.get(i)?;
+        let (session, count) = self.counts.as_slice().get(i)?;
         Some((*session, count.number()))
     }
 
@@ -202,9 +193,13 @@ impl Lattice for Clock {
         Ok(())
     }
 
+    fn merged(&self, other: &Clock) -> Result<Clock, NoMemory> {
+        self.joined(other)
+    }
+
     fn copy(&self) -> Result<Clock, NoMemory> {
         Ok(Clock {
-            counts: copy_entries(self.alloc(), self.counts.as_slice())?,
+            counts: self.counts.share()?,
         })
     }
 

@@ -10,10 +10,8 @@ ghost use Rattle.clock_lattice.specs.NeedsLaws.{needs_laws, needs_associative};
 
 use crate::Clock;
 use crate::some_clock::SomeClock;
-use lattice_laws::entries::{
-    at_most_entries, copy_entries, find_entry, join_entries, push_entry, raise_entry,
-};
-use lattice_laws::{AllFit, Lattice, NoMemory};
+use lattice_laws::entries::{at_most_entries, find_entry, join_shared, push_shared, raise_shared};
+use lattice_laws::{AllFit, Lattice, NoMemory, Shared};
 use std::alloc::Global;
 use std::marker::Model;
 
@@ -21,9 +19,12 @@ use std::marker::Model;
 /// needs in a causal session must from then on be shown at least these clocks of these keys. A merge
 /// joins the clocks of each key. Contracts see the entries (key, clock) in the order of the keys; a
 /// key whose clock is empty has none.
+///
+/// A copy shares the entries, and takes no memory; and where all that the one of two needs says is said by the other,
+/// their join is that other: what a session knows is passed on with each of its puts, and most of it was there before.
 #[derive(Debug, Drop)]
 pub struct Needs {
-    clocks: Vec<(u16, SomeClock)>,
+    clocks: Shared<(u16, SomeClock)>,
 }
 
 impl Model for Needs {
@@ -33,9 +34,9 @@ impl Model for Needs {
 
     ghost Value = { List (ℕ × List (ℕ × ℕ)) };
 
-    ghost view = { λ needs. plain_entries (λ clock. clock) needs.clocks.items };
+    ghost view = { λ needs. plain_entries (λ clock. clock) needs.clocks };
 
-    ghost invariant = { λ needs. IsNeeds (plain_entries (λ clock. clock) needs.clocks.items) };
+    ghost invariant = { λ needs. IsNeeds (plain_entries (λ clock. clock) needs.clocks) };
 }
 
 impl Needs {
@@ -44,7 +45,7 @@ impl Needs {
         ensures { result ≡ [] }
     {
         Needs {
-            clocks: Vec::new(alloc),
+            clocks: Shared::new(alloc),
         }
     }
 
@@ -56,8 +57,8 @@ impl Needs {
         if clock.is_empty() {
             return Ok(());
         }
-        let raised = SomeClock::of(clock.copy()?)?;
-        raise_entry(&mut self.clocks, key, raised)
+        let raised = SomeClock::of(clock.copy()?);
+        raise_shared(&mut self.clocks, key, raised)
     }
 
     /// Adds the clock of a key after the others, and answers whether the key comes after theirs and
@@ -70,17 +71,15 @@ impl Needs {
         if clock.is_empty() {
             return Ok(false);
         }
-        let some = SomeClock::of(clock)?;
-        push_entry(&mut self.clocks, key, some)
+        push_shared(&mut self.clocks, key, SomeClock::of(clock))
     }
 
     /// The join of two needs: at each key the join of the two clocks.
     pub fn joined(&self, other: &Needs) -> Result<Needs, NoMemory>
         ensures { IfOk result (λ both. both ≡ joined_needs self.now other.now) }
     {
-        let alloc = *self.clocks.allocator();
         Ok(Needs {
-            clocks: join_entries(alloc, self.clocks.as_slice(), other.clocks.as_slice())?,
+            clocks: join_shared(&self.clocks, &other.clocks)?,
         })
     }
 
@@ -104,14 +103,14 @@ impl Needs {
     pub fn len(&self) -> usize
         ensures { result ≡ length self.now }
     {
-        self.clocks.len()
+        self.clocks.as_slice().len()
     }
 
     /// Whether no key has a clock. Takes no memory.
     pub fn is_empty(&self) -> bool
         ensures { IsTrue result ↔ (self.now ≡ []) }
     {
-        self.clocks.is_empty()
+        self.clocks.as_slice().is_empty()
     }
 
     /// The key and clock at place `i`, counted from 0 in the order of the keys, and nothing past the
@@ -119,7 +118,7 @@ impl Needs {
     pub fn at(&self, i: usize) -> Option<(u16, &Clock)>
         ensures { option_map lent_need result ≡ slice_get self.now i }
     {
-        let (key, clock) = self.clocks.get(i)?;
+        let (key, clock) = self.clocks.as_slice().get(i)?;
         Some((*key, clock.clock()))
     }
 
@@ -195,9 +194,13 @@ impl Lattice for Needs {
         Ok(())
     }
 
+    fn merged(&self, other: &Needs) -> Result<Needs, NoMemory> {
+        self.joined(other)
+    }
+
     fn copy(&self) -> Result<Needs, NoMemory> {
         Ok(Needs {
-            clocks: copy_entries(*self.clocks.allocator(), self.clocks.as_slice())?,
+            clocks: self.clocks.share()?,
         })
     }
 

@@ -1,44 +1,38 @@
 //! A clock that counts something.
-ghost use Rattle.std.specs.Prelude.{◌≡◌, ◌<◌, List, ℕ, length, IfOk, ⊤};
+ghost use Rattle.std.specs.Prelude.{◌≡◌, ◌<◌, List, ℕ, length, ⊤};
 ghost use Rattle.clock_lattice.specs.Clock.{joined_clocks};
 ghost use Rattle.clock_lattice.specs.Needs.{IsSomeClock};
 ghost use Rattle.clock_lattice.specs.NeedsLaws.{some_clock_laws, some_clock_associative};
 
 use crate::Clock;
 use lattice_laws::{AllFit, Lattice, NoMemory};
-use std::alloc::Global;
 use std::marker::Model;
-use std::sync::Arc;
 
-/// A clock that counts something: what needs have at a key. Contracts see the clock. Copies share it, and
-/// take no memory: the needs of a cell are copied far more often than one of their clocks changes.
+/// A clock that counts something: what needs have at a key. Contracts see the clock.
 #[derive(Debug, Drop)]
 pub(crate) struct SomeClock {
-    clock: Arc<Clock, Global>,
+    clock: Clock,
 }
 
 impl Model for SomeClock {
     ghost use Rattle.std.specs.Prelude.{List, ℕ};
-    ghost use Rattle.std.specs.Arc.{arc_value};
     ghost use Rattle.clock_lattice.specs.Needs.{IsSomeClock};
 
     ghost Value = { List (ℕ × ℕ) };
 
-    ghost view = { λ some. arc_value some.clock };
+    ghost view = { λ some. some.clock };
 
-    ghost invariant = { λ some. IsSomeClock (arc_value some.clock) };
+    ghost invariant = { λ some. IsSomeClock some.clock };
 }
 
 impl SomeClock {
-    pub(crate) fn of(clock: Clock) -> Result<SomeClock, NoMemory>
+    pub(crate) fn of(clock: Clock) -> SomeClock
         requires { 0 < length clock }
-        ensures value { IfOk result (λ some. some ≡ clock) }
-        ensures some { IfOk result IsSomeClock }
+        ensures value { result ≡ clock }
+        ensures some { IsSomeClock result }
     {
         clock.attest();
-        Ok(SomeClock {
-            clock: Arc::new(clock.alloc(), clock)?,
-        })
+        SomeClock { clock }
     }
 
     pub(crate) fn clock(&self) -> &Clock
@@ -46,21 +40,6 @@ impl SomeClock {
         ensures some { IsSomeClock result.now }
     {
         &self.clock
-    }
-
-    /// The join of two clocks, which is one of them where that covers the other.
-    fn joined(&self, other: &SomeClock) -> Result<SomeClock, NoMemory>
-        ensures { IfOk result (λ both. both ≡ joined_clocks self.now other.now) }
-    {
-        let mine = self.clock();
-        let theirs = other.clock();
-        if mine.covers(theirs) {
-            self.copy()
-        } else if theirs.covers(mine) {
-            other.copy()
-        } else {
-            SomeClock::of(mine.joined(theirs)?)
-        }
     }
 }
 
@@ -80,18 +59,23 @@ impl Lattice for SomeClock {
     }
 
     fn join(&mut self, other: &SomeClock) -> Result<(), NoMemory> {
-        *self = self.joined(other)?;
-        Ok(())
+        self.clock.join(&other.clock)
+    }
+
+    fn merged(&self, other: &SomeClock) -> Result<SomeClock, NoMemory> {
+        Ok(SomeClock {
+            clock: self.clock.joined(&other.clock)?,
+        })
     }
 
     fn copy(&self) -> Result<SomeClock, NoMemory> {
         Ok(SomeClock {
-            clock: Arc::try_clone(&self.clock)?,
+            clock: self.clock.copy()?,
         })
     }
 
     fn at_most(&self, other: &SomeClock) -> bool {
-        self.clock().at_most(other.clock())
+        self.clock.at_most(&other.clock)
     }
 
     ghost laws = { some_clock_laws };

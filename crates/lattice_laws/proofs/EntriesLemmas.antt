@@ -1,10 +1,13 @@
 -- What a call leaves that adds an entry after the others.
 use Rattle.std.specs.Prelude.{◌≡◌, Bool, true, false, IsTrue, List, [], ◌∷◌, ◌++◌, Result, Ok, Err, IfOk, OnErr, All}
-use Rattle.std.proofs.Common.{refl, sym, ap, subst}
+use Rattle.std.proofs.Common.{refl, sym, ap, subst, ◌∙◌}
 use Rattle.std.proofs.lemmas.List.Elements.{All-nil, All-cons, All-head, All-tail, All-append}
 use Rattle.std.specs.declared.cmp.Ordering.{Ordering}
-use Rattle.std.specs.FinMap.{is_sorted}
-use Rattle.lattice_laws.specs.Entries.{plain_entries, IsEntry, IsMap, IsPushed}
+use Rattle.std.specs.Cmp.{IsTotalOrder}
+use Rattle.std.specs.FinMap.{IsAntisymmetric, is_sorted}
+use Rattle.lattice_laws.specs.Entries.{AddsNothing, plain_entries, IsEntry, IsMap, IsPushed, joined_maps}
+use Rattle.lattice_laws.specs.EntriesLaws.{map_laws}
+use Rattle.lattice_laws.specs.Lattice.{LatticeLaws}
 
 -- entries whose values are seen as they are
 pub plain_itself : {K P : Type 0} (entries : List (K × P)) → plain_entries (λ value. value) entries ≡ entries
@@ -37,3 +40,15 @@ module _ {K P : Type 0} (cmp : K → K → Ordering) (is_key : K → Type 0) (is
         ascending = rises;
         are_entries = left_by_push (λ entries. IsTrue (is_sorted cmp entries)) (All good) result old entry new pushed err (All-append good old (entry ∷ []) is.are_entries (All-cons good entry [] is_entry (All-nil good))) is.are_entries;
       }
+
+module _ {K L P : Type 0} {cmp : K → K → Ordering} {is_value : P → Type 0} {fits : P → P → Type 0} {joined : P → P → P} (total : IsTotalOrder cmp) (exact : IsAntisymmetric cmp) (is_key : K → Type 0) (laws : LatticeLaws is_value fits joined) (all_fit : (a b : P) → fits a b) (plain : L → P) where
+  -- a map that holds all that another does is the join of both
+  pub join_of_covered : (mine theirs shown others : List (K × L)) → shown ≡ mine → others ≡ theirs → IsTrue (is_sorted cmp (plain_entries plain mine)) → IsTrue (is_sorted cmp (plain_entries plain theirs))
+      → All (IsEntry is_key is_value) (plain_entries plain shown) → All (IsEntry is_key is_value) (plain_entries plain others)
+      → AddsNothing cmp joined (plain_entries plain others) (plain_entries plain shown) → plain_entries plain mine ≡ joined_maps cmp joined (plain_entries plain mine) (plain_entries plain theirs)
+  join_of_covered mine theirs shown others is also rises rises_too are are_too covers =
+      let are_entries : List (K × L) → Type 0 = λ entries. All (IsEntry is_key is_value) (plain_entries plain entries) in
+      let nothing : AddsNothing cmp joined (plain_entries plain theirs) (plain_entries plain mine) = subst (λ entries. AddsNothing cmp joined (plain_entries plain theirs) (plain_entries plain entries)) is (subst (λ entries. AddsNothing cmp joined (plain_entries plain entries) (plain_entries plain shown)) also covers) in
+      let is_map : IsMap cmp is_key is_value (plain_entries plain mine) = record { ascending = rises; are_entries = subst are_entries is are } in
+      let is_map_too : IsMap cmp is_key is_value (plain_entries plain theirs) = record { ascending = rises_too; are_entries = subst are_entries also are_too } in
+      sym nothing ∙ (map_laws total exact is_key laws all_fit).commutative (plain_entries plain theirs) (plain_entries plain mine) is_map_too is_map tt

@@ -13,6 +13,7 @@ pub mod Merging
 pub mod Places
 pub mod Sets
 pub mod SetsLaws
+pub mod Shared
 pub mod Spelling
 pub mod SpellingLaws
 pub mod Through

@@ -9,9 +9,10 @@ ghost use Rattle.lattice_laws.specs.Entries.{plain_entries, AreSame, IsEntry, Is
 ghost use Rattle.lattice_laws.specs.Places.{IsPlaceOf, IsGapFor};
 ghost use Rattle.lattice_laws.specs.Merging.{first_side, IsJoinStep, NeverAtMost, IsPassed};
 
-use crate::{AllFit, MapKey, NoMemory};
+use crate::{AllFit, MapKey, NoMemory, Shared};
 use std::alloc::Global;
 use std::cmp::Ordering;
+use std::sync::Arc;
 
 /// The value at a key, and nothing where the key is not there. Searches by halves.
 pub fn find_entry<'a, K: MapKey, L: AllFit>(entries: &'a [(K, L)], key: &K) -> Option<&'a L>
@@ -66,6 +67,84 @@ pub fn push_entry<K: MapKey, L: AllFit>(
     Ok(true)
 }
 
+/// Raises the value at a key of a map that copies share, as [`raise_entry`] does. Where it is shared, it is copied for
+/// that.
+pub fn raise_shared<K: MapKey, L: AllFit>(
+    entries: &mut Shared<(K, L)>,
+    key: K,
+    value: L,
+) -> Result<(), NoMemory>
+    requires { IsTrue (is_sorted K.cmp (plain_entries L.plain entries.old)) }
+    ensures ok { OnOk result (plain_entries L.plain entries.new
+        ≡ raised K.cmp L.joined key (L.plain value) (plain_entries L.plain entries.old)) }
+    ensures err { OnErr result (AreSame L.plain entries.new entries.old) }
+    ensures ascending { IsTrue (is_sorted K.cmp (plain_entries L.plain entries.new)) }
+{
+    if let Some(items) = &mut entries.items[0] {
+        if let Some(items) = Arc::get_mut(items) {
+            return raise_entry(items, key, value);
+        }
+    }
+    let mut copies = copy_entries(entries.alloc(), entries.as_slice(), 1)?;
+    raise_entry(&mut copies, key, value)?;
+    *entries = Shared::of(copies)?;
+    Ok(())
+}
+
+/// Adds an entry to a map that copies share, as [`push_entry`] does. Where it is shared, it is copied for that.
+pub fn push_shared<K: MapKey, L: AllFit>(
+    entries: &mut Shared<(K, L)>,
+    key: K,
+    value: L,
+) -> Result<bool, NoMemory>
+    requires { IsTrue (is_sorted K.cmp (plain_entries L.plain entries.old)) }
+    ensures pushed { IfOk result (IsPushed (λ entries. IsTrue (is_sorted K.cmp entries))
+        (plain_entries L.plain entries.old)
+        (key, L.plain value)
+        (plain_entries L.plain entries.new)) }
+    ensures err { OnErr result (AreSame L.plain entries.new entries.old) }
+    ensures ascending { IsTrue (is_sorted K.cmp (plain_entries L.plain entries.new)) }
+{
+    if !comes_last(entries.as_slice(), &key) {
+        return Ok(false);
+    }
+    let Some(entry) = entries.push((key, value))? else {
+        return Ok(true);
+    };
+    let mut copies = copy_entries(entries.alloc(), entries.as_slice(), 1)?;
+    copies.push(entry)?;
+    *entries = Shared::of(copies)?;
+    Ok(true)
+}
+
+/// The join of two maps that copies share, which is one of them, without memory, where that holds all that the other
+/// does.
+pub fn join_shared<K: MapKey, L: AllFit>(
+    mine: &Shared<(K, L)>,
+    theirs: &Shared<(K, L)>,
+) -> Result<Shared<(K, L)>, NoMemory>
+    requires mine { IsTrue (is_sorted K.cmp (plain_entries L.plain mine.now)) }
+    requires theirs { IsTrue (is_sorted K.cmp (plain_entries L.plain theirs.now)) }
+    ensures joined { IfOk result (λ all. plain_entries L.plain all
+        ≡ joined_maps K.cmp L.joined
+        (plain_entries L.plain mine.now) (plain_entries L.plain theirs.now)) }
+    ensures ascending { IfOk result
+        (λ all. IsTrue (is_sorted K.cmp (plain_entries L.plain all))) }
+{
+    let of_mine = mine.as_slice();
+    let of_theirs = theirs.as_slice();
+    attest_entries(of_mine);
+    attest_entries(of_theirs);
+    if at_most_entries(of_theirs, of_mine) {
+        let all = mine.share()?;
+        Ok(all)
+    } else if at_most_entries(of_mine, of_theirs) {
+        theirs.share()
+    } else {
+        Shared::of(join_entries(mine.alloc(), of_mine, of_theirs)?)
+    }
+}
+
 /// The join of two maps: at each key the join of what stands there in both.
 pub fn join_entries<K: MapKey, L: AllFit>(
     alloc: Global,
@@ -91,14 +170,15 @@ pub fn join_entries<K: MapKey, L: AllFit>(
     Ok(all)
 }
 
-/// Equal entries.
+/// Equal entries, with room for so many more.
 pub fn copy_entries<K: MapKey, L: AllFit>(
     alloc: Global,
     entries: &[(K, L)],
+    more: usize,
 ) -> Result<Vec<(K, L)>, NoMemory>
     ensures { IfOk result (λ copies. AreSame L.plain copies.items entries.now) }
 {
-    let mut copies = Vec::with_capacity(alloc, entries.len())?;
+    let mut copies = Vec::with_capacity(alloc, entries.len().saturating_add(more))?;
     for entry in entries {
         copies.push(copy_entry(entry)?)?;
     }
@@ -220,9 +300,7 @@ fn join_entry<K: MapKey, L: AllFit>(mine: &(K, L), theirs: &(K, L)) -> Result<(K
     ensures value { IfOk result
         (λ both. L.plain both.1 ≡ L.joined (L.plain mine.now.1) (L.plain theirs.now.1)) }
 {
-    let mut both = copy_entry(mine)?;
-    both.1.join(&theirs.1)?;
-    Ok(both)
+    Ok((mine.0.copy()?, mine.1.merged(&theirs.1)?))
 }
 
 // How many of the entries, none or the first, the other map's first entry covers; nothing where the
@@ -262,6 +340,26 @@ mod tests {
         for (entry, key) in entries.iter().zip([3_u16, 7, 8]) {
             assert_eq!(rt; entry.0, key);
         }
+        Ok(())
+    }
+
+    #[test]
+    fn a_map_that_is_shared_is_copied_before_it_changes(rt: HostRuntime) -> Result<(), Fail> {
+        let mut mine = Shared::new(rt.alloc());
+        assert!(rt; push_shared(&mut mine, 3_u16, Member)?);
+        let theirs = mine.share()?;
+        assert!(rt; push_shared(&mut mine, 7, Member)?);
+        let others = mine.share()?;
+        raise_shared(&mut mine, 5, Member)?;
+        raise_shared(&mut mine, 4, Member)?;
+        assert_eq!(rt; theirs.as_slice().len(), 1);
+        assert_eq!(rt; others.as_slice().len(), 2);
+        assert_eq!(rt; mine.as_slice().len(), 4);
+        for (entry, key) in mine.as_slice().iter().zip([3_u16, 4, 5, 7]) {
+            assert_eq!(rt; entry.0, key);
+        }
+        let all = join_shared(&others, &mine)?;
+        assert_eq!(rt; all.as_slice().len(), 4);
         Ok(())
     }
 }

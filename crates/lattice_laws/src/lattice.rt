@@ -59,6 +59,17 @@ pub trait Lattice: Sized + Drop {
         ensures ok { OnOk result (plain self.new ≡ joined (plain self.old) (plain other.now)) }
         ensures err { OnErr result (plain self.new ≡ plain self.old) };
 
+    /// The join of the two elements, as a new one.
+    fn merged(&self, other: &Self) -> Result<Self, NoMemory>
+        requires { fits (plain self.now) (plain other.now) }
+        ensures { IfOk result (λ both. plain both
+            ≡ joined (plain self.now) (plain other.now)) }
+    {
+        let mut both = self.copy()?;
+        both.join(other)?;
+        Ok(both)
+    }
+
     /// An equal element.
     fn copy(&self) -> Result<Self, NoMemory>
         ensures { IfOk result (λ copy. plain copy ≡ plain self.now) };

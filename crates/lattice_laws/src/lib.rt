@@ -10,7 +10,8 @@
 //! joins a list, and [`joins_by_members_alone`] says that neither order nor repetition changes what
 //! comes out. [`entries`] has maps from a [`MapKey`] to such values, joined key by key in one pass; a
 //! map to [`Member`] is a set. [`Items`] is the list type of all fields that contracts see as lists,
-//! and [`Spelled`] what names and words have in common.
+//! [`Shared`] a list that copies share, in which maps and clocks keep their entries, and [`Spelled`]
+//! what names and words have in common.
 //!
 //! This crate stands on no other; it offers the words of `specs/` to the layers above: what a lattice
 //! is (`Lattice.antt`), joins of lists (`Joins.antt`), maps (`Entries.antt`), sets (`Sets.antt`), the
@@ -26,6 +27,7 @@ mod lattice;
 mod map_key;
 mod maybe;
 mod member;
+mod shared;
 mod spelling;
 
 pub use items::Items;
@@ -34,4 +36,5 @@ pub use lattice::{AllFit, Lattice, NoMemory};
 pub use map_key::MapKey;
 pub use maybe::Maybe;
 pub use member::Member;
+pub use shared::Shared;
 pub use spelling::{Misspelled, Spelled, test_spelling};

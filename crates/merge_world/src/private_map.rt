@@ -39,10 +39,10 @@ impl KeyCells {
             return Ok(());
         }
         let one = Cell::of_put(alloc, put)?;
-        let mut own = self.own.copy()?;
-        merge(&mut own, &one)?;
-        merge(&mut self.whole, &one)?;
-        self.own = own;
+        let mut whole = self.whole.copy()?;
+        merge(&mut whole, &one)?;
+        merge(&mut self.own, &one)?;
+        self.whole = whole;
         Ok(())
     }
 

@@ -184,7 +184,7 @@ impl Lattice for Versions {
 
     fn copy(&self) -> Result<Versions, NoMemory> {
         Ok(Versions {
-            versions: copy_entries(*self.versions.allocator(), self.versions.as_slice())?,
+            versions: copy_entries(*self.versions.allocator(), self.versions.as_slice(), 0)?,
         })
     }
 

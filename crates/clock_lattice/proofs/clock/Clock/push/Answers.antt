@@ -6,6 +6,6 @@ use Rattle.clock_lattice.proofs.clock.Clock.push.Goals as goal
 
 pub invariant_of-self : goal.invariant_of-self
 invariant_of-self c =
-    map_after_push nat_cmp (λ session. session < 2 ^ 16) IsCount c.push_entry.result _ (c.args.session, c.of.result) _
-    c.push_entry.ensures.pushed c.push_entry.ensures.err c.push_entry.ensures.ascending
+    map_after_push nat_cmp (λ session. session < 2 ^ 16) IsCount c.push_shared.result _ (c.args.session, c.of.result) _
+    c.push_shared.ensures.pushed c.push_shared.ensures.err c.push_shared.ensures.ascending
     (c.ranges.session.fits, (omega (arith, c.of.ensures), omega (arith, c.of.ensures, c.ranges.n.fits))) c.self.invariant
