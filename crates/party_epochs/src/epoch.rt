@@ -6,7 +6,7 @@ ghost use Rattle.parties.specs.Progress.{HasMovedOn};
 ghost use Rattle.party_turns.specs.Places.{EachBecomes};
 
 use crate::parts::{PolledPart, Turned};
-use crate::{Gate, Piece, PolledOver, TurnedOver, run_both};
+use crate::{Activity, Gate, Piece, PolledOver, TurnedOver, run_both};
 use lattice_laws::NoMemory;
 use mail_contract::{GossipRx, Rx, Tx};
 use parties::{Parties, Polled, Run, SessionOver};
@@ -170,7 +170,8 @@ where
     ensures polled { OnOk result (Pairwise ⟦<PolledPart<P> as Piece>⟧.becomes
         polled.old.items polled.new.items) }
 {
-    run_both(rt, gate, turned, polled)
+    let activity = Activity::new(turned.len() as u64 + polled.len() as u64);
+    run_both(rt, gate, &activity, turned, polled)
 }
 
 /// Runs an epoch: every party takes its turns beside the others, at most 128, and how each session moved on is

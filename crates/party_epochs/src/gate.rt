@@ -1,7 +1,6 @@
 //! What is told of each turn in an epoch.
+use crate::Activity;
 use parties::Pace;
-use std::hint::spin_loop;
-use std::thread::yield_now;
 
 /// Is called before each turn of each party in an epoch. It changes nothing that a contract sees.
 pub trait Gate {
@@ -18,26 +17,58 @@ impl Gate for FreeGate {
     fn at(&self, _party: u16, _turn: u64) {}
 }
 
-/// After how many turns in a row that found nothing to do a party leaves the epoch.
-const MOST_WAITS: u32 = 32;
-
-/// A party spins for 2 to the power of this many pauses at most, which takes some microseconds.
-const LONGEST_SPIN: u32 = 9;
-
 /// The pace of a party in an epoch. Before each turn the gate is called. Where a turn found nothing to do the party
-/// waits a little before the next one: it gives its place on the core away and spins by turns, for longer each time;
-/// and after many such turns in a row it leaves the epoch. So it waits for what others do beside it, lets those go on
-/// that share its core, and costs few slices of a core that other programs want.
+/// waits until others have done something, and leaves the epoch where nobody is at work.
 #[derive(Drop)]
 pub(crate) struct EpochPace<'a, E: Gate> {
-    pub(crate) gate: &'a E,
-    pub(crate) party: u16,
+    gate: &'a E,
+    activity: &'a Activity,
+    party: u16,
     /// How many turns it has taken.
     pub(crate) turns: u64,
-    /// How many turns in a row found nothing to do, up to the last one that did.
-    pub(crate) waits: u32,
-    /// Whether the last turn is one of them.
-    pub(crate) waited: bool,
+    /// How many turns of all parties had done something before its last one.
+    seen: u64,
+    /// Whether its last turn found nothing to do, or it has taken none yet.
+    waited: bool,
+    /// Whether it has left the epoch.
+    left: bool,
+}
+
+impl<'a, E: Gate> EpochPace<'a, E> {
+    ghost use Rattle.std.specs.Prelude.{◌≡◌};
+
+    /// The pace of the party of this number, which has taken so many turns.
+    pub(crate) fn new(
+        gate: &'a E,
+        activity: &'a Activity,
+        party: u16,
+        turns: u64,
+    ) -> EpochPace<'a, E>
+        ensures { result.turns ≡ turns }
+    {
+        EpochPace {
+            gate,
+            activity,
+            party,
+            turns,
+            seen: 0,
+            waited: true,
+            left: false,
+        }
+    }
+
+    /// The party takes no more turns in this epoch: tells how many it has taken.
+    pub(crate) fn leave(self) -> u64
+        ensures { result ≡ self.entry.turns }
+    {
+        if !self.left {
+            if !self.waited {
+                self.activity.tell_done();
+            }
+            self.activity.leave();
+        }
+        self.turns
+    }
 }
 
 impl<'a, E: Gate> Pace for EpochPace<'a, E> {
@@ -45,23 +76,18 @@ impl<'a, E: Gate> Pace for EpochPace<'a, E> {
 
     fn begin(&mut self) {
         if !self.waited {
-            self.waits = 0;
+            self.activity.tell_done();
         }
         self.waited = false;
+        self.seen = self.activity.done();
         self.turns = self.turns.saturating_add(1);
         self.gate.at(self.party, self.turns);
     }
 
     fn tries_again(&mut self) -> bool {
-        if self.waits % 2 == 0 {
-            yield_now();
-        } else {
-            for _ in 0..1u32 << self.waits.min(LONGEST_SPIN) {
-                spin_loop();
-            }
-        }
-        self.waits = self.waits.saturating_add(1);
         self.waited = true;
-        self.waits < MOST_WAITS
+        let again = self.activity.wait(self.seen);
+        self.left = !again;
+        again
     }
 }

@@ -1,6 +1,6 @@
 //! The parts that workers and sessions take in an epoch.
 use crate::gate::EpochPace;
-use crate::{Gate, Piece};
+use crate::{Activity, Gate, Piece};
 use lattice_laws::NoMemory;
 use mail_contract::{GossipRx, Rx, Tx};
 use parties::{Polled, SessionOver, poll_often, turn_often};
@@ -35,17 +35,11 @@ impl<Q: Rx<Request>, T: Tx<Reply>, O: Tx<Batch>, G: GossipRx<Batch, From = O>> P
         (workers.lists_of Q.received T.sent O.sent G.got now.worker))
         × RoseAtMost 128 before.turns now.turns };
 
-    fn part<E: Gate>(&mut self, gate: &E) -> Result<(), NoMemory> {
-        let mut pace = EpochPace {
-            gate,
-            party: self.party,
-            turns: self.turns,
-            waits: 0,
-            waited: false,
-        };
-        turn_often(&mut pace, &mut self.worker, MOST_TURNS)?;
-        self.turns = pace.turns;
-        Ok(())
+    fn part<E: Gate>(&mut self, gate: &E, activity: &Activity) -> Result<(), NoMemory> {
+        let mut pace = EpochPace::new(gate, activity, self.party, self.turns);
+        let turned = turn_often(&mut pace, &mut self.worker, MOST_TURNS);
+        self.turns = pace.leave();
+        turned
     }
 }
 
@@ -81,16 +75,11 @@ impl<S: Tx<Request>, R: Rx<Reply>> Piece for PolledOver<S, R> {
         (sessions.lists_of S.sent R.received (proxy_of now.session)))
         × RoseAtMost 128 before.turns now.turns };
 
-    fn part<E: Gate>(&mut self, gate: &E) -> Result<(), NoMemory> {
-        let mut pace = EpochPace {
-            gate,
-            party: self.party,
-            turns: self.turns,
-            waits: 0,
-            waited: false,
-        };
-        self.polled = poll_often(&mut pace, &mut self.session, MOST_TURNS)?;
-        self.turns = pace.turns;
+    fn part<E: Gate>(&mut self, gate: &E, activity: &Activity) -> Result<(), NoMemory> {
+        let mut pace = EpochPace::new(gate, activity, self.party, self.turns);
+        let polled = poll_often(&mut pace, &mut self.session, MOST_TURNS);
+        self.turns = pace.leave();
+        self.polled = polled?;
         Ok(())
     }
 }

@@ -3,7 +3,7 @@ ghost use Rattle.std.specs.Prelude.{OnOk};
 ghost use Rattle.std.specs.Thread.{IsSend, IsSync};
 ghost use Rattle.party_epochs.specs.Pieces.{Pairwise};
 
-use crate::Gate;
+use crate::{Activity, Gate};
 use lattice_laws::NoMemory;
 use std::thread::{Threads, join_mut};
 
@@ -13,7 +13,7 @@ pub trait Piece {
     ghost becomes: { Self → Self → Type 0 };
 
     /// Takes its turns of one epoch.
-    fn part<E: Gate>(&mut self, gate: &E) -> Result<(), NoMemory>
+    fn part<E: Gate>(&mut self, gate: &E, activity: &Activity) -> Result<(), NoMemory>
         ensures { OnOk result (becomes self.old self.new) };
 }
 
@@ -22,13 +22,14 @@ pub trait Piece {
 pub fn run_pieces<T: Piece + Send, E: Gate + Sync, H: Threads + Sync>(
     rt: &H,
     gate: &E,
+    activity: &Activity,
     pieces: &mut [T],
 ) -> Result<(), NoMemory>
     ensures { OnOk result (Pairwise T.becomes pieces.old pieces.new) }
 {
     match pieces {
         [] => Ok(()),
-        [piece] => piece.part(gate),
+        [piece] => piece.part(gate, activity),
         _ => {
             let half = pieces.len() / 2;
             let (front, back) = pieces.split_at_mut(half);
@@ -37,11 +38,11 @@ pub fn run_pieces<T: Piece + Send, E: Gate + Sync, H: Threads + Sync>(
                 &mut || -> Result<(), NoMemory>
                     requires { IsSync H.row × IsSync E.row × IsSend T.row }
                     ensures { OnOk result (Pairwise T.becomes front.entry.now front.exit.now) }
-                { run_pieces(rt, gate, front) },
+                { run_pieces(rt, gate, activity, front) },
                 &mut || -> Result<(), NoMemory>
                     requires { IsSync H.row × IsSync E.row × IsSend T.row }
                     ensures { OnOk result (Pairwise T.becomes back.entry.now back.exit.now) }
-                { run_pieces(rt, gate, back) },
+                { run_pieces(rt, gate, activity, back) },
             );
             one?;
             other
@@ -53,6 +54,7 @@ pub fn run_pieces<T: Piece + Send, E: Gate + Sync, H: Threads + Sync>(
 pub fn run_both<A: Piece + Send, B: Piece + Send, E: Gate + Sync, H: Threads + Sync>(
     rt: &H,
     gate: &E,
+    activity: &Activity,
     ones: &mut [A],
     others: &mut [B],
 ) -> Result<(), NoMemory>
@@ -64,11 +66,11 @@ pub fn run_both<A: Piece + Send, B: Piece + Send, E: Gate + Sync, H: Threads + S
         &mut || -> Result<(), NoMemory>
             requires { IsSync H.row × IsSync E.row × IsSend A.row }
             ensures { OnOk result (Pairwise A.becomes ones.entry.now ones.exit.now) }
-        { run_pieces(rt, gate, ones) },
+        { run_pieces(rt, gate, activity, ones) },
         &mut || -> Result<(), NoMemory>
             requires { IsSync H.row × IsSync E.row × IsSend B.row }
             ensures { OnOk result (Pairwise B.becomes others.entry.now others.exit.now) }
-        { run_pieces(rt, gate, others) },
+        { run_pieces(rt, gate, activity, others) },
     );
     one?;
     other
