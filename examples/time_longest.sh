@@ -1,32 +1,35 @@
 #!/usr/bin/env bash
-# Times the program on long scripts, and prints how long each run took: large work; the longest script that it takes,
-# 1,048,576 bytes with 4,096 commands, on 8 workers with 3 replicas a key, and scripts with a half and a quarter of its
-# commands, whose reports are checked too; as many commands on 128 keys with 8 replicas; 2,048 puts of words of 60 bytes
+# Times the program on long scripts, and prints of each how long the shortest of five runs took: large work; the longest
+# script that it takes, 1,048,576 bytes with 4,096 commands of sessions of all levels, on 8 workers with 3 replicas a key,
+# and scripts with a half and a quarter of its commands, whose reports are checked too; as many commands on 128 keys with
+# 8 replicas; as many of eventual sessions alone, on 1 and 8 workers, and of causal ones; 2,048 puts of words of 60 bytes
 # into one set with a get after each, and the same into one map (130 MB of report each); and 4,096 puts by 16 sessions to
 # one key and to 128 keys, on 1, 2, 4 and 8 workers. With `taskset -c 0,1` before it all runs on two cores.
 set -u
 top=$(cd "$(dirname "$(readlink -f "$0")")/.." && pwd) || exit 1
 program=$top/crates/anna_run/out/anna_run
+ulimit -S -s 1024 # as ./anna has it
 folder=$(mktemp -d) || exit 1
 trap 'rm -rf "$folder"' EXIT
 
-# A script with so many commands in 16 sessions of all levels on 128 keys of all kinds, each on so many of 8 workers,
-# filled up to so many bytes by comments.
+# A script with so many commands in 16 sessions on 128 keys of all kinds, each on so many of so many workers, filled up
+# to so many bytes by comments. The sessions have these levels in turn.
 make_script() {
-    awk -v commands="$1" -v factor="$2" -v bytes="$3" 'BEGIN {
+    awk -v commands="$1" -v workers="$2" -v factor="$3" -v bytes="$4" -v all="$5" 'BEGIN {
         split("max or set map last versions", kinds, " ")
-        split("eventual committed causal", levels, " ")
-        text = "anna 1\nworkers 8\nfactor " factor "\n"
+        many = split(all, levels, " ")
+        text = "anna 1\nworkers " workers "\nfactor " factor "\n"
         for (k = 0; k < 128; k++)
             text = text "key k" k " " kinds[k % 6 + 1] "\n"
         each = commands / 16
         for (s = 0; s < 16; s++) {
-            text = text "session s" s " " levels[s % 3 + 1] "\n"
+            level = levels[s % many + 1]
+            text = text "session s" s " " level "\n"
             for (c = 0; c < each; c++) {
                 k = (s * each + c) % 128
-                if (s % 3 == 1 && c % 16 == 0)
+                if (level == "committed" && c % 16 == 0)
                     text = text "begin\n"
-                else if (s % 3 == 1 && c % 16 == 15)
+                else if (level == "committed" && c % 16 == 15)
                     text = text "commit\n"
                 else if (c % 4 == 3)
                     text = text "get k" k "\n"
@@ -82,49 +85,61 @@ make_puts() {
     }'
 }
 
-# Runs the script so many times, and says how long one run took.
-time_run() {
-    local begun ended turn took=0
-    for ((turn = 0; turn < $2; turn++)); do
+# The milliseconds that the shortest of five runs takes, with these words and the script as input.
+least() {
+    local begun took turn best=
+    for ((turn = 0; turn < 5; turn++)); do
         rm -f "$folder/report" # emptying a long one takes time of its own
         begun=$(date +%s%N)
-        "$program" run <"$folder/script" >"$folder/report" || exit 1
-        ended=$(date +%s%N)
-        took=$((took + ended - begun))
+        "$program" "$@" <"$folder/script" >"$folder/report" || exit 1
+        took=$((($(date +%s%N) - begun) / 100000))
+        [ -n "$best" ] && [ "$best" -le "$took" ] || best=$took
     done
-    echo "$1, $(wc -c <"$folder/script") bytes in, $(wc -c <"$folder/report") bytes out: $((took / $2 / 1000000)) ms"
+    echo "$((best / 10)).$((best % 10)) ms"
 }
 
-# Checks the report of the script, and says how long that took.
+# Runs the script, and says how long that takes.
+time_run() {
+    local took
+    took=$(least run) || exit 1
+    echo "$1: $took"
+}
+
+# Checks the report of the script, and says how long that takes.
 time_check() {
-    local begun ended
-    begun=$(date +%s%N)
-    cat "$folder/script" "$folder/report" | "$program" check >/dev/null || exit 1
-    ended=$(date +%s%N)
-    echo "$1, checked: $(((ended - begun) / 1000000)) ms"
+    local took
+    cat "$folder/report" >>"$folder/script"
+    took=$(least check) || exit 1
+    echo "$1, checked: $took"
 }
 
 "$top/anna" run <"$top/examples/first.anna" >/dev/null || exit 1 # builds it where that is due, and is not timed
-begun=$(date +%s%N)
-for turn in 1 2 3 4 5; do
-    "$program" big 7 >/dev/null || exit 1
-done
-ended=$(date +%s%N)
-echo "big 7: $(((ended - begun) / 5000000)) ms"
+all="eventual committed causal"
+: >"$folder/script"
+took=$(least big 7) || exit 1
+echo "big 7: $took"
 for commands in 1024 2048 4096; do
-    make_script "$commands" 3 $((commands * 256)) >"$folder/script"
-    time_run "$commands commands on 8 workers, 3 replicas a key" 5
-    time_check "$commands commands"
+    make_script "$commands" 8 3 $((commands * 256)) "$all" >"$folder/script"
+    time_run "$commands commands of all levels on 8 workers, 3 replicas a key"
+    time_check "$commands commands of all levels"
 done
-make_script 4096 8 0 >"$folder/script"
-time_run "4096 commands on 8 workers, 8 replicas a key" 5
+make_script 4096 8 8 0 "$all" >"$folder/script"
+time_run "4096 commands of all levels on 8 workers, 8 replicas a key"
+make_script 4096 1 1 0 eventual >"$folder/script"
+time_run "4096 commands of eventual sessions on 1 worker"
+make_script 4096 8 3 0 eventual >"$folder/script"
+time_run "4096 commands of eventual sessions on 8 workers, 3 replicas a key"
+for commands in 1024 2048 4096; do
+    make_script "$commands" 8 3 0 causal >"$folder/script"
+    time_run "$commands commands of causal sessions on 8 workers, 3 replicas a key"
+done
 for kind in set map; do
     make_words "$kind" >"$folder/script"
-    time_run "2048 puts of words into one $kind with a get after each" 1
+    time_run "2048 puts of words into one $kind with a get after each"
 done
 for keys in 1 128; do
     for workers in 1 2 4 8; do
         make_puts "$workers" "$keys" >"$folder/script"
-        time_run "4096 puts by 16 sessions, keys: $keys, workers: $workers, each with all keys" 10
+        time_run "4096 puts by 16 sessions, keys: $keys, workers: $workers, each with all keys"
     done
 done
