@@ -101,28 +101,50 @@ fn taken_from_weak<M: Drop, P: MakesGossip<M>>(
     Ok(taken)
 }
 
-/// Whether a box of each kind of message hands out what its two senders sent, the first one's first, and no
-/// more.
-fn all_hand_out<P: MakesMail<Request> + MakesMail<Reply> + MakesGossip<Batch>>(
+/// Whose messages a box hands out once its two senders have sent: the first one's first, and no more.
+const BOTH: [Option<u16>; 3] = [Some(1), Some(2), None];
+
+/// Whether a box of requests hands out what was sent.
+fn requests_are_handed_out<P: MakesMail<Request>>(
     maker: &P,
     alloc: Global,
 ) -> Result<bool, NoMemory> {
-    let both = [Some(1), Some(2), None];
     let ask = Request::Get {
         ask: 1,
         key: 1,
         required: Clock::new(alloc),
     };
     let again = ask.copy()?;
-    let cell = Cell::empty(alloc, Kind::Max);
-    let reply = Reply::answer(1, 1, 1, &Clock::new(alloc), &cell)?;
+    Ok(taken_from(maker, alloc, ask, again)? == BOTH)
+}
+
+/// Whether a box of replies does.
+fn replies_are_handed_out<P: MakesMail<Reply>>(maker: &P, alloc: Global) -> Result<bool, NoMemory> {
+    let reply = Reply::answer(1, 1, 1, &Clock::new(alloc), &Cell::empty(alloc, Kind::Max))?;
     let also = reply.copy()?;
-    let (tell, once_more) = (Batch::new(alloc)?, Batch::new(alloc)?);
-    Ok(
-        taken_from::<Request, P>(maker, alloc, ask, again)? == both
-            && taken_from::<Reply, P>(maker, alloc, reply, also)? == both
-            && taken_from_weak::<Batch, P>(maker, alloc, tell, once_more)? == both,
-    )
+    Ok(taken_from(maker, alloc, reply, also)? == BOTH)
+}
+
+/// Whether a weak box of batches does.
+fn batches_are_handed_out<P: MakesGossip<Batch>>(
+    maker: &P,
+    alloc: Global,
+) -> Result<bool, NoMemory> {
+    let tell = Batch::new(alloc)?;
+    let again = Batch::new(alloc)?;
+    Ok(taken_from_weak(maker, alloc, tell, again)? == BOTH)
+}
+
+/// Whether a box of each kind of message hands out what its two senders sent, the first one's first, and no
+/// more.
+fn all_hand_out<P: MakesMail<Request> + MakesMail<Reply> + MakesGossip<Batch>>(
+    maker: &P,
+    alloc: Global,
+) -> Result<bool, NoMemory> {
+    let requests = requests_are_handed_out(maker, alloc)?;
+    let replies = replies_are_handed_out(maker, alloc)?;
+    let batches = batches_are_handed_out(maker, alloc)?;
+    Ok(requests && replies && batches)
 }
 
 /// Boxes over rings hand out what their senders sent, in turn.

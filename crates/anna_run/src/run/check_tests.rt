@@ -3,6 +3,7 @@ use super::tests::CONVERGED;
 use super::*;
 use outside::{MemSink, MemSource, SureSink, SureSource};
 use party_run::FreeGate;
+use std::rt::Clock;
 use std::test::Fail;
 
 /// A script, and a report that is legal for it.

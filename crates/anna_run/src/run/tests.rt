@@ -4,6 +4,7 @@ ghost use Rattle.std.specs.Prelude.{None};
 use super::*;
 use outside::{Failed, MemSink, MemSource, SureSink, SureSource};
 use party_run::FreeGate;
+use std::rt::Clock;
 use std::test::Fail;
 
 pub(super) const FIRST: &str =
