@@ -1,5 +1,5 @@
 #!/usr/bin/env python3
-"""Runs the program on generated scripts, of all levels and kinds and with 1 to 8 workers, and has each report judged.
+"""Runs the program on generated scripts, of both versions, all levels and kinds and with 1 to 8 workers, and has each report judged.
 
 usage: judge_many.py [COUNT [SEED]]   so many scripts, 300 where none is given, from this seed on
 """
@@ -40,16 +40,26 @@ def commands(draw, level, keys, sessions):
         yield "commit"
 
 
+def place(draw, version, workers, pins):
+    """What the line of a key says of its workers."""
+    if pins:
+        return " at " + " ".join(map(str, pins))
+    if version == 2 and draw.random() < 0.7:
+        return f" factor {draw.randrange(1, workers + 1)}"
+    return ""
+
+
 def script(draw):
     """A script."""
     workers = draw.randrange(1, 9)
-    lines = ["anna 1", f"workers {workers}", f"factor {draw.randrange(1, workers + 1)}", f"round {draw.randrange(1, 9)}"]
+    version = draw.randrange(1, 3)
+    lines = [f"anna {version}", f"workers {workers}", f"factor {draw.randrange(1, workers + 1)}", f"round {draw.randrange(1, 9)}"]
     keys = {}
     for number in range(draw.randrange(1, 12)):
         kind = draw.choice(KINDS)
         pins = draw.sample(range(1, workers + 1), draw.randrange(workers + 1))
         keys[f"k{number}"] = kind, pins
-        lines.append(f"key k{number} {kind}" + (" at " + " ".join(map(str, pins)) if pins else ""))
+        lines.append(f"key k{number} {kind}{place(draw, version, workers, pins)}")
     sessions = [f"s{number}" for number in range(draw.randrange(17))]
     for session in sessions:
         level = draw.choice(["eventual", "committed", "causal"])

@@ -8,6 +8,7 @@ use Rattle.std.proofs.lemmas.List.{get_or-map, length-map, take-map, drop-map, t
 use Rattle.std.proofs.lemmas.List.Elements.{All-append, All-head, All-map, All-nil, All-same, All-tail, All-weaker, filter-append}
 use Rattle.std.proofs.Math.Seq.{take-append_seam, drop-append_seam}
 use Rattle.lattice_laws.proofs.ListLemmas.{filter_all}
+use Rattle.session_known.proofs.PlacesLemmas.{place, places_of_key, places_from, cells_at_first, cells_at_second, of_key, of_keys_from}
 use Rattle.session_known.specs.declared.report.FinalCell.{FinalCell}
 use Rattle.big_work.specs.Big.{least_cell}
 use Rattle.big_work.specs.Parts.{first_cells}
@@ -23,53 +24,6 @@ flat_map_from : {X : Type 0} (f g : ℕ → List X) (start n : ℕ) → ((key : 
 flat_map_from f g start zero same = refl
 flat_map_from f g start (suc n) same =
     λ j. same start (omega arith) j ++ flat_map_from f g (start + 1) n (λ key from. same key (omega arith)) j
-
--- where a cell stands
-abbrev place : FinalCell → ℕ × ℕ
-place cell = (cell.key, cell.worker)
-
--- the places of a key
-abbrev places_of_key : (ℕ → List ℕ) → ℕ → List (ℕ × ℕ)
-places_of_key workers key = map (λ worker. (key, worker)) (workers key)
-
--- the cells that stand at the first of two lists of places, and at the second
-cells_at_first : (cells : List FinalCell) (places others : List (ℕ × ℕ)) → map place cells ≡ places ++ others → map place (take (length places) cells) ≡ places
-cells_at_first cells places others are =
-    sym (take-map place (length places) cells) ∙ ap (take (length places)) are ∙ take-append_seam places others
-
-cells_at_second : (cells : List FinalCell) (places others : List (ℕ × ℕ)) → map place cells ≡ places ++ others → map place (drop (length places) cells) ≡ others
-cells_at_second cells places others are =
-    sym (drop-map place (length places) cells) ∙ ap (drop (length places)) are ∙ drop-append_seam places others
-
--- what holds of the places of cells
-All-from_places : (P : ℕ × ℕ → Type 0) (cells : List FinalCell) → All P (map place cells) → All (λ cell. P (place cell)) cells
-All-from_places P cells all k d within = subst P (get_or-map place cells k d (place d) within) (all k (place d) (omega (arith, length-map cells place)))
-
--- cells that stand at places of a key have the key
-of_key : (key : ℕ) (workers : List ℕ) (cells : List FinalCell) → map place cells ≡ map (λ worker. (key, worker)) workers → All (λ cell. cell.key ≡ key) cells
-of_key key workers cells are =
-    let IsOf : ℕ × ℕ → Type 0 = λ p. p.0 ≡ key in
-    All-from_places IsOf cells (All-same IsOf (map place cells) (map (λ worker. (key, worker)) workers) are (All-map IsOf (λ worker. (key, worker)) workers (λ k d within. refl)))
-
--- the places of keys from one on
-abbrev places_from : (ℕ → List ℕ) → ℕ → ℕ → List (ℕ × ℕ)
-places_from workers start n = flat_map (places_of_key workers) (range_with_len start n)
-
--- cells that stand there have such a key
-of_keys_from : (workers : ℕ → List ℕ) (start n : ℕ) (cells : List FinalCell) → map place cells ≡ places_from workers start n → All (λ cell. start ≤ cell.key) cells
-of_keys_from workers start zero [] are = All-nil (λ (cell : FinalCell). start ≤ cell.key)
-of_keys_from workers start zero (cell ∷ cells) are = cc
-of_keys_from workers start (suc n) cells are =
-    let places = places_of_key workers start in
-    let first = take (length places) cells in
-    let others = drop (length places) cells in
-    let From : FinalCell → Type 0 = λ cell. start ≤ cell.key in
-    let at_first : All From first =
-    All-weaker (λ cell. cell.key ≡ start) From (λ cell is. omega (arith, is)) first (of_key start (workers start) first (cells_at_first cells places (places_from workers (start + 1) n) are)) in
-    let at_others : All From others =
-    All-weaker (λ cell. start + 1 ≤ cell.key) From (λ cell is. omega (arith, is)) others
-    (of_keys_from workers (start + 1) n others (cells_at_second cells places (places_from workers (start + 1) n) are)) in
-    All-same From cells (first ++ others) (sym (take-append-drop (length places) cells)) (All-append From first others at_first at_others)
 
 -- ---- the first of each key
 

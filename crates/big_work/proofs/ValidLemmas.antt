@@ -16,7 +16,7 @@ use Rattle.composed_value.specs.Put.{IsPayload}
 use Rattle.composed_value.specs.declared.kind.Kind.{Kind}
 use Rattle.composed_value.specs.declared.kind.Kind.TheVariants as kinds
 use Rattle.mail_contract.specs.Scrambled.{draw_of, next_state}
-use Rattle.placement.specs.Config.{ArePins, IsOneOf, placed}
+use Rattle.placement.specs.Config.{ArePins, IsOwnFactor, IsOneOf, placed}
 use Rattle.placement.specs.Name.{IsName}
 use Rattle.placement.specs.declared.config.KeyPlace.{KeyPlace}
 use Rattle.placement.proofs.ConfigLemmas.{is_placement}
@@ -239,6 +239,7 @@ sessions_valid script table keys kinds_are session (suc n) state =
 -- The script of a number is valid.
 pub big_is_valid : (number : ℕ) → IsValidScript (script_of number) (placed (script_of number).config)
 big_is_valid number = record {
+  version = (lit≤ tt, lit≤ tt);
   config = record {
     workers_some = lit≤ tt;
     workers_most = lit≤ tt;
@@ -246,6 +247,7 @@ big_is_valid number = record {
     factor_most = lit≤ tt;
     keys_most = lit≤ tt;
     pins = All-from_range (λ (key : KeyPlace). ArePins 4 key.pins) key_place 32 (λ key one. no_pins);
+    factors = All-from_range (IsOwnFactor 4) key_place 32 (λ key one. tt);
   };
   placed = is_placement (script_of number).config;
   round = (lit≤ tt, lit≤ tt);

@@ -44,7 +44,7 @@ session_level session = turn_level ((session - 1) % 3)
 
 -- a key that lives where the ring says
 abbrev pub key_place : ℕ → KeyPlace
-key_place key = record { name = codes "k" ++ decimal key; pins = [] }
+key_place key = record { name = codes "k" ++ decimal key; pins = []; factor = None }
 
 -- ---- commands
 
@@ -101,6 +101,7 @@ session_plans session (suc more) state =
 -- Four workers, three replicas a key, 32 keys of four kinds, and eight sessions of 400 commands; the generator starts with the number.
 abbrev pub script_of : ℕ → Script
 script_of number = record {
+  version = 1;
   config = record { workers = 4; factor = 3; keys = map key_place (range_with_len 1 32) };
   round = 4;
   kinds = map key_kind (range_with_len 1 32);

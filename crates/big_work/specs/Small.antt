@@ -1,5 +1,5 @@
 -- A small script, of one key with two replicas and one session whose transaction puts once, and a legal report of it, for the tests.
-use Rattle.std.specs.Prelude.{ℕ, [], ◌∷◌, codes}
+use Rattle.std.specs.Prelude.{ℕ, [], ◌∷◌, codes, None}
 use Rattle.lattice_laws.specs.declared.maybe.Maybe.TheVariants.{Is}
 use Rattle.composed_value.specs.declared.kind.Kind.TheVariants as kinds
 use Rattle.composed_value.specs.declared.payload.Payload.TheVariants as payloads
@@ -17,7 +17,8 @@ small_plan = record { name = codes "s"; level = Committed; lines = lines.Begin �
 
 abbrev pub small_script : Script
 small_script = record {
-  config = record { workers = 2; factor = 1; keys = record { name = codes "a"; pins = 2 ∷ 1 ∷ [] } ∷ [] };
+  version = 1;
+  config = record { workers = 2; factor = 1; keys = record { name = codes "a"; pins = 2 ∷ 1 ∷ []; factor = None } ∷ [] };
   round = 4;
   kinds = kinds.Max ∷ [];
   sessions = small_plan ∷ [];

@@ -25,6 +25,7 @@ pub fn big_script(alloc: Global, number: u64) -> Result<Script, NoMemory>
         sum_by (λ plan. length plan.lines) script.sessions ≡ 3200) }
 {
     Ok(Script {
+        version: 1,
         config: Config {
             workers: 4,
             factor: 3,
@@ -47,6 +48,7 @@ fn key_places(alloc: Global) -> Result<Items<KeyPlace>, NoMemory>
         keys.push(KeyPlace {
             name: name(alloc, "k", key)?,
             pins: Items::new(Vec::new(alloc)),
+            factor: None,
         })?;
     }
     Ok(Items::new(keys))

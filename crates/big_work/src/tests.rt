@@ -128,6 +128,7 @@ fn small_script(alloc: Global) -> Result<Script, Fail>
     let key = KeyPlace {
         name: Name::of(b"a")?,
         pins,
+        factor: None,
     };
     let plan = SessionPlan {
         name: Name::of(b"s")?,
@@ -135,6 +136,7 @@ fn small_script(alloc: Global) -> Result<Script, Fail>
         lines,
     };
     Ok(Script {
+        version: 1,
         config: Config {
             workers: 2,
             factor: 1,

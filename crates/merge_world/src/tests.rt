@@ -1,6 +1,6 @@
 //! Runs of the protocol, and what they end in.
 ghost use Rattle.std.specs.Prelude.{◌≡◌, ◌+◌, ◌<◌, ◌≤◌, ◌^◌, [], All, length, IfOk, OnOk};
-ghost use Rattle.placement.specs.Config.{ArePins, IsValidConfig};
+ghost use Rattle.placement.specs.Config.{ArePins, IsOwnFactor, IsValidConfig};
 
 use crate::{Event, Took, World, run_world};
 use clock_lattice::{Clock, Needs};
@@ -20,22 +20,34 @@ fn one_key(alloc: Global) -> Result<Config, Fail>
     Ok(Config {
         workers: 2,
         factor: 1,
-        keys: Items::new(vec![in alloc; KeyPlace { name, pins }]?),
+        keys: Items::new(vec![in alloc;
+            KeyPlace {
+                name,
+                pins,
+                factor: None
+            },
+        ]?),
     })
 }
 
 /// A key of one letter, which lives at workers 1 and 2.
 fn key(alloc: Global, letter: u8) -> Result<KeyPlace, Fail>
-    ensures { IfOk result (λ key. ArePins 2 key.pins) }
+    ensures pins { IfOk result (λ key. ArePins 2 key.pins) }
+    ensures factor { IfOk result (IsOwnFactor 2) }
 {
     let name = Name::of(&[letter])?;
     let pins = Items::new(vec![in alloc; 1, 2]?);
-    Ok(KeyPlace { name, pins })
+    Ok(KeyPlace {
+        name,
+        pins,
+        factor: None,
+    })
 }
 
 /// Keys a to q, each of which lives at workers 1 and 2.
 fn keys_a_to_q(alloc: Global) -> Result<Vec<KeyPlace>, Fail>
     ensures pins { IfOk result (λ keys. All (λ key. ArePins 2 key.pins) keys.items) }
+    ensures factors { IfOk result (λ keys. All (IsOwnFactor 2) keys.items) }
     ensures seventeen { IfOk result (λ keys. length keys.items ≡ 17) }
 {
     let mut keys = Vec::new(alloc);
@@ -87,6 +99,26 @@ fn heard(message: u32) -> Event {
     Event::Deliver { worker: 2, message }
 }
 
+/// What happens to key 1, which worker 2 hears of.
+#[derive(Clone, Copy)]
+enum Happening {
+    /// Session 1 puts a number at worker 1: its put of this number.
+    Put(u64, u64),
+    /// Worker 1 tells worker 2.
+    Tell,
+    /// A message comes to worker 2.
+    Hear(u32),
+}
+
+/// The event of what happens.
+fn event_of(alloc: Global, what: Happening) -> Result<Event, Fail> {
+    match what {
+        Happening::Put(number, max) => Ok(put(alloc, 1, 1, number, max)),
+        Happening::Tell => send(alloc, 1, 2),
+        Happening::Hear(message) => Ok(heard(message)),
+    }
+}
+
 /// An event of a world with few messages.
 fn happens(world: &mut World, event: Event) -> Result<Took, Fail>
     requires { length world.old.pool < 2 ^ 32 }
@@ -126,21 +158,22 @@ fn gossip_comes_late_and_again(rt: HostRuntime) -> Result<(), Fail> {
     let kinds = Items::new(vec![in alloc; Kind::Max]?);
     let mut world = World::new(alloc, placement, kinds)?;
     assert!(rt; world.settled());
-    assert_eq!(rt; happens(&mut world, put(alloc, 1, 1, 1, 5))?, Took::Done);
-    assert_eq!(rt; happens(&mut world, send(alloc, 1, 2)?)?, Took::Done);
-    assert_eq!(rt; happens(&mut world, put(alloc, 1, 1, 2, 3))?, Took::Done);
-    assert_eq!(rt; happens(&mut world, heard(0))?, Took::Done);
-    assert_eq!(rt; happens(&mut world, heard(0))?, Took::Done);
-    assert_eq!(rt; shown(&world, 2, 1), Some((1, 5)));
-    assert!(rt; !world.settled());
-    assert_eq!(rt; happens(&mut world, send(alloc, 1, 2)?)?, Took::Done);
-    assert!(rt; !world.settled());
-    assert_eq!(rt; happens(&mut world, heard(1))?, Took::Done);
-    assert_eq!(rt; shown(&world, 2, 1), Some((2, 5)));
-    assert!(rt; world.settled());
-    assert_eq!(rt; happens(&mut world, heard(0))?, Took::Done);
-    assert_eq!(rt; happens(&mut world, heard(7))?, Took::Strange);
-    assert_eq!(rt; shown(&world, 2, 1), Some((2, 5)));
+    // What happens, what it comes to, what worker 2 shows then, and whether all is heard.
+    for (what, took, seen, settled) in [
+        (Happening::Put(1, 5), Took::Done, None, false),
+        (Happening::Tell, Took::Done, None, false),
+        (Happening::Put(2, 3), Took::Done, None, false),
+        (Happening::Hear(0), Took::Done, Some((1, 5)), false),
+        (Happening::Hear(0), Took::Done, Some((1, 5)), false),
+        (Happening::Tell, Took::Done, Some((1, 5)), false),
+        (Happening::Hear(1), Took::Done, Some((2, 5)), true),
+        (Happening::Hear(0), Took::Done, Some((2, 5)), true),
+        (Happening::Hear(7), Took::Strange, Some((2, 5)), true),
+    ] {
+        assert_eq!(rt; happens(&mut world, event_of(alloc, what)?)?, took);
+        assert_eq!(rt; shown(&world, 2, 1), seen);
+        assert_eq!(rt; world.settled(), settled);
+    }
     Ok(())
 }
 
@@ -150,14 +183,19 @@ fn a_message_tells_of_one_to_sixteen_ascending_keys(rt: HostRuntime) -> Result<(
     let mut world = seventeen_keys(alloc)?;
     let keys = [1, 2, 3, 4, 5, 6, 7, 8, 9, 10, 11, 12, 13, 14, 15, 16, 17];
     assert_eq!(rt; happens(&mut world, put(alloc, 1, 1, 1, 5))?, Took::Done);
-    assert_eq!(rt; told(alloc, &mut world, 1, 2, &keys)?, Took::Strange);
-    assert_eq!(rt; told(alloc, &mut world, 1, 2, &[])?, Took::Strange);
-    assert_eq!(rt; told(alloc, &mut world, 1, 2, &[2, 1])?, Took::Strange);
-    assert_eq!(rt; told(alloc, &mut world, 1, 2, &[1, 1])?, Took::Strange);
-    assert_eq!(rt; told(alloc, &mut world, 1, 2, &[1, 18])?, Took::Strange);
-    assert_eq!(rt; told(alloc, &mut world, 1, 1, &[1])?, Took::Strange);
-    assert_eq!(rt; told(alloc, &mut world, 1, 3, &[1])?, Took::Strange);
-    // No message was sent, and worker 2 has heard nothing.
+    // The worker, the mate and the keys of gossip that is none: no message is sent, and worker 2 hears nothing.
+    let strange: [(u16, u16, &[u16]); 7] = [
+        (1, 2, &keys),
+        (1, 2, &[]),
+        (1, 2, &[2, 1]),
+        (1, 2, &[1, 1]),
+        (1, 2, &[1, 18]),
+        (1, 1, &[1]),
+        (1, 3, &[1]),
+    ];
+    for (worker, mate, keys) in strange {
+        assert_eq!(rt; told(alloc, &mut world, worker, mate, keys)?, Took::Strange);
+    }
     assert_eq!(rt; happens(&mut world, heard(0))?, Took::Strange);
     assert_eq!(rt; shown(&world, 2, 1), None);
     assert_eq!(rt; told(alloc, &mut world, 1, 2, &keys[..16])?, Took::Done);

@@ -170,6 +170,7 @@ fn one_key(alloc: Global) -> Result<Config, Fail>
     let key = KeyPlace {
         name: Name::of(b"k")?,
         pins: Items::new(vec![in alloc; 1, 2]?),
+        factor: None,
     };
     Ok(Config {
         workers: 2,
@@ -213,6 +214,7 @@ fn small_script(alloc: Global) -> Result<Script, Fail>
     )?;
     let causal = plan(b"a", Level::Causal, vec![in alloc; awaited]?)?;
     Ok(Script {
+        version: 1,
         config: one_key(alloc)?,
         round: 4,
         kinds: Items::new(vec![in alloc; Kind::Max]?),

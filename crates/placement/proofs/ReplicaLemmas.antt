@@ -1,5 +1,5 @@
 -- In a valid config each key has the replicas that it should.
-use Rattle.std.proofs.Common.{◌≡◌, ℕ, ◌<◌, ◌≤◌, ◌==◌, Bool, true, not, zero, suc, List, [], ◌∷◌, length, take, map, sym, ap, ◌∙◌, refl, subst, inl, inr, arith}
+use Rattle.std.proofs.Common.{◌≡◌, ℕ, ◌<◌, ◌≤◌, ◌==◌, Bool, true, not, zero, suc, List, [], ◌∷◌, length, take, map, Option, Some, None, unwrap_or, IfSome, sym, ap, ◌∙◌, refl, subst, inl, inr, arith}
 use Rattle.std.specs.List.{filter, list_any, All}
 use Rattle.std.proofs.lemmas.Bool.{true≢false, cases_Bool, not_from_false, eqb-true, ne_eqb}
 use Rattle.std.proofs.lemmas.List.{take_all, length-take, get_or-take}
@@ -8,7 +8,7 @@ use Rattle.std.proofs.lemmas.List.Sorted.{list_any-IsPermutation, All-permutatio
 use Rattle.std.proofs.lemmas.Map.Views.{any-filter_same}
 use Rattle.placement.specs.Hash.{hash_of}
 use Rattle.placement.specs.Ring.{points_of, round, workers_met, walked}
-use Rattle.placement.specs.Config.{AreDifferent, IsOneOf, ArePins, IsValidConfig, IsRing, AreReplicas, EachHasReplicas, pinned_or, replicas_on}
+use Rattle.placement.specs.Config.{AreDifferent, IsOneOf, ArePins, IsOwnFactor, IsValidConfig, IsRing, AreReplicas, EachHasReplicas, factor_of, pinned_or, replicas_on}
 use Rattle.placement.specs.declared.ring.Point.{Point}
 use Rattle.placement.specs.declared.config.KeyPlace.{KeyPlace}
 use Rattle.placement.specs.declared.config.Config.{Config}
@@ -72,23 +72,31 @@ first_differ n numbers differ = λ i j d before within.
     let inside : j < length numbers = omega (arith, length-take n numbers) in
     rw (get_or-take n numbers i d (omega (arith, length-take n numbers)), get_or-take n numbers j d (omega (arith, length-take n numbers))) (differ i j d before inside)
 
+-- A key's own factor or else the one of all keys is at most the number of workers.
+factor_within : (workers all : ℕ) (own : Option ℕ) (Unpinned : Type 0) → IsOneOf workers all → IfSome own (λ factor. IsOneOf workers factor × Unpinned) → IsOneOf workers (unwrap_or own all)
+factor_within workers all None Unpinned is own = is
+factor_within workers all (Some factor) Unpinned is own = own.0
+
 -- The walk for a key without pins gives replicas.
-walked_are_replicas : (config : Config) (ring : List Point) (key : KeyPlace) (hash : ℕ) → IsValidConfig config → IsRing config.workers ring → AreReplicas config key (walked ring hash config.factor)
-walked_are_replicas config ring key hash valid is =
+walked_are_replicas : (config : Config) (ring : List Point) (key : KeyPlace) (hash : ℕ) → IsRing config.workers ring → IsOneOf config.workers (factor_of config key) → AreReplicas config key (walked ring hash (factor_of config key))
+walked_are_replicas config ring key hash is within =
+    let factor = factor_of config key in
     let met = workers_met (round ring hash) in
     let enough : config.workers ≤ length met = has_each_to_length config.workers met (each_worker_met config.workers hash ring is) in
-    let as_many : length (take config.factor met) ≡ config.factor = let most = valid.factor_most in omega (arith, length-take config.factor met) in
+    let least : 1 ≤ factor = within.0 in
+    let most : factor ≤ config.workers = within.1 in
+    let as_many : length (take factor met) ≡ factor = omega (arith, length-take factor met) in
     record {
-      some = let least = valid.factor_some in omega arith;
-      are_workers = All-take (IsOneOf config.workers) config.factor met (only_workers_met config.workers hash ring is);
-      different = first_differ config.factor met (workers_met_differ (round ring hash));
+      some = omega arith;
+      are_workers = All-take (IsOneOf config.workers) factor met (only_workers_met config.workers hash ring is);
+      different = first_differ factor met (workers_met_differ (round ring hash));
       as_many = λ none. as_many;
     }
 
 -- The pins of a key are replicas, and so is the walk where it has none.
-pinned_or_walked : (config : Config) (ring : List Point) (key : KeyPlace) (pins : List ℕ) → key.pins ≡ pins → IsValidConfig config → IsRing config.workers ring → ArePins config.workers pins → AreReplicas config key (pinned_or pins (walked ring (hash_of key.name) config.factor))
-pinned_or_walked config ring key [] has valid is pinned = walked_are_replicas config ring key (hash_of key.name) valid is
-pinned_or_walked config ring key (pin ∷ pins) has valid is pinned = record {
+pinned_or_walked : (config : Config) (ring : List Point) (key : KeyPlace) (pins : List ℕ) → key.pins ≡ pins → IsRing config.workers ring → ArePins config.workers pins → IsOneOf config.workers (factor_of config key) → AreReplicas config key (pinned_or pins (walked ring (hash_of key.name) (factor_of config key)))
+pinned_or_walked config ring key [] has is pinned within = walked_are_replicas config ring key (hash_of key.name) is within
+pinned_or_walked config ring key (pin ∷ pins) has is pinned within = record {
   some = omega arith;
   are_workers = pinned.are_workers;
   different = pinned.different;
@@ -96,17 +104,20 @@ pinned_or_walked config ring key (pin ∷ pins) has valid is pinned = record {
 }
 
 -- Each key has its replicas.
-each_has_replicas : (config : Config) (ring : List Point) (keys : List KeyPlace) → IsValidConfig config → IsRing config.workers ring → All (λ (key : KeyPlace). ArePins config.workers key.pins) keys → EachHasReplicas config keys (map (replicas_on ring config) keys)
-each_has_replicas config ring [] valid is pins = tt
-each_has_replicas config ring (key ∷ keys) valid is pins =
+each_has_replicas : (config : Config) (ring : List Point) (keys : List KeyPlace) → IsOneOf config.workers config.factor → IsRing config.workers ring → All (λ (key : KeyPlace). ArePins config.workers key.pins) keys → All (IsOwnFactor config.workers) keys → EachHasReplicas config keys (map (replicas_on ring config) keys)
+each_has_replicas config ring [] factor is pins factors = tt
+each_has_replicas config ring (key ∷ keys) factor is pins factors =
     let Pinned : KeyPlace → Type 0 = λ key. ArePins config.workers key.pins in
-    (pinned_or_walked config ring key key.pins refl valid is (All-head Pinned key keys pins), each_has_replicas config ring keys valid is (All-tail Pinned key keys pins))
+    let Own : KeyPlace → Type 0 = IsOwnFactor config.workers in (
+      pinned_or_walked config ring key key.pins refl is (All-head Pinned key keys pins) (factor_within config.workers config.factor key.factor (key.pins ≡ []) factor (All-head Own key keys factors)),
+      each_has_replicas config ring keys factor is (All-tail Pinned key keys pins) (All-tail Own key keys factors),
+    )
 
 -- A table of the replicas of the first keys, where these are all, has the replicas of each.
 pub table_of_all : (config : Config) (ring : List Point) (keys : List KeyPlace) (done : ℕ) (table : List (List ℕ)) → IsValidConfig config → IsRing config.workers ring → keys ≡ config.keys → length keys ≤ done → table ≡ map (replicas_on ring config) (take done keys) → EachHasReplicas config config.keys table
 table_of_all config ring keys done table valid is same all has =
     let P : List (List ℕ) → Type 0 = EachHasReplicas config config.keys in
-    subst P (sym (has ∙ ap (map (replicas_on ring config)) (take_all done keys all ∙ same))) (each_has_replicas config ring config.keys valid is valid.pins)
+    subst P (sym (has ∙ ap (map (replicas_on ring config)) (take_all done keys all ∙ same))) (each_has_replicas config ring config.keys (valid.factor_some, valid.factor_most) is valid.pins valid.factors)
 
 -- Keys that have their replicas in vectors have at least one in each.
 pub each_has_some : {V : Type 0} (items : V → List ℕ) (config : Config) (keys : List KeyPlace) (vectors : List V) → EachHasReplicas config keys (map items vectors) → All (λ (vector : V). 0 < length (items vector)) vectors

@@ -1,5 +1,5 @@
 -- Which configs are valid, and where keys live.
-use Rattle.std.specs.Prelude.{◌≡◌, ℕ, ◌-◌, ◌%◌, ◌≤◌, List, [], ◌∷◌, All, map, length, slice_index_or, IsSorted, IsPermutation, AllPairs, ◌≢◌}
+use Rattle.std.specs.Prelude.{◌≡◌, ℕ, ◌-◌, ◌%◌, ◌≤◌, List, [], ◌∷◌, All, map, length, slice_index_or, unwrap_or, IfSome, IsSorted, IsPermutation, AllPairs, ◌≢◌}
 use Rattle.placement.specs.Hash.{hash_of}
 use Rattle.placement.specs.Ring.{point_cmp, points_of, ring_of, walked}
 use Rattle.placement.specs.declared.ring.Point.{Point}
@@ -19,6 +19,10 @@ pub record ArePins (workers : ℕ) (pins : List ℕ) : Type 0 where
   pub are_workers : All (IsOneOf workers) pins
   pub different : AreDifferent pins
 
+-- a replication factor of a key's own is at most the number of workers, and stands at no key with pins
+abbrev pub IsOwnFactor : ℕ → KeyPlace → Type 0
+IsOwnFactor workers key = IfSome key.factor (λ factor. IsOneOf workers factor × (key.pins ≡ []))
+
 pub record IsValidConfig (config : Config) : Type 0 where
   pub workers_some : 1 ≤ config.workers
   pub workers_most : config.workers ≤ 8
@@ -26,10 +30,11 @@ pub record IsValidConfig (config : Config) : Type 0 where
   pub factor_most : config.factor ≤ config.workers
   pub keys_most : length config.keys ≤ 128
   pub pins : All (λ key. ArePins config.workers key.pins) config.keys
+  pub factors : All (IsOwnFactor config.workers) config.keys
 
--- the replication factor of a key: one for all keys
+-- the replication factor of a key: its own, where it has one, and else the config's
 abbrev pub factor_of : Config → KeyPlace → ℕ
-factor_of config key = config.factor
+factor_of config key = unwrap_or key.factor config.factor
 
 -- the points of all workers in ascending order
 pub record IsRing (workers : ℕ) (points : List Point) : Type 0 where

@@ -154,7 +154,12 @@ fn replicas_of(
 {
     let pins = key.pins.as_slice();
     if pins.is_empty() {
-        walk(alloc, ring, fnv1a64(key.name.as_bytes()), config.factor)
+        walk(
+            alloc,
+            ring,
+            fnv1a64(key.name.as_bytes()),
+            config.factor_of(key),
+        )
     } else {
         Ok(Vec::from_slice(alloc, pins)?)
     }
@@ -171,32 +176,37 @@ mod tests {
     fn pinned(alloc: Global) -> Result<Config, Fail>
         ensures { IfOk result IsValidConfig }
     {
-        let name = Name::of(b"a")?;
-        let pins = Items::new(vec![in alloc; 2, 1]?);
-        let keys = Items::new(vec![in alloc; KeyPlace { name, pins }]?);
+        let key = KeyPlace {
+            name: Name::of(b"a")?,
+            pins: Items::new(vec![in alloc; 2, 1]?),
+            factor: None,
+        };
         Ok(Config {
             workers: 2,
             factor: 1,
-            keys,
+            keys: Items::new(vec![in alloc; key]?),
         })
     }
 
     /// A key without pins.
-    fn unpinned(alloc: Global, spelling: &[u8]) -> Result<KeyPlace, Fail>
-        ensures { IfOk result (λ key. key.pins ≡ []) }
+    fn unpinned(alloc: Global, spelling: &[u8], factor: Option<u16>) -> Result<KeyPlace, Fail>
+        ensures pins { IfOk result (λ key. key.pins ≡ []) }
+        ensures factor { IfOk result (λ key. key.factor ≡ factor) }
     {
-        let name = Name::of(spelling)?;
-        let pins = Items::new(Vec::new(alloc));
-        Ok(KeyPlace { name, pins })
+        Ok(KeyPlace {
+            name: Name::of(spelling)?,
+            pins: Items::new(Vec::new(alloc)),
+            factor,
+        })
     }
 
-    /// Four workers, and three keys without pins.
+    /// Four workers, and three keys without pins, of which the last lives at two workers.
     fn all_unpinned(alloc: Global) -> Result<Config, Fail>
         ensures { IfOk result IsValidConfig }
     {
-        let first = unpinned(alloc, b"cart")?;
-        let second = unpinned(alloc, b"hits")?;
-        let third = unpinned(alloc, b"sale")?;
+        let first = unpinned(alloc, b"cart", None)?;
+        let second = unpinned(alloc, b"hits", None)?;
+        let third = unpinned(alloc, b"sale", Some(2))?;
         Ok(Config {
             workers: 4,
             factor: 3,
@@ -224,8 +234,9 @@ mod tests {
     fn places_keys_without_pins_by_the_ring(rt: HostRuntime) -> Result<(), Fail> {
         let placement = Placement::build(rt.alloc(), &all_unpinned(rt.alloc())?)?;
         assert_eq!(rt; placement.keys(), 3);
-        for (key, want) in [(1, [4, 1, 2]), (2, [3, 4, 1]), (3, [3, 4, 1])] {
-            assert_eq!(rt; placement.replicas(key), want.as_slice());
+        let all: [(u16, &[u16]); 3] = [(1, &[4, 1, 2]), (2, &[3, 4, 1]), (3, &[3, 4])];
+        for (key, want) in all {
+            assert_eq!(rt; placement.replicas(key), want);
         }
         Ok(())
     }

@@ -1,15 +1,17 @@
 -- The lines of a report in form have words, and the bytes of these are those of words.
-use Rattle.std.specs.Prelude.{ℕ, ◌==◌, Bool, true, false, List, [], ◌∷◌, map, codes, Option, Some, None}
+use Rattle.std.specs.Prelude.{ℕ, ◌==◌, nat_le, Bool, true, false, cond, List, [], ◌∷◌, map, length, codes, Option, Some, None}
 use Rattle.std.specs.Fmt.{decimal}
-use Rattle.std.specs.List.{AllZip, AllByRecursion}
+use Rattle.std.specs.List.{AllZip, AllByRecursion, range_with_len}
 use Rattle.std.proofs.Common.{refl, arith}
 use Rattle.std.proofs.lemmas.List.Elements.{recursion_from_All}
 use Rattle.std.proofs.lemmas.List.Sums.{list_all-from_AllPass}
 use Rattle.lattice_laws.specs.Spelling.{is_spelling_byte}
 use Rattle.composed_value.specs.declared.kind.Kind.{Kind}
+use Rattle.composed_value.specs.declared.kind.Kind.TheVariants as kinds
 use Rattle.composed_value.specs.declared.value.Value.{Value}
+use Rattle.placement.specs.Config.{placed}
 use Rattle.placement.specs.Name.{IsName}
-use Rattle.session_known.specs.Form.{IsClockIn, IsValueIn, NeedsFit, IsShownIn, IsAgainIn, Fits, IsFinalIn, HasForm}
+use Rattle.session_known.specs.Form.{IsClockIn, IsValueIn, NeedsFit, IsShownIn, IsAgainIn, Fits, IsFinalIn, HasForm, replicas_ascending}
 use Rattle.composed_value.specs.Keyed.{kind_at}
 use Rattle.session_known.specs.Script.{key_name, session_name}
 use Rattle.session_known.specs.declared.report.Answer.{Answer}
@@ -28,7 +30,7 @@ use Rattle.report_lines.proofs.ClocksLemmas.{clock_counted, clock_passes, needs_
 use Rattle.report_lines.proofs.NamesLemmas.{TellsNames, spelled_made, decimal_spelled, session_spelled, key_spelled}
 use Rattle.report_lines.proofs.RenderingLemmas.{Passes, word_marks, in_word, IsLine, both_pass}
 use Rattle.report_lines.proofs.RowsLemmas.{all_map, both_all}
-use Rattle.report_lines.specs.Text.{clock_word, worker_word, level_word, cell_words, needs_words, shown_words, again_words, answer_words, answers_lines, sessions_lines, final_words, report_lines}
+use Rattle.report_lines.specs.Text.{clock_word, worker_word, kind_word, level_word, cell_words, needs_words, shown_words, again_words, answer_words, answers_lines, key_words, placed_words, head_lines, sessions_lines, final_words, report_lines}
 use Rattle.report_lines.proofs.ValuesLemmas.{value_passes}
 
 -- words whose bytes are those of words
@@ -53,6 +55,20 @@ level_passes : (level : Level) → Passes in_word (level_word level)
 level_passes Eventual = refl
 level_passes Committed = refl
 level_passes Causal = refl
+
+-- the word of a kind is a word
+kind_passes : (kind : Kind) → Passes in_word (kind_word kind)
+kind_passes kinds.Max = refl
+kind_passes kinds.Or = refl
+kind_passes kinds.Set = refl
+kind_passes kinds.Map = refl
+kind_passes kinds.Last = refl
+kind_passes kinds.Versions = refl
+
+-- numbers are words
+numbers_pass : (numbers : List ℕ) → AreWords (map decimal numbers)
+numbers_pass [] = tt
+numbers_pass (number ∷ numbers) = (number_passes number, numbers_pass numbers)
 
 module _ (script : Script) (names : TellsNames script) where
   -- the name of a key is a word
@@ -103,6 +119,24 @@ module _ (script : Script) (names : TellsNames script) where
   answer_line level lines.Abort (answers.Aborted puts) fit = (refl, (number_passes puts, tt))
   answer_line level line answer fit = absurd (omega arith)
 
+  -- the words of a key
+  pub key_line : (key : ℕ) (workers : List ℕ) → IsLine (key_words script key workers)
+  key_line key workers = (refl, (key_passes key, (kind_passes (kind_at script.kinds key), (refl, numbers_pass workers))))
+
+  -- the lines of keys
+  keys_are : (keys : List ℕ) → AllByRecursion IsLine (map (placed_words script) keys)
+  keys_are [] = tt
+  keys_are (key ∷ keys) = (key_line key (replicas_ascending script (placed script.config) key), keys_are keys)
+
+  -- where there are any
+  keys_are_if : (are : Bool) (keys : List ℕ) → AllByRecursion IsLine (cond are (map (placed_words script) keys) [])
+  keys_are_if true keys = keys_are keys
+  keys_are_if false keys = tt
+
+  -- The lines before those of the sessions.
+  pub head_are : AllByRecursion IsLine (head_lines script)
+  head_are = ((refl, (refl, (number_passes script.version, tt))), keys_are_if (nat_le 2 script.version) (range_with_len 1 (length script.config.keys)))
+
   -- the words of a session
   pub session_line : (plan : SessionPlan) → IsName plan.name → IsLine (codes "session" ∷ plan.name ∷ level_word plan.level ∷ [])
   session_line plan named = (refl, (spelled_made word_marks plan.name (list_all-from_AllPass is_spelling_byte plan.name named.allowed), (level_passes plan.level, tt)))
@@ -132,8 +166,7 @@ module _ (script : Script) (names : TellsNames script) where
   pub lines_are : (table : List (List ℕ)) (report : Report) → HasForm script table report → AllByRecursion IsLine (report_lines script report)
   lines_are table report form =
       let named = recursion_from_All (λ (plan : SessionPlan). IsName plan.name) script.sessions names.sessions_named in
-      let finals = all_map (IsFinalIn script) IsLine (final_words script) final_line report.finals (recursion_from_All (IsFinalIn script) report.finals form.finals) in (
-        (refl, (refl, (refl, tt))),
-        both_all IsLine (sessions_lines script script.sessions report.answers) _ (sessions_are script.sessions report.answers named form.answers)
-            ((refl, tt), both_all IsLine (map (final_words script) report.finals) ((codes "end" ∷ []) ∷ []) finals ((refl, tt), tt)),
-      )
+      let finals = all_map (IsFinalIn script) IsLine (final_words script) final_line report.finals (recursion_from_All (IsFinalIn script) report.finals form.finals) in
+      both_all IsLine (head_lines script) _ head_are
+      (both_all IsLine (sessions_lines script script.sessions report.answers) _ (sessions_are script.sessions report.answers named form.answers)
+      ((refl, tt), both_all IsLine (map (final_words script) report.finals) ((codes "end" ∷ []) ∷ []) finals ((refl, tt), tt)))

@@ -6,7 +6,7 @@ use Rattle.std.proofs.lemmas.Bool.{both_ways, and_parts, and_from, or_left}
 use Rattle.std.proofs.lemmas.List.{append-nil, append_assoc, map-id}
 use Rattle.std.proofs.lemmas.List.Folds.{list_all-append}
 use Rattle.lattice_laws.specs.Spelling.{is_spelling_byte}
-use Rattle.report_lines.specs.Text.{line_text}
+use Rattle.report_lines.specs.Text.{bare_line, line_text, spaced}
 
 -- each byte of the text passes the test
 abbrev pub Passes : (ℕ → Bool) → List ℕ → Type 0
@@ -161,3 +161,27 @@ lines_tell (line ∷ lines) (other ∷ others) all_a all_b same =
     let first = line_tells line other (flat_map line_text lines) (flat_map line_text others) all_a.0 all_b.0 same in
     let rest = lines_tell lines others all_a.1 all_b.1 first.1 in
     λ i. first.0 i ∷ rest i
+
+-- ---- words after spaces
+
+-- words after spaces, and then more words
+pub spaced-append : (words others : List (List ℕ)) → spaced words ++ spaced others ≡ spaced (words ++ others)
+unfolding spaced
+spaced-append [] others = refl
+spaced-append (word ∷ words) others = ap (λ text. 32 ∷ text) (append_assoc word (spaced words) (spaced others) ∙ ap (λ text. word ++ text) (spaced-append words others))
+
+-- no words
+pub spaced-nil : [] ≡ spaced []
+unfolding spaced
+spaced-nil = refl
+
+-- one word
+pub spaced-one : (word : List ℕ) → 32 ∷ word ≡ spaced (word ∷ [])
+unfolding spaced
+spaced-one word = ap (λ text. 32 ∷ text) (sym (append-nil word))
+
+-- a line is its first word, and the others after spaces
+pub bare_is : (word : List ℕ) (words : List (List ℕ)) → word ++ spaced words ≡ bare_line (word ∷ words)
+unfolding spaced
+bare_is word [] = append-nil word
+bare_is word (next ∷ words) = ap (λ end. word ++ (32 ∷ end)) (bare_is next words)

@@ -1,13 +1,17 @@
 -- The text of a report: lines, each a list of words, and one rendering of them to bytes.
-use Rattle.std.specs.Prelude.{◌≡◌, ℕ, ◌==◌, if◌then◌else◌, List, [], ◌∷◌, ◌++◌, map, codes, Option, Some, None}
-use Rattle.std.specs.List.{join_with_byte, flat_map}
+use Rattle.std.specs.Prelude.{◌≡◌, ℕ, ◌==◌, nat_le, if◌then◌else◌, List, [], ◌∷◌, ◌++◌, map, length, codes, Option, Some, None}
+use Rattle.std.specs.List.{join_with_byte, flat_map, range_with_len}
 use Rattle.std.specs.Fmt.{decimal}
 use Rattle.lattice_laws.specs.declared.maybe.Maybe.TheVariants.{Bottom, Is}
 use Rattle.basic_lattices.specs.declared.stamped.Stamped.{Stamped}
 use Rattle.version_antichain.specs.declared.version.Version.{Version}
+use Rattle.composed_value.specs.Keyed.{kind_at}
+use Rattle.composed_value.specs.declared.kind.Kind.{Kind}
+use Rattle.composed_value.specs.declared.kind.Kind.TheVariants as kinds
 use Rattle.composed_value.specs.declared.value.Value.{Value}
 use Rattle.composed_value.specs.declared.value.Value.TheVariants as values
-use Rattle.session_known.specs.Form.{HasForm}
+use Rattle.placement.specs.Config.{placed}
+use Rattle.session_known.specs.Form.{HasForm, replicas_ascending}
 use Rattle.session_known.specs.Script.{IsValidScript, key_name, session_name}
 use Rattle.session_known.specs.declared.report.Answer.{Answer}
 use Rattle.session_known.specs.declared.report.Answer.TheVariants as answers
@@ -93,6 +97,15 @@ value_word script (values.Versions versions) = versions_word script versions
 abbrev pub worker_word : ℕ → List ℕ
 worker_word worker = codes "@" ++ decimal worker
 
+-- the kind of a key, as in the line that declares it
+abbrev pub kind_word : Kind → List ℕ
+kind_word kinds.Max = codes "max"
+kind_word kinds.Or = codes "or"
+kind_word kinds.Set = codes "set"
+kind_word kinds.Map = codes "map"
+kind_word kinds.Last = codes "last"
+kind_word kinds.Versions = codes "versions"
+
 abbrev pub level_word : Level → List ℕ
 level_word Eventual = codes "eventual"
 level_word Committed = codes "committed"
@@ -173,13 +186,34 @@ final_words script cell = key_name script cell.key ∷ worker_word cell.worker �
 abbrev pub short_words : Script → FinalCell → List (List ℕ)
 short_words script cell = key_name script cell.key ∷ codes "clock" ∷ clock_word script cell.clock ∷ codes "value" ∷ value_word script cell.value ∷ []
 
+-- the line of a key that lives at these workers: `key K KIND on I J ..`
+abbrev pub key_words : Script → ℕ → List ℕ → List (List ℕ)
+key_words script key workers = codes "key" ∷ key_name script key ∷ kind_word (kind_at script.kinds key) ∷ codes "on" ∷ map decimal workers
+
+-- that of its replicas, ascending
+abbrev pub placed_words : Script → ℕ → List (List ℕ)
+placed_words script key = key_words script key (replicas_ascending script (placed script.config) key)
+
+-- the lines of the keys, which a report has from version 2 on
+abbrev pub keys_lines : Script → List (List (List ℕ))
+keys_lines script = if nat_le 2 script.version then map (placed_words script) (range_with_len 1 (length script.config.keys)) else []
+
+-- the lines before those of the sessions: `anna report VERSION`, and the keys
+abbrev pub head_lines : Script → List (List (List ℕ))
+head_lines script = (codes "anna" ∷ codes "report" ∷ decimal script.version ∷ []) ∷ keys_lines script
+
 -- The lines of a report, each a list of words.
 abbrev pub report_lines : Script → Report → List (List (List ℕ))
 report_lines script report =
-    (codes "anna" ∷ codes "report" ∷ codes "1" ∷ [])
-    ∷ (sessions_lines script script.sessions report.answers
+    head_lines script
+    ++ (sessions_lines script script.sessions report.answers
     ++ ((codes "final" ∷ []) ∷ (map (final_words script) report.finals
     ++ (codes "end" ∷ []) ∷ [])))
+
+-- words, each after a space
+unfoldable pub spaced : List (List ℕ) → List ℕ
+spaced [] = []
+spaced (word ∷ words) = 32 ∷ (word ++ spaced words)
 
 -- a line without its line feed: its words with one space between each two
 abbrev pub bare_line : List (List ℕ) → List ℕ

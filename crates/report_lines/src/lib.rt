@@ -5,8 +5,10 @@
 //! Those who write reports and who read them stand on this crate, and none of them on the other.
 #![tactic(auto)]
 
+mod kinds;
 mod laws;
 mod levels;
 
+pub use kinds::kind_text;
 pub use laws::texts_tell_reports_apart;
 pub use levels::level_text;

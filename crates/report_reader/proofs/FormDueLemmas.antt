@@ -21,12 +21,13 @@ use Rattle.session_known.specs.declared.script.Line.{Line}
 use Rattle.session_known.specs.declared.script.Line.TheVariants as lines
 use Rattle.session_known.specs.declared.script.Script.{Script}
 use Rattle.session_known.specs.declared.script.SessionPlan.{SessionPlan}
-use Rattle.report_lines.proofs.LinesLemmas.{session_line}
+use Rattle.report_lines.proofs.LinesLemmas.{head_are, session_line}
 use Rattle.report_lines.proofs.NamesLemmas.{TellsNames}
-use Rattle.report_reader.specs.ReadLines.{Due, Exactly, Answered, FinalOf, IsDue, AreLinesRead, session_dues, finals_dues, report_dues}
+use Rattle.report_lines.proofs.RenderingLemmas.{IsLine}
+use Rattle.report_reader.specs.ReadLines.{Due, Exactly, Answered, FinalOf, IsDue, AreLinesRead, exact_dues, session_dues, finals_dues, report_dues}
 use Rattle.report_lines.specs.Parts.{AreAnswers, place_of}
 use Rattle.report_lines.proofs.RowsLemmas.{both_all}
-use Rattle.report_lines.specs.Text.{answer_words, answers_lines, sessions_lines, final_words, report_lines, line_text}
+use Rattle.report_lines.specs.Text.{head_lines, answer_words, answers_lines, sessions_lines, final_words, report_lines, line_text}
 use Rattle.report_reader.proofs.DueLemmas.{HasWords}
 
 -- ---- lists, place by place
@@ -63,13 +64,17 @@ sessions_have script names [] named = tt
 sessions_have script names (plan ∷ plans) named =
     (session_line script names plan named.0, both_all HasWords (map (Answered plan.level) plan.lines) (flat_map session_dues plans) (answers_have plan.level plan.lines) (sessions_have script names plans named.1))
 
+-- lines of which all words are known
+exact_have : (lines : List (List (List ℕ))) → AllByRecursion IsLine lines → AllByRecursion HasWords (exact_dues lines)
+exact_have [] all = tt
+exact_have (words ∷ lines) all = (all.0, exact_have lines all.1)
+
 -- What is due of a report has words.
 pub dues_have : (script : Script) (table : List (List ℕ)) → TellsNames script → AllByRecursion HasWords (report_dues script table)
-dues_have script table names = (
-  (refl, (refl, (refl, tt))),
-  both_all HasWords (flat_map session_dues script.sessions) _ (sessions_have script names script.sessions (recursion_from_All (λ (plan : SessionPlan). IsName plan.name) script.sessions names.sessions_named))
-      ((refl, tt), both_all HasWords (finals_dues (final_places script table)) (Exactly (codes "end" ∷ []) ∷ []) (finals_have (final_places script table)) ((refl, tt), tt)),
-)
+dues_have script table names =
+    both_all HasWords (exact_dues (head_lines script)) _ (exact_have (head_lines script) (head_are script names))
+    (both_all HasWords (flat_map session_dues script.sessions) _ (sessions_have script names script.sessions (recursion_from_All (λ (plan : SessionPlan). IsName plan.name) script.sessions names.sessions_named))
+    ((refl, tt), both_all HasWords (finals_dues (final_places script table)) (Exactly (codes "end" ∷ []) ∷ []) (finals_have (final_places script table)) ((refl, tt), tt)))
 
 module _ (script : Script) where
   -- ---- the lines of a report in form are those that are due
@@ -94,14 +99,18 @@ module _ (script : Script) where
   finals_due [] all = tt
   finals_due (cell ∷ cells) all = ((cell, record { key_is = refl; worker_is = refl; in_form = all.0 }, refl), finals_due cells all.1)
 
+  -- lines of which all words are known
+  exact_due : (lines : List (List (List ℕ))) → AllZip (IsDue script) (exact_dues lines) lines
+  exact_due [] = tt
+  exact_due (words ∷ lines) = (refl, exact_due lines)
+
   -- The lines of a report.
   pub report_due : (table : List (List ℕ)) (report : Report) → HasForm script table report → AllZip (IsDue script) (report_dues script table) (report_lines script report)
   report_due table report form =
-      let finals = subst (λ places. AllZip (IsDue script) (finals_dues places) (map (final_words script) report.finals)) form.places (finals_due report.finals (recursion_from_All (IsFinalIn script) report.finals form.finals)) in (
-        refl,
-        both_zip (IsDue script) (flat_map session_dues script.sessions) _ (sessions_lines script script.sessions report.answers) _ (sessions_due script.sessions report.answers form.answers)
-            (refl, both_zip (IsDue script) (finals_dues (final_places script table)) (Exactly (codes "end" ∷ []) ∷ []) (map (final_words script) report.finals) ((codes "end" ∷ []) ∷ []) finals (refl, tt)),
-      )
+      let finals = subst (λ places. AllZip (IsDue script) (finals_dues places) (map (final_words script) report.finals)) form.places (finals_due report.finals (recursion_from_All (IsFinalIn script) report.finals form.finals)) in
+      both_zip (IsDue script) (exact_dues (head_lines script)) _ (head_lines script) _ (exact_due (head_lines script))
+      (both_zip (IsDue script) (flat_map session_dues script.sessions) _ (sessions_lines script script.sessions report.answers) _ (sessions_due script.sessions report.answers form.answers)
+      (refl, both_zip (IsDue script) (finals_dues (final_places script table)) (Exactly (codes "end" ∷ []) ∷ []) (map (final_words script) report.finals) ((codes "end" ∷ []) ∷ []) finals (refl, tt)))
 
   -- ---- lines that are due are those of a report in form
 
@@ -152,16 +161,24 @@ module _ (script : Script) where
       let lines : given ≡ map (final_words script) cells.0 ++ (codes "end" ∷ []) ∷ [] = parts.2 ∙ (λ i. cells.3 i ++ end i) in
       (cells.0, cells.1, cells.2, λ i. are.0 i ∷ lines i)
 
+  -- these are the lines of which all words are known
+  exact_of : (lines given : List (List (List ℕ))) → AllZip (IsDue script) (exact_dues lines) given → given ≡ lines
+  exact_of [] [] are = refl
+  exact_of [] (words ∷ given) are = absurd are
+  exact_of (words ∷ lines) [] are = absurd are
+  exact_of (words ∷ lines) (others ∷ given) are = let first = are.0 in let rest = exact_of lines given are.1 in λ i. first i ∷ rest i
+
   -- A report with these lines.
   pub report_of : (table : List (List ℕ)) (given : List (List (List ℕ))) → AllZip (IsDue script) (report_dues script table) given → (report : Report) × HasForm script table report × (given ≡ report_lines script report)
-  report_of table [] are = absurd are
-  report_of table (words ∷ given) are =
-      let parts = zip_parts (IsDue script) (flat_map session_dues script.sessions) _ given are.1 in
+  report_of table given are =
+      let first = zip_parts (IsDue script) (exact_dues (head_lines script)) _ given are in
+      let head = exact_of (head_lines script) first.0 first.3 in
+      let parts = zip_parts (IsDue script) (flat_map session_dues script.sessions) _ first.1 first.4 in
       let sessions = sessions_of script.sessions parts.0 parts.3 in
       let last = last_of (final_places script table) parts.1 parts.4 in
       let report : Report = record { answers = sessions.0; finals = last.0 } in
-      let lines : given ≡ sessions_lines script script.sessions sessions.0 ++ ((codes "final" ∷ []) ∷ (map (final_words script) last.0 ++ (codes "end" ∷ []) ∷ [])) = parts.2 ∙ (λ i. sessions.2 i ++ last.3 i) in
-      (report, record { answers = sessions.1; places = last.1; finals = All-from_recursion (IsFinalIn script) last.0 last.2 }, λ i. are.0 i ∷ lines i)
+      let lines : first.1 ≡ sessions_lines script script.sessions sessions.0 ++ ((codes "final" ∷ []) ∷ (map (final_words script) last.0 ++ (codes "end" ∷ []) ∷ [])) = parts.2 ∙ (λ i. sessions.2 i ++ last.3 i) in
+      (report, record { answers = sessions.1; places = last.1; finals = All-from_recursion (IsFinalIn script) last.0 last.2 }, first.2 ∙ (λ i. head i ++ lines i))
 
   -- ---- what is due can be
 

@@ -16,7 +16,7 @@ use Rattle.session_known.specs.declared.script.Line.{Line}
 use Rattle.session_known.specs.declared.script.Script.{Script}
 use Rattle.session_known.specs.declared.script.SessionPlan.{SessionPlan}
 use Rattle.report_lines.proofs.NamesLemmas.{TellsNames}
-use Rattle.report_reader.specs.ReadLines.{Due, Exactly, Answered, FinalOf, IsDue, IsFinalAt, AreLinesRead, IsOut, HasTaken, HasGot, HasGotAnswer, HasGotAnswers, HasGotSession, HasGotSessions, HasGotFinal, HasGotFinals, IsPartFault, answers_dues, session_dues, sessions_dues, finals_dues}
+use Rattle.report_reader.specs.ReadLines.{Due, Exactly, Answered, FinalOf, IsDue, IsFinalAt, AreLinesRead, IsOut, HasTaken, HasGot, HasGotAnswer, HasGotAnswers, HasGotSession, HasGotSessions, HasGotExactly, HasGotFinal, HasGotFinals, IsPartFault, exact_dues, answers_dues, session_dues, sessions_dues, finals_dues}
 use Rattle.report_reader.specs.Cuts.{has_byte}
 use Rattle.report_lines.proofs.RenderingLemmas.{Passes, IsLine, in_line, cut_once, line_after, row_passes, passes_weaker}
 use Rattle.report_lines.specs.Parts.{AreAnswers, place_of}
@@ -238,3 +238,20 @@ finals_fault script places before count now cells place fault within is so out =
     let here = fault_after script (finals_dues (take count places)) (FinalOf place.0 place.1 ∷ []) (map (final_words script) cells) before now fault so.got out in
     let more = fault_before script (finals_dues (take count places) ++ FinalOf place.0 place.1 ∷ []) (finals_dues (drop (suc count) places)) before fault here in
     subst (λ dues. IsPartFault script dues before fault) (all_of (λ (place : ℕ × ℕ). FinalOf place.0 place.1) places count place within is) more
+
+-- ---- lines of which all words are known, one by one
+
+-- one more
+pub exact_next : (script : Script) (all : List (List (List ℕ))) (before : List ℕ × ℕ) (count : ℕ) (now after : List ℕ × ℕ) (words : List (List ℕ)) → count < length all → words ≡ get_or all count words → HasGotExactly script (take count all) before now → HasGotExactly script (words ∷ []) now after → HasGotExactly script (take (count + 1) all) before after
+exact_next script all before count now after words within is so got =
+    let front = take count all in
+    let first : front ++ words ∷ [] ≡ take (count + 1) all = ap (λ words. take count all ++ words ∷ []) is ∙ sym (take_more all count words within) in
+    let both = got_both script (exact_dues front) (Exactly words ∷ []) front (words ∷ []) before now after so got in
+    subst (λ lines. HasGotExactly script lines before after) first (subst (λ dues. HasGot script dues (front ++ words ∷ []) before after) (sym (map-append Exactly front (words ∷ []))) both)
+
+-- where one of them does not stand
+pub exact_fault : (script : Script) (all : List (List (List ℕ))) (before : List ℕ × ℕ) (count : ℕ) (now : List ℕ × ℕ) (words : List (List ℕ)) (fault : ReportFault) → count < length all → words ≡ get_or all count words → HasGotExactly script (take count all) before now → IsPartFault script (Exactly words ∷ []) now fault → IsPartFault script (exact_dues all) before fault
+exact_fault script all before count now words fault within is so out =
+    let here = fault_after script (exact_dues (take count all)) (Exactly words ∷ []) (take count all) before now fault so out in
+    let more = fault_before script (exact_dues (take count all) ++ Exactly words ∷ []) (exact_dues (drop (suc count) all)) before fault here in
+    subst (λ dues. IsPartFault script dues before fault) (all_of Exactly all count words within is) more

@@ -13,7 +13,7 @@ use Rattle.session_known.specs.declared.script.Script.{Script}
 use Rattle.session_known.specs.declared.script.SessionPlan.{SessionPlan}
 use Rattle.report_reader.specs.declared.ReportFault.{ReportFault}
 use Rattle.report_reader.specs.declared.ReportFault.TheVariants.{Form, NoMemory}
-use Rattle.report_lines.specs.Text.{session_words, answer_words, answers_lines, sessions_lines, final_words, report_lines, line_text}
+use Rattle.report_lines.specs.Text.{head_lines, session_words, answer_words, answers_lines, sessions_lines, final_words, report_lines, line_text}
 use Rattle.report_reader.specs.Reads.{Reads}
 
 -- a final cell in form of the key at the worker
@@ -55,11 +55,15 @@ sessions_dues plans = flat_map session_dues plans
 abbrev pub finals_dues : List (ℕ × ℕ) → List Due
 finals_dues places = map (λ place. FinalOf place.0 place.1) places
 
+-- lines of which all words are known
+abbrev pub exact_dues : List (List (List ℕ)) → List Due
+exact_dues lines = map Exactly lines
+
 -- the lines of a report that are due
 abbrev pub report_dues : Script → List (List ℕ) → List Due
 report_dues script table =
-    Exactly (codes "anna" ∷ codes "report" ∷ codes "1" ∷ [])
-    ∷ (sessions_dues script.sessions
+    exact_dues (head_lines script)
+    ++ (sessions_dues script.sessions
     ++ (Exactly (codes "final" ∷ []) ∷ (finals_dues (final_places script table)
     ++ Exactly (codes "end" ∷ []) ∷ [])))
 
@@ -73,19 +77,15 @@ IsPlaceIn script place = IsOneOf (length script.config.keys) place.0 × IsOneOf 
 abbrev pub replicas_within : List ℕ → ℕ → List ℕ
 replicas_within replicas workers = filter (λ worker. list_any (λ replica. replica == worker) replicas) (range_with_len 1 workers)
 
--- the key at each of these
-abbrev pub places_within : ℕ → List ℕ → ℕ → List (ℕ × ℕ)
-places_within key replicas workers = map (λ worker. (key, worker)) (replicas_within replicas workers)
+-- the key at each of these workers
+abbrev pub places_at : ℕ → List ℕ → List (ℕ × ℕ)
+places_at key workers = map (λ worker. (key, worker)) workers
 
 -- ---- wherever the keys live
 
 -- the script is valid where its keys live so that this holds
 abbrev pub IsValidWhere : Script → (List (List ℕ) → Type 0) → Type 0
 IsValidWhere script holds = (table : List (List ℕ)) × IsValidScript script table × holds table
-
--- this holds wherever the keys live so that the final cells stand at these places
-abbrev pub WhereverPlaced : Script → List (ℕ × ℕ) → (List (List ℕ) → Type 0) → Type 0
-WhereverPlaced script places holds = (table : List (List ℕ)) → IsValidScript script table → places ≡ final_places script table → holds table
 
 -- ---- line after line
 
@@ -139,6 +139,10 @@ HasGotSession script plan before after answers = HasGot script (session_dues pla
 -- those of sessions
 abbrev pub HasGotSessions : Script → List SessionPlan → List ℕ × ℕ → List ℕ × ℕ → List (List Answer) → Type 0
 HasGotSessions script plans before after answers = HasGot script (sessions_dues plans) (sessions_lines script plans answers) before after
+
+-- lines of which all words are known were got
+abbrev pub HasGotExactly : Script → List (List (List ℕ)) → List ℕ × ℕ → List ℕ × ℕ → Type 0
+HasGotExactly script lines before after = HasGot script (exact_dues lines) lines before after
 
 -- the line of the final cell of the key at the worker
 abbrev pub HasGotFinal : Script → ℕ → ℕ → List ℕ × ℕ → List ℕ × ℕ → FinalCell → Type 0

@@ -1,23 +1,24 @@
 //! Reports read line by line.
-ghost use Rattle.std.specs.Prelude.{◌≡◌, List, ℕ, ◌+◌, ◌<◌, ◌≤◌, ◌^◌, ◌∷◌, [], ◌++◌, All, false, map, length, IfOk, IfErr, OnOk, OnErr};
-ghost use Rattle.std.specs.List.{AllZip};
+ghost use Rattle.std.specs.Prelude.{◌≡◌, List, ℕ, ◌+◌, ◌<◌, ◌≤◌, ◌^◌, ◌∷◌, [], ◌++◌, All, false, map, length, decimal, IfOk, IfErr, OnOk, OnErr};
+ghost use Rattle.std.specs.List.{AllZip, range_with_len};
 ghost use Rattle.placement.specs.Name.{IsName};
 ghost use Rattle.session_known.specs.Form.{Fits, IsFinalIn, HasForm, final_places};
 ghost use Rattle.placement.specs.Config.{IsOneOf};
 ghost use Rattle.session_known.specs.Script.{IsValidSession, MayStand, IsValid, IsValidScript};
 ghost use Rattle.report_reader.specs.Cuts.{has_byte};
 ghost use Rattle.report_reader.specs.declared.ReportFault.TheVariants.{Form};
-ghost use Rattle.report_reader.specs.ReadLines.{Answered, FinalOf, IsFinalAt, answers_dues, session_dues, sessions_dues, finals_dues, report_dues, IsPlaceIn, places_within, IsValidWhere, WhereverPlaced, HasTaken, IsNotNext, HasGotAnswer, HasGotAnswers, HasGotSession, HasGotSessions, HasGotFinal, HasGotFinals, HasGotReport, IsPartFault};
+ghost use Rattle.report_reader.specs.ReadLines.{Answered, FinalOf, IsFinalAt, answers_dues, session_dues, sessions_dues, finals_dues, report_dues, IsPlaceIn, exact_dues, places_at, replicas_within, IsValidWhere, HasTaken, IsNotNext, HasGotAnswer, HasGotAnswers, HasGotSession, HasGotSessions, HasGotExactly, HasGotFinal, HasGotFinals, HasGotReport, IsPartFault};
 ghost use Rattle.report_reader.specs.Reads.{IsReading};
 ghost use Rattle.report_lines.specs.Parts.{AreAnswers, place_of};
-ghost use Rattle.report_lines.specs.Text.{session_words, bare_line};
+ghost use Rattle.report_lines.specs.Text.{head_lines, key_words, placed_words, session_words, bare_line, spaced};
 
 use crate::ReportFault;
 use crate::answers::{read_answer, read_final};
 use crate::words::cut_at;
+use itoa::Buffer;
 use lattice_laws::{Items, NoMemory};
 use placement::Placement;
-use report_lines::level_text;
+use report_lines::{kind_text, level_text};
 use session_known::{Answer, FinalCell, Level, Line, Report, Script, SessionPlan};
 use std::alloc::Global;
 use std::marker::Model;
@@ -90,6 +91,101 @@ fn read_exactly(lines: &mut Lines, wanted: &[u8]) -> Result<(), ReportFault>
     if lines.take()? != wanted {
         return Err(ReportFault::Form { line: number });
     }
+    Ok(())
+}
+
+// ---- the lines before the sessions
+
+/// The replicas of a key among so many workers, ascending.
+fn ascending(alloc: Global, workers: u16, replicas: &[u16]) -> Result<Vec<u16>, NoMemory>
+    requires { workers ≤ 8 }
+    ensures { IfOk result (λ ascending. ascending.items
+        ≡ replicas_within replicas.now workers) }
+{
+    let mut ascending = Vec::new(alloc);
+    for i in 0..workers {
+        let worker = i + 1;
+        if !replicas.contains(&worker) {
+            continue;
+        }
+        ascending.push(worker)?;
+    }
+    Ok(ascending)
+}
+
+/// Adds numbers in decimal digits, each after a space.
+fn push_numbers(line: &mut Vec<u8>, numbers: &[u16]) -> Result<(), NoMemory>
+    ensures { OnOk result (line.new.items ≡ line.old.items ++ spaced (map decimal numbers.now)) }
+{
+    for number in numbers {
+        let mut buffer = Buffer::new();
+        line.extend_from_slice(b" ")?;
+        line.extend_from_slice(buffer.format(*number).as_bytes())?;
+    }
+    Ok(())
+}
+
+/// The line of a key that lives at these workers, without its line feed.
+fn key_line(alloc: Global, script: &Script, key: u16, workers: &[u16]) -> Result<Vec<u8>, NoMemory>
+    requires { IsOneOf (length script.now.kinds) key }
+    ensures { IfOk result (λ line. line.items
+        ≡ bare_line (key_words script.now key workers.now)) }
+{
+    let mut line = Vec::new(alloc);
+    line.extend_from_slice(b"key ")?;
+    line.extend_from_slice(script.key_name(key))?;
+    line.extend_from_slice(b" ")?;
+    line.extend_from_slice(kind_text(script.kind_of(key)))?;
+    line.extend_from_slice(b" on")?;
+    push_numbers(&mut line, workers)?;
+    Ok(line)
+}
+
+/// The lines of the keys.
+fn read_keys(
+    alloc: Global,
+    script: &Script,
+    placement: &Placement,
+    lines: &mut Lines,
+) -> Result<(), ReportFault>
+    requires valid { IsValidScript script.now placement.now }
+    requires room { lines.old.1 + length script.now.config.keys < 2 ^ 32 }
+    ensures got { OnOk result (HasGotExactly script.now
+        (map (placed_words script.now) (range_with_len 1 (length script.now.config.keys)))
+        lines.old lines.new) }
+    ensures fault { IfErr result (IsPartFault script.now
+        (exact_dues (map (placed_words script.now)
+        (range_with_len 1 (length script.now.config.keys)))) lines.old) }
+{
+    for i in 0..placement.keys() {
+        let key = i + 1;
+        let workers = ascending(alloc, script.config.workers, placement.replicas(key))?;
+        let line = key_line(alloc, script, key, &workers)?;
+        read_exactly(lines, &line)?;
+    }
+    Ok(())
+}
+
+/// The lines before those of the sessions.
+fn read_head(
+    alloc: Global,
+    script: &Script,
+    placement: &Placement,
+    lines: &mut Lines,
+) -> Result<(), ReportFault>
+    requires valid { IsValidScript script.now placement.now }
+    requires room { lines.old.1 + length (head_lines script.now) < 2 ^ 32 }
+    ensures got { OnOk result (HasGotExactly script.now (head_lines script.now)
+        lines.old lines.new) }
+    ensures fault { IfErr result (IsPartFault script.now
+        (exact_dues (head_lines script.now)) lines.old) }
+{
+    if script.version < 2 {
+        read_exactly(lines, b"anna report 1")?;
+        return Ok(());
+    }
+    read_exactly(lines, b"anna report 2")?;
+    read_keys(alloc, script, placement, lines)?;
     Ok(())
 }
 
@@ -196,27 +292,6 @@ fn read_sessions(
 
 // ---- final cells
 
-/// Adds a key with each of its replicas, ascending.
-fn push_places(
-    places: &mut Vec<(u16, u16)>,
-    key: u16,
-    workers: u16,
-    replicas: &[u16],
-) -> Result<(), NoMemory>
-    requires { workers ≤ 8 }
-    ensures { OnOk result (places.new.items
-        ≡ places.old.items ++ places_within key replicas.now workers) }
-{
-    for i in 0..workers {
-        let worker = i + 1;
-        if !replicas.contains(&worker) {
-            continue;
-        }
-        places.push((key, worker))?;
-    }
-    Ok(())
-}
-
 /// The keys and workers of the final cells, in order.
 fn places_of(
     alloc: Global,
@@ -229,14 +304,20 @@ fn places_of(
     let mut places = Vec::new(alloc);
     for i in 0..placement.keys() {
         let key = i + 1;
-        push_places(
-            &mut places,
-            key,
-            script.config.workers,
-            placement.replicas(key),
-        )?;
+        let workers = ascending(alloc, script.config.workers, placement.replicas(key))?;
+        push_places(&mut places, key, &workers)?;
     }
     Ok(places)
+}
+
+/// Adds a key with each of these workers.
+fn push_places(places: &mut Vec<(u16, u16)>, key: u16, workers: &[u16]) -> Result<(), NoMemory>
+    ensures { OnOk result (places.new.items ≡ places.old.items ++ places_at key workers.now) }
+{
+    for worker in workers {
+        places.push((key, *worker))?;
+    }
+    Ok(())
 }
 
 /// The line of a final cell.
@@ -291,20 +372,19 @@ fn read_finals(
 fn read_parts(
     alloc: Global,
     script: &Script,
+    placement: &Placement,
     places: &[(u16, u16)],
     lines: &mut Lines,
 ) -> Result<Report, ReportFault>
-    requires valid { IsValidWhere script.now
-        (λ table. places.now ≡ final_places script.now table) }
+    requires valid { IsValidScript script.now placement.now }
+    requires places { places.now ≡ final_places script.now placement.now }
     requires first { lines.old.1 ≡ 1 }
-    ensures form { WhereverPlaced script.now places.now
-        (λ table. IfOk result (HasForm script.now table)) }
-    ensures got { WhereverPlaced script.now places.now
-        (λ table. IfOk result (HasGotReport script.now table lines.old lines.new)) }
-    ensures fault { WhereverPlaced script.now places.now
-        (λ table. IfErr result (IsPartFault script.now (report_dues script.now table) lines.old)) }
+    ensures form { IfOk result (HasForm script.now placement.now) }
+    ensures got { IfOk result (HasGotReport script.now placement.now lines.old lines.new) }
+    ensures fault { IfErr result (IsPartFault script.now
+        (report_dues script.now placement.now) lines.old) }
 {
-    read_exactly(lines, b"anna report 1")?;
+    read_head(alloc, script, placement, lines)?;
     let answers = read_sessions(alloc, script, script.sessions.as_slice(), lines)?;
     read_exactly(lines, b"final")?;
     let finals = read_finals(alloc, script, places, lines)?;
@@ -324,7 +404,7 @@ pub(crate) fn read_text(
 {
     let places = places_of(alloc, script, placement)?;
     let mut lines = Lines::new(bytes);
-    let report = read_parts(alloc, script, &places, &mut lines)?;
+    let report = read_parts(alloc, script, placement, &places, &mut lines)?;
     lines.end()?;
     Ok(report)
 }

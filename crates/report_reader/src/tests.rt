@@ -170,6 +170,43 @@ fn the_first_spoilt_line_is_named(rt: HostRuntime) -> Result<(), Fail> {
 }
 
 #[test]
+fn lines_of_keys_name_their_replicas(rt: HostRuntime) -> Result<(), Fail> {
+    // The version of a script of two workers, the lines before the final cells, and the first that is
+    // not in form.
+    let cases = [
+        (2, "anna report 2\nkey a max on 1 2\nkey b or on 2\n", 0),
+        (2, "anna report 1\nkey a max on 1 2\nkey b or on 2\n", 1),
+        (2, "anna report 2\n", 2),
+        (2, "anna report 2\nkey a max on 2 1\nkey b or on 2\n", 2),
+        (2, "anna report 2\nkey a max on 1\nkey b or on 2\n", 2),
+        (2, "anna report 2\nkey a max on 1 2 \nkey b or on 2\n", 2),
+        (2, "anna report 2\nkey a or on 1 2\nkey b or on 2\n", 2),
+        (2, "anna report 2\nkey b or on 2\nkey a max on 1 2\n", 2),
+        (2, "anna report 2\nkey a max on 1 2\n", 3),
+        (2, "anna report 2\nkey a max on 1 2\nkey b or on 02\n", 3),
+        (
+            2,
+            "anna report 2\nkey a max on 1 2\nkey b or on 2\nkey b or on 2\n",
+            4,
+        ),
+        (1, "anna report 1\n", 0),
+        (1, "anna report 2\n", 1),
+        (1, "anna report 1\nkey a max on 1 2\nkey b or on 2\n", 2),
+    ];
+    for (version, head, line) in cases {
+        let script = format!(in rt.alloc();
+            "anna {version}\nworkers 2\nfactor 2\nkey a max\nkey b or at 2\nend\n"
+        )?;
+        let text = format!(in rt.alloc();
+            "{head}final\na @1 clock - top 0 value none\na @2 clock - top 0 value none\nb @2 clock - top 0 value none\nend\n"
+        )?;
+        let found = line_out_of_form(rt.alloc(), script.as_str(), text.as_bytes())?;
+        assert_eq!(rt; found, line, "{head:?}");
+    }
+    Ok(())
+}
+
+#[test]
 fn lines_may_not_be_missing_nor_more(rt: HostRuntime) -> Result<(), Fail> {
     let text = text_of_lines(rt.alloc(), &LINES)?;
     let without_end = text_of_lines(rt.alloc(), &LINES[..26])?;

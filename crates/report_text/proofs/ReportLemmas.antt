@@ -8,7 +8,8 @@ use Rattle.std.specs.Fmt.{decimal}
 use Rattle.std.proofs.lemmas.Option.{slice_get-get_or}
 use Rattle.std.proofs.lemmas.Slice.Zip.{length-zip, get_or-zip}
 use Rattle.std.specs.List.{All, AllZip, flat_map, slice_get, zip}
-use Rattle.session_known.specs.Form.{Fits, HasForm}
+use Rattle.placement.proofs.ConfigLemmas.{placement_is}
+use Rattle.session_known.specs.Form.{Fits, HasForm, final_places}
 use Rattle.session_known.specs.Script.{IsValidScript, IsValidSession, MayStand}
 use Rattle.session_known.specs.declared.report.Answer.{Answer}
 use Rattle.session_known.specs.declared.report.FinalCell.{FinalCell}
@@ -17,8 +18,8 @@ use Rattle.session_known.specs.declared.script.Level.{Level}
 use Rattle.session_known.specs.declared.script.Line.{Line}
 use Rattle.session_known.specs.declared.script.Script.{Script}
 use Rattle.session_known.specs.declared.script.SessionPlan.{SessionPlan}
-use Rattle.report_lines.specs.Text.{number_at, commit_words, session_words, answer_words, answers_lines, sessions_lines, final_words, line_text, text_of}
-use Rattle.report_text.specs.Writes.{MayAnswer, session_text}
+use Rattle.report_lines.specs.Text.{head_lines, number_at, commit_words, session_words, answer_words, answers_lines, sessions_lines, final_words, line_text, text_of}
+use Rattle.report_text.specs.Writes.{AreAtPlaces, MayAnswer, session_text}
 
 -- ---- pairs of two lists
 
@@ -66,10 +67,13 @@ finals_text script (cell ∷ finals) later =
     ∙ sym (append_assoc (line_text (final_words script cell)) (flat_map (λ cell. line_text (final_words script cell)) finals) (flat_map line_text later))
 
 -- the text of a report, by what is written one after another
-pub report_text : (script : Script) (report : Report) → text_of script report ≡ codes "anna report 1\n" ++ (flat_map line_text (sessions_lines script script.sessions report.answers) ++ (codes "final\n" ++ (flat_map (λ cell. line_text (final_words script cell)) report.finals ++ codes "end\n")))
+pub report_text : (script : Script) (report : Report) → text_of script report ≡ flat_map line_text (head_lines script) ++ (flat_map line_text (sessions_lines script script.sessions report.answers) ++ (codes "final\n" ++ (flat_map (λ cell. line_text (final_words script cell)) report.finals ++ codes "end\n")))
 report_text script report =
-    ap (λ rest. codes "anna report 1\n" ++ rest) (flat_map-append line_text (sessions_lines script script.sessions report.answers) ((codes "final" ∷ []) ∷ (map (final_words script) report.finals ++ (codes "end" ∷ []) ∷ [])))
-    ∙ ap (λ rest. codes "anna report 1\n" ++ (flat_map line_text (sessions_lines script script.sessions report.answers) ++ (codes "final\n" ++ rest))) (finals_text script report.finals ((codes "end" ∷ []) ∷ []))
+    let head = flat_map line_text (head_lines script) in
+    let sessions = sessions_lines script script.sessions report.answers in
+    let cells = map (final_words script) report.finals ++ (codes "end" ∷ []) ∷ [] in
+    flat_map-append line_text (head_lines script) (sessions ++ ((codes "final" ∷ []) ∷ cells))
+    ∙ ap (λ rest. head ++ rest) (flat_map-append line_text sessions ((codes "final" ∷ []) ∷ cells) ∙ ap (λ rest. flat_map line_text sessions ++ (codes "final\n" ++ rest)) (finals_text script report.finals ((codes "end" ∷ []) ∷ [])))
 
 -- the line of an answer, of the line and the answer that are there
 pub answer_line : (script : Script) (line line' : Line) (answer answer' : Answer) → line ≡ line' → answer ≡ answer' → line_text (answer_words script line' answer') ≡ line_text (answer_words script line answer)
@@ -105,3 +109,7 @@ sessions_may script table (plan ∷ plans) (answers ∷ others) valid fit = (
 -- Each answer of a report in form is one that its line may have.
 pub report_may : (script : Script) (table : List (List ℕ)) (report : Report) → IsValidScript script table → HasForm script table report → AllZip (λ plan answers. AllZip (MayAnswer script) plan.lines answers) script.sessions report.answers
 report_may script table report valid form = sessions_may script table script.sessions report.answers valid.sessions form.answers
+
+-- Its final cells stand where those of the script do.
+pub report_places : (script : Script) (table : List (List ℕ)) (report : Report) → IsValidScript script table → HasForm script table report → AreAtPlaces script report.finals
+report_places script table report valid form = form.places ∙ ap (final_places script) (placement_is script.config table valid.placed)

@@ -9,8 +9,9 @@ use Rattle.std.proofs.lemmas.List.Concat.{flat_map-append}
 use Rattle.outside.proofs.GatheringLemmas.{Adds-then, Adds-as, Adds-byte}
 use Rattle.outside.specs.Gathering.{Adds}
 use Rattle.outside.specs.declared.gathering.Out.{Out}
-use Rattle.report_lines.specs.Text.{listed, braced, line_text}
-use Rattle.report_text.specs.Writes.{between, spaced}
+use Rattle.report_lines.proofs.RenderingLemmas.{spaced-append, bare_is}
+use Rattle.report_lines.specs.Text.{listed, braced, line_text, spaced}
+use Rattle.report_text.specs.Writes.{between}
 
 -- what holds of each item holds of the one at a place
 pub All-at : {A : Type 0} (P : A → Type 0) (items : List A) (i : ℕ) (item : A) → slice_get items i ≡ Some item → All P items → P item
@@ -33,17 +34,6 @@ pub braced_some : (items : List (List ℕ)) → 0 < length items → braced item
 braced_some [] some = absurd (omega arith)
 braced_some (item ∷ items) some = refl
 
--- words after spaces, and then more words
-spaced-append : (words others : List (List ℕ)) → spaced words ++ spaced others ≡ spaced (words ++ others)
-unfolding spaced
-spaced-append [] others = refl
-spaced-append (word ∷ words) others = ap (λ text. 32 ∷ text) (append_assoc word (spaced words) (spaced others) ∙ ap (λ text. word ++ text) (spaced-append words others))
-
--- no words
-pub spaced-nil : [] ≡ spaced []
-unfolding spaced
-spaced-nil = refl
-
 -- Words were written and then others.
 pub Adds-words : {K : Type 0} {written : K → Option (List ℕ)} {faults : K → ℕ} {a b c : Out K} (words others : List (List ℕ)) → Adds written faults a b (spaced words) → Adds written faults b c (spaced others) → Adds written faults a c (spaced (words ++ others))
 Adds-words words others first second = Adds-as (spaced-append words others) (Adds-then first second)
@@ -63,10 +53,7 @@ Adds-spaced {word = word} space first = Adds-as (ap (λ text. 32 ∷ text) (sym 
 
 -- a line is its first word, the others after spaces, and a line feed
 line_is : (word : List ℕ) (words : List (List ℕ)) → word ++ (spaced words ++ 10 ∷ []) ≡ line_text (word ∷ words)
-unfolding spaced
-line_is word [] = refl
-line_is word (next ∷ words) =
-    ap (λ end. word ++ (32 ∷ end)) (append_assoc next (spaced words) (10 ∷ []) ∙ line_is next words) ∙ sym (append_assoc word (32 ∷ join_with_byte 32 (next ∷ words)) (10 ∷ []))
+line_is word words = sym (append_assoc word (spaced words) (10 ∷ [])) ∙ ap (λ text. text ++ 10 ∷ []) (bare_is word words)
 
 -- A word was written, others after it, and a line feed.
 pub Adds-line : {K : Type 0} {written : K → Option (List ℕ)} {faults : K → ℕ} {a b c d : Out K} (word : List ℕ) (words : List (List ℕ)) → Adds written faults a b word → Adds written faults b c (spaced words) → Adds written faults c d (10 ∷ []) → Adds written faults a d (line_text (word ∷ words))
@@ -88,7 +75,7 @@ join_with_byte-push c (first ∷ next ∷ pieces) piece =
     ap (λ joined. first ++ (c ∷ joined)) (join_with_byte-push c (next ∷ pieces) piece) ∙ sym (append_assoc first (c ∷ join_with_byte c (next ∷ pieces)) (c ∷ piece))
 
 -- the first items and one more
-take_one_more : {A : Type 0} (items : List A) (i : ℕ) (item : A) → slice_get items i ≡ Some item → take (i + 1) items ≡ take i items ++ item ∷ []
+pub take_one_more : {A : Type 0} (items : List A) (i : ℕ) (item : A) → slice_get items i ≡ Some item → take (i + 1) items ≡ take i items ++ item ∷ []
 take_one_more items i item got = take_more items i item (slice_get_within items i item got) ∙ ap (λ last. take i items ++ last ∷ []) (get_or_from_slice_get items i item item got)
 
 -- the texts of the first items and one more

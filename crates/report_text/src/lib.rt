@@ -7,6 +7,7 @@
 
 mod answers;
 mod cells;
+mod keys;
 mod pieces;
 mod report;
 

@@ -10,6 +10,7 @@ use crate::answers::write_answer;
 use crate::cells::{
     write_cell, write_clock_words, write_key, write_name, write_spaced_worker, write_value_words,
 };
+use crate::keys::write_head;
 use lattice_laws::Items;
 use report_lines::level_text;
 use script_reader::outside::{Failed, Out, Sink};
@@ -24,7 +25,7 @@ pub fn write_report<K: Sink>(script: &Script, report: &Report, sink: &mut K) -> 
     ensures cause { HasCause (K.faults sink.old) (K.faults sink.new) result }
 {
     let mut out = Out::new(sink);
-    out.write(b"anna report 1\n");
+    write_head(&mut out, script, report.finals.as_slice());
     write_sessions(&mut out, script, report.answers.as_slice());
     out.write(b"final\n");
     write_finals(&mut out, script, report.finals.as_slice());

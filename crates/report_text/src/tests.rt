@@ -19,7 +19,7 @@ fn write_back<K: Sink>(
 }
 
 /// Scripts, each with a report of its form.
-const WORKED: [(&str, &str); 8] = [
+const WORKED: [(&str, &str); 9] = [
     (
         "anna 1\nworkers 1\nkey a max\nsession s eventual\nput a 5\nput a 3\nget a\nend\n",
         "anna report 1\nsession s eventual\nput a 1 at 1\nput a 2 at 2\nget a @1 clock s:2 top 2 value 5\nfinal\na @1 clock s:2 top 2 value 5\nend\n",
@@ -27,6 +27,10 @@ const WORKED: [(&str, &str); 8] = [
     (
         "anna 1\nworkers 2\nfactor 2\nend\n",
         "anna report 1\nfinal\nend\n",
+    ),
+    (
+        "anna 2\nworkers 3\nfactor 3\nkey a versions\nkey b set at 3 1\nkey c or factor 3\nkey d last at 2\nsession s eventual\nend\n",
+        "anna report 2\nkey a versions on 1 2 3\nkey b set on 1 3\nkey c or on 1 2 3\nkey d last on 2\nsession s eventual\nfinal\na @1 clock - top 0 value none\na @2 clock - top 0 value none\na @3 clock - top 0 value none\nb @1 clock - top 0 value none\nb @3 clock - top 0 value none\nc @1 clock - top 0 value none\nc @2 clock - top 0 value none\nc @3 clock - top 0 value none\nd @2 clock - top 0 value none\nend\n",
     ),
     (
         "anna 1\nworkers 1\nkey a max\nsession s eventual\nget a\nend\n",

@@ -1,8 +1,9 @@
 -- What reading a line needs: the last session, where a command stands, what it adds, why it is at fault, and where a line may stand.
-use Rattle.std.proofs.Common.{◌≡◌, ◌≢◌, ◌⊎◌, ℕ, ◌+◌, ◌<◌, ◌≤◌, ◌==◌, Bool, true, false, not, ◌&&◌, ◌||◌, nat_lt, nat_le, List, [], ◌∷◌, ◌++◌, map, length, Option, None, Some, is_some, unwrap_or, slice_get, slice_index_or, get_or, Result, Ok, Err, MatchResult, MatchOption, refl, sym, ap, ◌∙◌, subst, inl, inr, arith, sum_by}
+use Rattle.std.proofs.Common.{◌≡◌, ◌≢◌, ◌⊎◌, ℕ, ◌+◌, ◌<◌, ◌≤◌, ◌==◌, Bool, true, false, not, ◌&&◌, ◌||◌, nat_lt, nat_le, List, [], ◌∷◌, ◌++◌, map, length, Option, None, Some, is_some, unwrap_or, cond, codes, slice_get, slice_index_or, get_or, Result, Ok, Err, MatchResult, MatchOption, refl, sym, ap, ◌∙◌, subst, inl, inr, arith, sum_by}
 use Rattle.std.specs.List.{All, list_any, flat_map, range_with_len}
 use Rattle.std.specs.Option.{option_map_or, option_and_then}
-use Rattle.std.proofs.lemmas.Bool.{eqb-true}
+use Rattle.std.specs.Str.{bytes_eq}
+use Rattle.std.proofs.lemmas.Bool.{eqb-true, not-false}
 use Rattle.std.proofs.lemmas.List.{length-map, length-append, get_or-map}
 use Rattle.std.proofs.lemmas.List.Concat.{flat_map-cons}
 use Rattle.std.proofs.lemmas.List.Elements.{All-nil, All-cons, All-head, All-tail, All-append, All-map, All-take, All-filter, All-get_or, All-same}
@@ -10,9 +11,10 @@ use Rattle.std.proofs.lemmas.List.Folds.{Any-from_list_any}
 use Rattle.std.proofs.lemmas.List.FromFn.{get_or-range_with_len, length-range_with_len}
 use Rattle.std.proofs.lemmas.List.Sorted.{All-permutation}
 use Rattle.std.proofs.lemmas.List.Sums.{sum_by_push}
+use Rattle.std.proofs.lemmas.Slice.Eq.{bytes_eq-Decides}
 use Rattle.composed_value.specs.declared.kind.Kind.{Kind}
 use Rattle.composed_value.specs.declared.payload.Payload.{Payload}
-use Rattle.placement.specs.Config.{IsOneOf, ArePins, IsValidConfig, IsRing, pinned_or, replicas_on, placed}
+use Rattle.placement.specs.Config.{IsOneOf, ArePins, IsValidConfig, IsRing, factor_of, pinned_or, replicas_on, placed}
 use Rattle.placement.proofs.ConfigLemmas.{is_placement}
 use Rattle.placement.specs.Hash.{hash_of}
 use Rattle.placement.specs.Ring.{point_of, points_of, round, workers_met, walked}
@@ -22,12 +24,12 @@ use Rattle.placement.specs.declared.ring.Point.{Point}
 use Rattle.session_known.specs.declared.script.Line.{Line}
 use Rattle.session_known.specs.declared.script.SessionPlan.{SessionPlan}
 use Rattle.script_reader.specs.Entries.{Shows}
-use Rattle.script_reader.specs.Faults.{Context, code_of, keys_of, level_of, last_level, commands_of, is_committed, is_declared, is_replica, kind_of_key, may_follow, may_have, suits, lacks_word, lacks_number, lacks_name, repeats, is_unknown, misfits, passes_limit, breaks_transaction}
+use Rattle.script_reader.specs.Faults.{Context, code_of, keys_of, level_of, last_level, commands_of, is_committed, is_declared, is_replica, is_version, is_in_version, kind_of_key, may_follow, may_have, suits, lacks_word, lacks_number, lacks_name, repeats, is_unknown, misfits, passes_limit, breaks_transaction}
 use Rattle.script_reader.proofs.FaultsLaws.{code_limit, code_transaction, code_none}
 use Rattle.script_reader.specs.Keywords.{is_factor, is_round}
 use Rattle.script_reader.specs.Reader.{so_far, plans_of, begun_of, with_added, begun_after_line, AreKept, IsKept, SuitsPlace, IsFaultOf, HasRead, HasAdded, Reads, IsKeyAt, MayBound, IsBoundFault}
 use Rattle.script_reader.specs.Said.{place_of, number_in, payload_for, line_said}
-use Rattle.script_reader.specs.Steps.{next_context, with_line, with_sessions, with_command, script_after, begun_after}
+use Rattle.script_reader.specs.Steps.{next_context, with_line, with_sessions, with_version, with_command, script_after, begun_after}
 use Rattle.script_reader.specs.Words.{is_payload_too_great, number_of, number_said, payload_said}
 use Rattle.script_reader.specs.declared.code.Code.TheVariants as codes_of
 use Rattle.script_reader.specs.declared.entry.Entry.{Entry}
@@ -59,7 +61,7 @@ with_plans reader plans begun = record {
   has_workers = reader.has_workers;
   has_factor = reader.has_factor;
   has_round = reader.has_round;
-  script = record { config = reader.config; round = reader.round; kinds = reader.kinds.items; sessions = plans };
+  script = record { version = reader.version; config = reader.config; round = reader.round; kinds = reader.kinds.items; sessions = plans };
   begun = begun;
 }
 
@@ -68,6 +70,7 @@ abbrev pub with_state : Reader → Sessions → Reader
 with_state reader sessions = record {
   named = reader.named;
   has_header = reader.has_header;
+  version = reader.version;
   has_workers = reader.has_workers;
   has_factor = reader.has_factor;
   has_round = reader.has_round;
@@ -301,10 +304,10 @@ pinned_within workers (pin ∷ pins) walk pinned met = pinned
 pub replica_few : (config : Config) (place worker : ℕ) → IsValidConfig config → place < length config.keys → list_any (λ replica. replica == worker) (slice_index_or (placed config) place []) ≡ true → worker ≤ 8
 replica_few config place worker valid within is =
     let known = is_placement config in
-    let key : KeyPlace = get_or config.keys place (record { name = []; pins = [] }) in
-    let pins = All-get_or (λ (key : KeyPlace). ArePins config.workers key.pins) config.keys place (record { name = []; pins = [] }) within valid.pins in
-    let row : slice_index_or (placed config) place [] ≡ replicas_on known.ring config key = ap (λ (table : List (List ℕ)). slice_index_or table place []) known.replicas ∙ get_or-map (replicas_on known.ring config) config.keys place (record { name = []; pins = [] }) [] within in
-    let all : All (IsOneOf config.workers) (replicas_on known.ring config key) = pinned_within config.workers key.pins (walked known.ring (hash_of key.name) config.factor) pins.are_workers (walk_within config.workers (hash_of key.name) config.factor known.ring known.is_ring) in
+    let key : KeyPlace = get_or config.keys place (record { name = []; pins = []; factor = None }) in
+    let pins = All-get_or (λ (key : KeyPlace). ArePins config.workers key.pins) config.keys place (record { name = []; pins = []; factor = None }) within valid.pins in
+    let row : slice_index_or (placed config) place [] ≡ replicas_on known.ring config key = ap (λ (table : List (List ℕ)). slice_index_or table place []) known.replicas ∙ get_or-map (replicas_on known.ring config) config.keys place (record { name = []; pins = []; factor = None }) [] within in
+    let all : All (IsOneOf config.workers) (replicas_on known.ring config key) = pinned_within config.workers key.pins (walked known.ring (hash_of key.name) (factor_of config key)) pins.are_workers (walk_within config.workers (hash_of key.name) (factor_of config key) known.ring known.is_ring) in
     let at = Any-from_list_any (λ replica. replica == worker) (replicas_on known.ring config key) (ap (list_any (λ replica. replica == worker)) (sym row) ∙ is) in
     let same : at.1 ≡ worker = eqb-true at.1 worker at.4 in
     let one : IsOneOf config.workers at.1 = subst (IsOneOf config.workers) at.3 (all at.0 at.1 at.2) in
@@ -347,9 +350,9 @@ pub and_there : (a rest : Bool) → rest ≡ false → (a && rest) ≡ false
 and_there true rest none = none
 and_there false rest none = refl
 
--- a line that does not suit its session
-pub unsuited : (context : Context) (keyword : Keyword) (words : List (List ℕ)) → suits (level_of context) keyword words ≡ false → lacks_word context keyword words ≡ true
-unsuited context keyword words fails = ap not (and_there (may_follow context keyword) _ (and_there (may_have keyword words) (suits (level_of context) keyword words) fails))
+-- a line that does not suit its session or the version
+pub unsuited : (context : Context) (keyword : Keyword) (words : List (List ℕ)) → (suits (level_of context) keyword words && is_in_version context.script.version keyword words) ≡ false → lacks_word context keyword words ≡ true
+unsuited context keyword words fails = ap not (and_there (may_follow context keyword) _ (and_there (may_have keyword words) (suits (level_of context) keyword words && is_in_version context.script.version keyword words) fails))
 
 pub header_stands : (has is : Bool) → is ≡ true → (not has && not is) ≡ false
 header_stands true is stands = refl
@@ -379,34 +382,23 @@ no_workers : (has_workers has_header : Bool) → (has_workers ≡ true → has_h
 no_workers true has_header headed none = sym (headed refl)
 no_workers false has_header headed none = sym none
 
--- a reader after the header
-abbrev pub with_header : Reader → Reader
-with_header reader = record {
-  named = reader.named;
-  has_header = true;
-  has_workers = reader.has_workers;
-  has_factor = reader.has_factor;
-  has_round = reader.has_round;
-  config = reader.config;
-  round = reader.round;
-  keys = reader.keys;
-  kinds = reader.kinds;
-  sessions = reader.sessions;
-}
+-- the version that a header says
+pub version_is : (word : List ℕ) (two : Bool) → bytes_eq word (codes "2") ≡ two → is_version word ≡ true → cond two 2 1 ≡ number_of word
+version_is word true is either = sym (ap number_of ((bytes_eq-Decides word (codes "2")).0 is))
+version_is word false is either =
+    let one : bytes_eq word (codes "1") ≡ true = or_false (bytes_eq word (codes "1")) (bytes_eq word (codes "2")) is ∙ either in
+    sym (ap number_of ((bytes_eq-Decides word (codes "1")).0 one))
 
-first_read : (reader : Reader) (version : List ℕ) → IsKept reader → SuitsPlace (so_far reader) keywords.Anna (version ∷ []) → HasRead reader (with_header reader) keywords.Anna (version ∷ [])
-first_read reader version kept stands =
+-- a header that was read
+pub header_read : (reader : Reader) (word : List ℕ) (version : ℕ) → IsKept reader → SuitsPlace (so_far reader) keywords.Anna (word ∷ []) → (is_version word ≡ true → version ≡ number_of word) → HasRead reader (record reader { has_header = true; version = version }) keywords.Anna (word ∷ [])
+header_read reader word version kept stands says =
     let none : reader.has_header ≡ false = none_before reader.has_header _ stands.word in
+    let is : is_version word ≡ true = not-false _ (ap (λ has. not has && not (is_version word)) (sym none) ∙ stands.header) in
     let workers : reader.has_workers ≡ reader.has_header = no_workers reader.has_workers reader.has_header kept.headed none in
     let factor : reader.has_factor ≡ (reader.has_factor || false) = or_false reader.has_factor false refl in
     let round : reader.has_round ≡ (reader.has_round || false) = or_false reader.has_round false refl in
     record {
       kept = record { headed = λ _. refl; fresh = kept.fresh; valid = kept.valid; names = kept.names; kinds = kept.kinds; few_keys = kept.few_keys; sessions = kept.sessions };
       faultless = code_none _ _ _ stands.header stands.word refl refl refl refl refl refl refl;
-      added = λ i. record { named = reader.named; has_header = true; has_workers = workers i; has_factor = factor i; has_round = round i; script = (so_far reader).script; begun = (so_far reader).begun };
+      added = λ i. record { named = reader.named; has_header = true; has_workers = workers i; has_factor = factor i; has_round = round i; script = with_version (says is i) (so_far reader).script; begun = (so_far reader).begun };
     }
-
--- a header that was read
-pub header_read : (reader : Reader) (keyword : Keyword) (words : List (List ℕ)) (version : List ℕ) → keyword ≡ keywords.Anna → words ≡ version ∷ [] → IsKept reader → SuitsPlace (so_far reader) keyword words → HasRead reader (with_header reader) keyword words
-header_read reader keyword words version same alike kept stands =
-    reads_at reader (with_header reader) (Ok tt) keyword keywords.Anna words (version ∷ []) same alike (first_read reader version kept (stands_at (so_far reader) keyword keywords.Anna words (version ∷ []) same alike stands))

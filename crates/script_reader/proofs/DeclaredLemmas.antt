@@ -1,6 +1,7 @@
 -- The lines that declare: what the reader keeps after each, and which fault a line has.
-use Rattle.std.proofs.Common.{◌≡◌, ℕ, ◌+◌, ◌<◌, ◌≤◌, Bool, true, false, not, cond, nat_le, ◌||◌, ◌&&◌, List, [], ◌∷◌, ◌++◌, map, length, drop, Option, Some, None, is_some, unwrap_or, Result, Ok, Err, MatchResult, MatchOption, slice_index_or, All, Vec, Global, refl, sym, ap, subst, ◌∙◌, arith}
+use Rattle.std.proofs.Common.{◌≡◌, ℕ, ◌+◌, ◌<◌, ◌≤◌, Bool, true, false, not, cond, nat_le, ◌||◌, ◌&&◌, List, [], ◌∷◌, ◌++◌, map, length, drop, Option, Some, None, is_some, unwrap_or, IfSome, Result, Ok, Err, MatchResult, MatchOption, All, Vec, Global, refl, sym, ap, subst, ◌∙◌, arith}
 use Rattle.std.specs.List.{list_any, sum_by}
+use Rattle.std.specs.Option.{option_map_or}
 use Rattle.std.specs.Str.{bytes_eq}
 use Rattle.std.proofs.lemmas.Bool.{and_parts, or_parts, not-true, false≢true, both_ways}
 use Rattle.std.proofs.lemmas.Bool.Decides.{nat_tests}
@@ -10,7 +11,7 @@ use Rattle.std.proofs.lemmas.List.Folds.{list_any-append}
 use Rattle.std.proofs.lemmas.Option.{MatchOption-at_some, MatchOption-at_none}
 use Rattle.composed_value.specs.declared.kind.Kind.{Kind}
 use Rattle.composed_value.specs.declared.kind.Kind.TheVariants as kinds_of
-use Rattle.placement.specs.Config.{ArePins, IsOneOf, IsPlacement, placed, replicas_on}
+use Rattle.placement.specs.Config.{ArePins, IsOwnFactor, IsOneOf, IsPlacement, placed, replicas_on}
 use Rattle.placement.proofs.ConfigLemmas.{placement_is}
 use Rattle.placement.specs.Ring.{ring_of}
 use Rattle.placement.specs.declared.config.Config.{Config}
@@ -20,12 +21,12 @@ use Rattle.session_known.specs.declared.script.Level.TheVariants.{Eventual}
 use Rattle.session_known.specs.declared.script.Line.{Line}
 use Rattle.session_known.specs.declared.script.SessionPlan.{SessionPlan}
 use Rattle.script_reader.specs.Entries.{AreKeyWords, AreSessionWords}
-use Rattle.script_reader.specs.Faults.{Context, level_of, sessions_of, may_follow, may_have, suits, is_declared, has_repeat, is_within, code_of}
+use Rattle.script_reader.specs.Faults.{Context, level_of, sessions_of, may_follow, may_have, suits, is_in_version, is_declared, has_repeat, is_within, code_of}
 use Rattle.script_reader.proofs.FaultsLaws.{code_number, code_name, code_twice, code_unknown, code_limit, code_transaction, code_none}
 use Rattle.script_reader.specs.Reader.{so_far, plans_of, begun_of, AreKept, IsKept, SuitsPlace, IsFaultOf, IsNameFault, HasRead, Reads, HasOpened}
-use Rattle.script_reader.specs.Said.{place_of, with_name, pins_said}
-use Rattle.script_reader.proofs.ValidListsLaws.{within_is, are_workers, no_repeat, name_new}
-use Rattle.script_reader.specs.Words.{number_said, is_number, has_non_number, number_of, AreNumbers, is_name, kind_said, level_said}
+use Rattle.script_reader.specs.Said.{place_of, with_name, key_numbers, pins_by, factor_by, pins_said, factor_said}
+use Rattle.script_reader.proofs.ValidListsLaws.{within_is, own_factor, are_workers, no_repeat, name_new}
+use Rattle.script_reader.specs.Words.{number_said, is_number, has_non_number, number_of, AreNumbers, is_name, level_said}
 use Rattle.script_reader.specs.declared.code.Code.{Code}
 use Rattle.script_reader.specs.declared.code.Code.TheVariants as codes_of
 use Rattle.script_reader.specs.declared.keyword.Keyword.{Keyword}
@@ -44,7 +45,7 @@ first_held false b c is = absurd cc
 
 -- a line that may stand may follow those before it
 pub follows : (context : Context) (keyword : Keyword) (words : List (List ℕ)) → SuitsPlace context keyword words → may_follow context keyword ≡ true
-follows context keyword words stands = first_held (may_follow context keyword) (may_have keyword words) (suits (level_of context) keyword words) stands.word
+follows context keyword words stands = first_held (may_follow context keyword) (may_have keyword words) (suits (level_of context) keyword words && is_in_version context.script.version keyword words) stands.word
 
 or_false : (a : Bool) → a ≡ (a || false)
 or_false true = refl
@@ -63,7 +64,7 @@ pub neither : (a b : Bool) → a ≡ false → b ≡ false → (a || b) ≡ fals
 neither true b first second = absurd cc
 neither false b first second = second
 
-at_most_is : {least n : ℕ} → least ≤ n → nat_le least n ≡ true
+pub at_most_is : {least n : ℕ} → least ≤ n → nat_le least n ≡ true
 at_most_is is = grind (arith, nat_tests)
 
 at_least_is : {least n : ℕ} → n < least → nat_le least n ≡ false
@@ -126,6 +127,7 @@ workers_read reader word n kept stands is inside =
           factor_most = omega (arith, fresh.0, bounds.0);
           keys_most = kept.few_keys;
           pins = All-same (λ key. ArePins n key.pins) reader.config.keys [] fresh.1 (All-nil _);
+          factors = All-same (IsOwnFactor n) reader.config.keys [] fresh.1 (All-nil _);
         };
         names = kept.names;
         kinds = kept.kinds;
@@ -140,6 +142,7 @@ workers_read reader word n kept stands is inside =
         has_factor = or_false reader.has_factor i;
         has_round = or_false reader.has_round i;
         script = record {
+          version = reader.version;
           config = record { workers = sym (number_is word n is) i; factor = reader.config.factor; keys = reader.config.keys };
           round = reader.round;
           kinds = reader.kinds.items;
@@ -179,6 +182,7 @@ factor_read reader word n kept stands is once inside =
           factor_most = bounds.1;
           keys_most = valid.keys_most;
           pins = valid.pins;
+          factors = valid.factors;
         };
         names = kept.names;
         kinds = kept.kinds;
@@ -193,6 +197,7 @@ factor_read reader word n kept stands is once inside =
         has_factor = or_true reader.has_factor i;
         has_round = or_false reader.has_round i;
         script = record {
+          version = reader.version;
           config = record { workers = reader.config.workers; factor = sym (number_is word n is) i; keys = reader.config.keys };
           round = reader.round;
           kinds = reader.kinds.items;
@@ -228,6 +233,7 @@ round_read reader word n kept stands is once inside =
         has_factor = or_false reader.has_factor i;
         has_round = or_true reader.has_round i;
         script = record {
+          version = reader.version;
           config = reader.config;
           round = sym (number_is word n is) i;
           kinds = reader.kinds.items;
@@ -297,6 +303,7 @@ session_read old new words name plan kept are stands named once few ended name_i
         has_factor = or_false old.has_factor i;
         has_round = or_false old.has_round i;
         script = record {
+          version = old.version;
           config = old.config;
           round = old.round;
           kinds = old.kinds.items;
@@ -338,6 +345,7 @@ opened_first reader plan placement done kept has empty first placed_is none = re
     has_factor = reader.has_factor;
     has_round = reader.has_round;
     script = record {
+      version = reader.version;
       config = reader.config;
       round = reader.round;
       kinds = reader.kinds.items;
@@ -368,48 +376,81 @@ session_last sessions own name met last is own_is missing last_is =
 -- ---- keys
 
 -- what holds of the name and the words after it holds of the words
-at_key : (P : List (List ℕ) → Type 0) (words : List (List ℕ)) (name : List ℕ) (kind : Kind) (pins : List (List ℕ)) → AreKeyWords words name kind pins
-    → ((rest : List (List ℕ)) → kind_said (slice_index_or (name ∷ rest) 1 []) ≡ Some kind → drop 3 (name ∷ rest) ≡ pins → P (name ∷ rest)) → P words
-at_key P [] name kind pins are holds = absurd (false≢true are.may_stand)
-at_key P (first ∷ rest) name kind pins are holds = subst (λ (n : List ℕ). P (n ∷ rest)) (sym are.name_is) (holds rest are.kind_is are.pins_are)
+at_key : (P : List (List ℕ) → Type 0) (words : List (List ℕ)) (name : List ℕ) (kind : Kind) (by_factor : Bool) (numbers : List (List ℕ)) → AreKeyWords words name kind by_factor numbers
+    → ((rest : List (List ℕ)) → AreKeyWords (name ∷ rest) name kind by_factor numbers → P (name ∷ rest)) → P words
+at_key P [] name kind by_factor numbers are holds = absurd (false≢true are.may_stand)
+at_key P (first ∷ rest) name kind by_factor numbers are holds =
+    let named : AreKeyWords (name ∷ rest) name kind by_factor numbers = subst (λ (n : List ℕ). AreKeyWords (n ∷ rest) name kind by_factor numbers) are.name_is are in
+    subst (λ (n : List ℕ). P (n ∷ rest)) (sym are.name_is) (holds rest named)
 
-said_is : (words pins : List (List ℕ)) (numbers : List ℕ) → drop 3 words ≡ pins → AreNumbers pins numbers → pins_said words ≡ numbers
-said_is words pins numbers pins_are read = ap (map number_of) pins_are ∙ sym read.numbers_are
+-- what the words of a key say
+record SaysKey (words : List (List ℕ)) (pins : List ℕ) (factor : Option ℕ) : Type 0 where
+  fine : has_non_number (drop 3 words) ≡ false
+  pins_are : pins_said words ≡ pins
+  factor_is : factor_said words ≡ factor
 
-pub key_number : (context : Context) (words : List (List ℕ)) (name : List ℕ) (kind : Kind) (pins : List (List ℕ)) → AreKeyWords words name kind pins → SuitsPlace context keywords.Key words → has_non_number pins ≡ true → code_of context keywords.Key words ≡ Some codes_of.Number
-key_number context words name kind pins are stands lacking = code_number _ _ _ stands.header stands.word (ap has_non_number are.pins_are ∙ lacking)
+-- the numbers that a key's words write, as pins or as a factor
+pub record AreKeyNumbers (by_factor : Bool) (words : List (List ℕ)) (pins : List ℕ) (factor : Option ℕ) : Type 0 where
+  pub numbers : List ℕ
+  pub read : AreNumbers words numbers
+  pub pins_are : pins ≡ pins_by by_factor numbers
+  pub factor_is : factor ≡ factor_by by_factor numbers
 
-pub key_name : (context : Context) (words : List (List ℕ)) (name : List ℕ) (kind : Kind) (pins : List (List ℕ)) (numbers : List ℕ) → AreKeyWords words name kind pins → SuitsPlace context keywords.Key words → AreNumbers pins numbers → is_name name ≡ false → code_of context keywords.Key words ≡ Some codes_of.Name
-key_name context words name kind pins numbers are stands read unnamed =
-    at_key (λ words. SuitsPlace context keywords.Key words → code_of context keywords.Key words ≡ Some codes_of.Name) words name kind pins are
-    (λ rest kind_is pins_are stands. code_name _ _ _ stands.header stands.word (ap has_non_number pins_are ∙ read.each) (ap not unnamed)) stands
+-- what was told of the numbers
+pub numbers_say : (by_factor : Bool) (words : List (List ℕ)) (numbers slice pins : List ℕ) (factor : Option ℕ) → AreNumbers words numbers → slice ≡ numbers → pins ≡ pins_by by_factor slice → factor ≡ factor_by by_factor slice → AreKeyNumbers by_factor words pins factor
+numbers_say by_factor words numbers slice pins factor read same pins_are factor_is = record {
+  numbers = numbers;
+  read = read;
+  pins_are = pins_are ∙ ap (pins_by by_factor) same;
+  factor_is = factor_is ∙ ap (factor_by by_factor) same;
+}
 
-pub key_twice : (context : Context) (words : List (List ℕ)) (name : List ℕ) (kind : Kind) (pins : List (List ℕ)) (numbers : List ℕ) → AreKeyWords words name kind pins → SuitsPlace context keywords.Key words → AreNumbers pins numbers → is_name name ≡ true
-    → (is_declared context name || has_repeat numbers) ≡ true → code_of context keywords.Key words ≡ Some codes_of.Twice
-key_twice context words name kind pins numbers are stands read named twice =
-    at_key (λ words. SuitsPlace context keywords.Key words → code_of context keywords.Key words ≡ Some codes_of.Twice) words name kind pins are
-    (λ rest kind_is pins_are stands. code_twice _ _ _ stands.header stands.word (ap has_non_number pins_are ∙ read.each) (ap not named)
-    (ap (λ said. is_declared context name || has_repeat said) (said_is (name ∷ rest) pins numbers pins_are read) ∙ twice)) stands
+says_key : (words : List (List ℕ)) (name : List ℕ) (kind : Kind) (by_factor : Bool) (numbers : List (List ℕ)) (pins : List ℕ) (factor : Option ℕ) → AreKeyWords words name kind by_factor numbers → AreKeyNumbers by_factor numbers pins factor → SaysKey words pins factor
+says_key words name kind by_factor numbers pins factor are say =
+    let same : key_numbers words ≡ say.numbers = ap (map number_of) are.numbers_are ∙ sym say.read.numbers_are in
+    record {
+      fine = ap has_non_number are.numbers_are ∙ say.read.each;
+      pins_are = (λ i. pins_by (are.by_is i) (same i)) ∙ sym say.pins_are;
+      factor_is = (λ i. factor_by (are.by_is i) (same i)) ∙ sym say.factor_is;
+    }
 
-pub key_unknown : (context : Context) (words : List (List ℕ)) (name : List ℕ) (kind : Kind) (pins : List (List ℕ)) (numbers : List ℕ) → AreKeyWords words name kind pins → SuitsPlace context keywords.Key words → AreNumbers pins numbers → is_name name ≡ true
-    → (is_declared context name || has_repeat numbers) ≡ false → list_any (λ pin. not (is_within 1 context.script.config.workers pin)) numbers ≡ true → code_of context keywords.Key words ≡ Some codes_of.Unknown
-key_unknown context words name kind pins numbers are stands read named once unknown =
-    at_key (λ words. SuitsPlace context keywords.Key words → code_of context keywords.Key words ≡ Some codes_of.Unknown) words name kind pins are
-    (λ rest kind_is pins_are stands.
-    let said = said_is (name ∷ rest) pins numbers pins_are read in
-    code_unknown _ _ _ stands.header stands.word (ap has_non_number pins_are ∙ read.each) (ap not named)
-    (ap (λ said. is_declared context name || has_repeat said) said ∙ once)
-    (ap (list_any (λ pin. not (is_within 1 context.script.config.workers pin))) said ∙ unknown)) stands
+pub key_number : (context : Context) (words : List (List ℕ)) (name : List ℕ) (kind : Kind) (by_factor : Bool) (numbers : List (List ℕ)) → AreKeyWords words name kind by_factor numbers → SuitsPlace context keywords.Key words → has_non_number numbers ≡ true → code_of context keywords.Key words ≡ Some codes_of.Number
+key_number context words name kind by_factor numbers are stands lacking = code_number _ _ _ stands.header stands.word (ap has_non_number are.numbers_are ∙ lacking)
 
-pub key_limit : (context : Context) (words : List (List ℕ)) (name : List ℕ) (kind : Kind) (pins : List (List ℕ)) (numbers : List ℕ) → AreKeyWords words name kind pins → SuitsPlace context keywords.Key words → AreNumbers pins numbers → is_name name ≡ true
-    → (is_declared context name || has_repeat numbers) ≡ false → list_any (λ pin. not (is_within 1 context.script.config.workers pin)) numbers ≡ false → 128 ≤ length context.script.config.keys → code_of context keywords.Key words ≡ Some codes_of.Limit
-key_limit context words name kind pins numbers are stands read named once known many =
-    at_key (λ words. SuitsPlace context keywords.Key words → code_of context keywords.Key words ≡ Some codes_of.Limit) words name kind pins are
-    (λ rest kind_is pins_are stands.
-    let said = said_is (name ∷ rest) pins numbers pins_are read in
-    code_limit _ _ _ stands.header stands.word (ap has_non_number pins_are ∙ read.each) (ap not named)
-    (ap (λ said. is_declared context name || has_repeat said) said ∙ once)
-    (ap (list_any (λ pin. not (is_within 1 context.script.config.workers pin))) said ∙ known) refl (at_most_is many)) stands
+pub key_name : (context : Context) (words : List (List ℕ)) (name : List ℕ) (kind : Kind) (by_factor : Bool) (numbers : List (List ℕ)) (found : List ℕ) → AreKeyWords words name kind by_factor numbers → SuitsPlace context keywords.Key words → AreNumbers numbers found → is_name name ≡ false → code_of context keywords.Key words ≡ Some codes_of.Name
+key_name context words name kind by_factor numbers found are stands read unnamed =
+    at_key (λ words. SuitsPlace context keywords.Key words → code_of context keywords.Key words ≡ Some codes_of.Name) words name kind by_factor numbers are
+    (λ rest are stands. code_name _ _ _ stands.header stands.word (ap has_non_number are.numbers_are ∙ read.each) (ap not unnamed)) stands
+
+pub key_twice : (context : Context) (words : List (List ℕ)) (name : List ℕ) (kind : Kind) (by_factor : Bool) (numbers : List (List ℕ)) (pins : List ℕ) (factor : Option ℕ) → AreKeyWords words name kind by_factor numbers → SuitsPlace context keywords.Key words → AreKeyNumbers by_factor numbers pins factor → is_name name ≡ true
+    → (is_declared context name || has_repeat pins) ≡ true → code_of context keywords.Key words ≡ Some codes_of.Twice
+key_twice context words name kind by_factor numbers pins factor are stands say named twice =
+    at_key (λ words. SuitsPlace context keywords.Key words → code_of context keywords.Key words ≡ Some codes_of.Twice) words name kind by_factor numbers are
+    (λ rest are stands.
+    let says = says_key (name ∷ rest) name kind by_factor numbers pins factor are say in
+    code_twice _ _ _ stands.header stands.word says.fine (ap not named) (ap (λ said. is_declared context name || has_repeat said) says.pins_are ∙ twice)) stands
+
+pub key_unknown : (context : Context) (words : List (List ℕ)) (name : List ℕ) (kind : Kind) (by_factor : Bool) (numbers : List (List ℕ)) (pins : List ℕ) (factor : Option ℕ) → AreKeyWords words name kind by_factor numbers → SuitsPlace context keywords.Key words → AreKeyNumbers by_factor numbers pins factor → is_name name ≡ true
+    → (is_declared context name || has_repeat pins) ≡ false → list_any (λ pin. not (is_within 1 context.script.config.workers pin)) pins ≡ true → code_of context keywords.Key words ≡ Some codes_of.Unknown
+key_unknown context words name kind by_factor numbers pins factor are stands say named once unknown =
+    at_key (λ words. SuitsPlace context keywords.Key words → code_of context keywords.Key words ≡ Some codes_of.Unknown) words name kind by_factor numbers are
+    (λ rest are stands.
+    let says = says_key (name ∷ rest) name kind by_factor numbers pins factor are say in
+    code_unknown _ _ _ stands.header stands.word says.fine (ap not named)
+    (ap (λ said. is_declared context name || has_repeat said) says.pins_are ∙ once)
+    (ap (list_any (λ pin. not (is_within 1 context.script.config.workers pin))) says.pins_are ∙ unknown)) stands
+
+pub key_limit : (context : Context) (words : List (List ℕ)) (name : List ℕ) (kind : Kind) (by_factor : Bool) (numbers : List (List ℕ)) (pins : List ℕ) (factor : Option ℕ) → AreKeyWords words name kind by_factor numbers → SuitsPlace context keywords.Key words → AreKeyNumbers by_factor numbers pins factor → is_name name ≡ true
+    → (is_declared context name || has_repeat pins) ≡ false → list_any (λ pin. not (is_within 1 context.script.config.workers pin)) pins ≡ false
+    → (nat_le 128 (length context.script.config.keys) || option_map_or (λ factor. not (is_within 1 context.script.config.workers factor)) factor false) ≡ true → code_of context keywords.Key words ≡ Some codes_of.Limit
+key_limit context words name kind by_factor numbers pins factor are stands say named once known outside =
+    at_key (λ words. SuitsPlace context keywords.Key words → code_of context keywords.Key words ≡ Some codes_of.Limit) words name kind by_factor numbers are
+    (λ rest are stands.
+    let says = says_key (name ∷ rest) name kind by_factor numbers pins factor are say in
+    code_limit _ _ _ stands.header stands.word says.fine (ap not named)
+    (ap (λ said. is_declared context name || has_repeat said) says.pins_are ∙ once)
+    (ap (list_any (λ pin. not (is_within 1 context.script.config.workers pin))) says.pins_are ∙ known) refl
+    (ap (λ factor. nat_le 128 (length context.script.config.keys) || option_map_or (λ factor. not (is_within 1 context.script.config.workers factor)) factor false) says.factor_is ∙ outside)) stands
 
 -- a new name is put last
 named_last : (names : List (List ℕ)) (name : List ℕ) → is_some (place_of names name) ≡ false → with_name names name ≡ names ++ name ∷ []
@@ -419,24 +460,29 @@ named_last names name new = ap (λ t. cond t names (names ++ name ∷ [])) (name
 pub declared_is : (reader : Reader) (name : List ℕ) → IsKept reader → is_declared (so_far reader) name ≡ is_some (place_of reader.keys name)
 declared_is reader name kept = ap (λ names. is_some (place_of names name)) (sym kept.names)
 
-pub key_read : (reader : Reader) (words : List (List ℕ)) (name : List ℕ) (kind : Kind) (pins : List (List ℕ)) (numbers : List ℕ) (names : List (List ℕ)) (kinds : Vec Kind Global) (keys : List KeyPlace) (key : KeyPlace)
-    → IsKept reader → AreKeyWords words name kind pins → SuitsPlace (so_far reader) keywords.Key words → AreNumbers pins numbers → is_name name ≡ true
-    → (is_declared (so_far reader) name || has_repeat numbers) ≡ false → list_any (λ pin. not (is_within 1 reader.config.workers pin)) numbers ≡ false → length reader.config.keys < 128
-    → names ≡ with_name reader.keys name → kinds.items ≡ reader.kinds.items ++ kind ∷ [] → keys ≡ reader.config.keys ++ key ∷ [] → key.name ≡ name → key.pins ≡ numbers
+pub key_read : (reader : Reader) (words : List (List ℕ)) (name : List ℕ) (kind : Kind) (by_factor : Bool) (number_words : List (List ℕ)) (pins : List ℕ) (factor : Option ℕ) (names : List (List ℕ)) (kinds : Vec Kind Global) (keys : List KeyPlace) (key : KeyPlace)
+    → IsKept reader → AreKeyWords words name kind by_factor number_words → SuitsPlace (so_far reader) keywords.Key words → AreKeyNumbers by_factor number_words pins factor → is_name name ≡ true
+    → (is_declared (so_far reader) name || has_repeat pins) ≡ false → list_any (λ pin. not (is_within 1 reader.config.workers pin)) pins ≡ false → length reader.config.keys < 128 → option_map_or (λ factor. not (is_within 1 reader.config.workers factor)) factor false ≡ false
+    → names ≡ with_name reader.keys name → kinds.items ≡ reader.kinds.items ++ kind ∷ [] → keys ≡ reader.config.keys ++ key ∷ [] → key.name ≡ name → key.pins ≡ pins → key.factor ≡ factor
     → HasRead reader (record reader { config = record { workers = reader.config.workers; factor = reader.config.factor; keys = keys }; keys = names; kinds = kinds }) keywords.Key words
-key_read reader words name kind pins numbers names kinds keys key kept are stands read named once known few names_are kinds_are keys_are name_is numbers_are =
+key_read reader words name kind by_factor number_words pins factor names kinds keys key kept are stands say named once known few inside names_are kinds_are keys_are name_is pins_are factor_is =
     let config : Config = record { workers = reader.config.workers; factor = reader.config.factor; keys = keys } in
     let new : Reader = record reader { config = config; keys = names; kinds = kinds } in
-    at_key (λ words. SuitsPlace (so_far reader) keywords.Key words → HasRead reader new keywords.Key words) words name kind pins are
-    (λ rest kind_is pins_are stands.
+    at_key (λ words. SuitsPlace (so_far reader) keywords.Key words → HasRead reader new keywords.Key words) words name kind by_factor number_words are
+    (λ rest are stands.
     let follow = and_parts reader.has_workers (nat_le (length (plans_of reader.sessions)) 0) (follows (so_far reader) keywords.Key (name ∷ rest) stands) in
     let has = follow.0 in
     let none = no_sessions reader.sessions follow.1 in
     let headed = kept.headed has in
     let valid = kept.valid has in
-    let said = said_is (name ∷ rest) pins numbers pins_are read in
-    let apart = or_parts (is_declared (so_far reader) name) (has_repeat numbers) once in
-    let own : ArePins reader.config.workers key.pins = subst (ArePins reader.config.workers) (sym numbers_are) (record { are_workers = are_workers reader.config.workers numbers known; different = no_repeat numbers apart.1 }) in
+    let says = says_key (name ∷ rest) name kind by_factor number_words pins factor are say in
+    let apart = or_parts (is_declared (so_far reader) name) (has_repeat pins) once in
+    let own : ArePins reader.config.workers key.pins = subst (ArePins reader.config.workers) (sym pins_are) (record { are_workers = are_workers reader.config.workers pins known; different = no_repeat pins apart.1 }) in
+    let numbers = say.numbers in
+    let by : pins ≡ pins_by by_factor numbers = say.pins_are in
+    let at_factor : option_map_or (λ factor. not (is_within 1 reader.config.workers factor)) (factor_by by_factor numbers) false ≡ false = ap (λ factor. option_map_or (λ factor. not (is_within 1 reader.config.workers factor)) factor false) (sym say.factor_is) ∙ inside in
+    let own_one : IsOwnFactor reader.config.workers key =
+    subst (λ (place : Option ℕ × List ℕ). IfSome place.0 (λ factor. IsOneOf reader.config.workers factor × (place.1 ≡ []))) (λ i. (sym (factor_is ∙ say.factor_is) i, sym (pins_are ∙ by) i)) (own_factor reader.config.workers by_factor numbers at_factor) in
     let new_name : is_some (place_of reader.keys name) ≡ false = sym (declared_is reader name kept) ∙ apart.0 in
     let most : length keys ≤ 128 = omega (arith, ap length keys_are, length_push reader.config.keys key) in
     let counted : length kinds.items ≡ length keys = omega (arith, ap length keys_are, length_push reader.config.keys key, ap length kinds_are, length_push reader.kinds.items kind, kept.kinds) in
@@ -451,15 +497,17 @@ key_read reader words name kind pins numbers names kinds keys key kept are stand
           factor_most = valid.factor_most;
           keys_most = most;
           pins = All-same (λ key. ArePins reader.config.workers key.pins) keys (reader.config.keys ++ key ∷ []) keys_are (All-push (λ key. ArePins reader.config.workers key.pins) reader.config.keys key valid.pins own);
+          factors = All-same (IsOwnFactor reader.config.workers) keys (reader.config.keys ++ key ∷ []) keys_are (All-push (IsOwnFactor reader.config.workers) reader.config.keys key valid.factors own_one);
         };
         names = names_are ∙ named_last reader.keys name new_name ∙ (λ i. kept.names i ++ sym name_is i ∷ []) ∙ sym (map_push (λ (key : KeyPlace). key.name) reader.config.keys key) ∙ ap (map (λ (key : KeyPlace). key.name)) (sym keys_are);
         kinds = counted;
         few_keys = most;
         sessions = subst (AreKept config) (sym none) tt;
       };
-      faultless = code_none _ _ _ stands.header stands.word (ap has_non_number pins_are ∙ read.each) (ap not named)
-          (ap (λ said. is_declared (so_far reader) name || has_repeat said) said ∙ once)
-          (ap (list_any (λ pin. not (is_within 1 reader.config.workers pin))) said ∙ known) refl (at_least_is few) refl;
+      faultless = code_none _ _ _ stands.header stands.word says.fine (ap not named)
+          (ap (λ said. is_declared (so_far reader) name || has_repeat said) says.pins_are ∙ once)
+          (ap (list_any (λ pin. not (is_within 1 reader.config.workers pin))) says.pins_are ∙ known) refl
+          (neither _ _ (at_least_is few) (ap (λ factor. option_map_or (λ factor. not (is_within 1 reader.config.workers factor)) factor false) says.factor_is ∙ inside)) refl;
       added = λ i. record {
         named = reader.named;
         has_header = headed i;
@@ -467,13 +515,14 @@ key_read reader words name kind pins numbers names kinds keys key kept are stand
         has_factor = or_false reader.has_factor i;
         has_round = or_false reader.has_round i;
         script = record {
+          version = reader.version;
           config = record {
             workers = reader.config.workers;
             factor = reader.config.factor;
-            keys = (keys_are ∙ (λ j. reader.config.keys ++ record { name = name_is j; pins = (numbers_are ∙ sym said) j } ∷ [])) i;
+            keys = (keys_are ∙ (λ j. reader.config.keys ++ record { name = name_is j; pins = (pins_are ∙ sym says.pins_are) j; factor = (factor_is ∙ sym says.factor_is) j } ∷ [])) i;
           };
           round = reader.round;
-          kinds = (kinds_are ∙ ap (λ k. reader.kinds.items ++ k ∷ []) (sym (ap (λ said. unwrap_or said kinds_of.Max) kind_is))) i;
+          kinds = (kinds_are ∙ ap (λ k. reader.kinds.items ++ k ∷ []) (sym (ap (λ said. unwrap_or said kinds_of.Max) are.kind_is))) i;
           sessions = plans_of reader.sessions;
         };
         begun = begun_of reader.sessions;

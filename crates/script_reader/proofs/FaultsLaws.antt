@@ -1,7 +1,7 @@
 -- Which condition gives a line its code: where it has none, no condition holds, and otherwise the first that holds gives it.
 use Rattle.std.specs.Prelude.{◌≡◌, ℕ, Bool, true, false, cond, not, ◌&&◌, List, Option, Some, None}
 use Rattle.std.proofs.Common.{refl}
-use Rattle.script_reader.specs.Faults.{Context, level_of, may_follow, may_have, suits, lacks_header, lacks_word, lacks_number, lacks_name, repeats, is_unknown, misfits, passes_limit, breaks_transaction, code_of}
+use Rattle.script_reader.specs.Faults.{Context, level_of, may_follow, may_have, suits, is_in_version, lacks_header, lacks_word, lacks_number, lacks_name, repeats, is_unknown, misfits, passes_limit, breaks_transaction, code_of}
 use Rattle.script_reader.specs.declared.code.Code.{Code}
 use Rattle.script_reader.specs.declared.code.Code.TheVariants as codes_of
 use Rattle.script_reader.specs.declared.keyword.Keyword.{Keyword}
@@ -49,6 +49,10 @@ fine context keyword words none =
     let at_transaction = none_here _ _ _ at_limit.1 in
     record { header_is = at_header.0; word_is = at_word.0; number_is = at_number.0; name_is = at_name.0; twice_is = at_twice.0; unknown_is = at_unknown.0; kind_is = at_kind.0; limit_is = at_limit.0; transaction_is = at_transaction.0 }
 
+-- a statement with no code has no fault of the code `header`
+pub header_fine : (context : Context) (keyword : Keyword) (words : List (List ℕ)) → code_of context keyword words ≡ None → lacks_header context keyword words ≡ false
+header_fine context keyword words none = (fine context keyword words none).header_is
+
 -- a statement with no code has no fault of the code `word`
 pub word_fine : (context : Context) (keyword : Keyword) (words : List (List ℕ)) → code_of context keyword words ≡ None → lacks_word context keyword words ≡ false
 word_fine context keyword words none = (fine context keyword words none).word_is
@@ -91,8 +95,8 @@ all_held true false suited none = absurd cc
 all_held false has_words suited none = absurd cc
 
 -- a statement with no code may stand where it does, with its words, in its session
-held : (context : Context) (keyword : Keyword) (words : List (List ℕ)) → code_of context keyword words ≡ None → AreHeld (may_follow context keyword) (may_have keyword words) (suits (level_of context) keyword words)
-held context keyword words none = all_held (may_follow context keyword) (may_have keyword words) (suits (level_of context) keyword words) (word_fine context keyword words none)
+held : (context : Context) (keyword : Keyword) (words : List (List ℕ)) → code_of context keyword words ≡ None → AreHeld (may_follow context keyword) (may_have keyword words) (suits (level_of context) keyword words && is_in_version context.script.version keyword words)
+held context keyword words none = all_held (may_follow context keyword) (may_have keyword words) (suits (level_of context) keyword words && is_in_version context.script.version keyword words) (word_fine context keyword words none)
 
 -- a statement with no code may stand where it does
 pub follow_fine : (context : Context) (keyword : Keyword) (words : List (List ℕ)) → code_of context keyword words ≡ None → may_follow context keyword ≡ true

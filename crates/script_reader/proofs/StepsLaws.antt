@@ -16,14 +16,19 @@ use Rattle.script_reader.specs.declared.keyword.Keyword.{Keyword}
 use Rattle.script_reader.specs.declared.keyword.Keyword.TheVariants.{Anna, Workers, Factor, Round, Key, Session, Begin, Commit, Abort, End, Unknown}
 
 -- scripts with the same parts are the same
-same_script : (a b : Script) → a.config.workers ≡ b.config.workers → a.config.factor ≡ b.config.factor → a.config.keys ≡ b.config.keys → a.round ≡ b.round → a.kinds ≡ b.kinds → a.sessions ≡ b.sessions → a ≡ b
-same_script a b workers factor keys round kinds sessions =
-    λ i. record { config = record { workers = workers i; factor = factor i; keys = keys i }; round = round i; kinds = kinds i; sessions = sessions i }
+same_script : (a b : Script) → a.version ≡ b.version → a.config.workers ≡ b.config.workers → a.config.factor ≡ b.config.factor → a.config.keys ≡ b.config.keys → a.round ≡ b.round → a.kinds ≡ b.kinds → a.sessions ≡ b.sessions → a ≡ b
+same_script a b version workers factor keys round kinds sessions =
+    λ i. record { version = version i; config = record { workers = workers i; factor = factor i; keys = keys i }; round = round i; kinds = kinds i; sessions = sessions i }
 
 -- what lines say is the same where its parts are
 same_context : (a b : Context) → a.named ≡ b.named → a.has_header ≡ b.has_header → a.has_workers ≡ b.has_workers → a.has_factor ≡ b.has_factor → a.has_round ≡ b.has_round → a.script ≡ b.script → a.begun ≡ b.begun → a ≡ b
 same_context a b named header workers factor round script begun =
     λ i. record { named = named i; has_header = header i; has_workers = workers i; has_factor = factor i; has_round = round i; script = script i; begun = begun i }
+
+-- the version stays after the first line
+version_kept : (before : List Statement) (statement : Statement) → nat_lt 1 (length before) ≡ true → number_or 1 (before ++ statement ∷ []) ≡ number_or 1 before
+version_kept [] statement after = absurd cc
+version_kept (first ∷ before) statement after = refl
 
 -- the names of the keys are the first words after `key`
 pub keys_are : (named : List (List ℕ)) (before : List Statement) → keys_of (context_of named before) ≡ map (word 0) (those is_key before)
@@ -55,11 +60,13 @@ module _ (named : List (List ℕ)) (before : List Statement) (statement : Statem
   plans_kept : is_key statement.keyword ≡ false → is_session statement.keyword ≡ false → own_commands (statement ∷ []) ≡ [] → (script_said named (before ++ statement ∷ [])).sessions ≡ (script_said named before).sessions
   plans_kept no_key no_start none = old_keys no_key ∙ sessions_kept (map (word 0) (those is_key before)) (map kind_in (those is_key before)) named before statement no_start none
 
--- the first line says nothing of the script
-anna_push : (named : List (List ℕ)) (before : List Statement) (words : List (List ℕ)) → may_follow (context_of named before) Anna ≡ true
+-- the first line says the version
+anna_push : (named : List (List ℕ)) (before : List Statement) (words : List (List ℕ)) → may_follow (context_of named before) Anna ≡ true → may_have Anna words ≡ true
     → script_said named (before ++ record { keyword = Anna; words = words } ∷ []) ≡ script_after (context_of named before) Anna words
-anna_push named [] words follows = refl
-anna_push named (first ∷ before) words follows = let some = lt-ltb 0 (length (first ∷ before)) (omega arith) in let none = not-true (nat_lt 0 (length (first ∷ before))) follows in absurd cc
+anna_push named before [] follows has = absurd cc
+anna_push named before (version ∷ other ∷ words) follows has = absurd cc
+anna_push named [] (version ∷ []) follows has = refl
+anna_push named (first ∷ before) (version ∷ []) follows has = let some = lt-ltb 0 (length (first ∷ before)) (omega arith) in let none = not-true (nat_lt 0 (length (first ∷ before))) follows in absurd cc
 
 -- the second line says the number of workers
 workers_push : (named : List (List ℕ)) (before : List Statement) (words : List (List ℕ)) → may_follow (context_of named before) Workers ≡ true → may_have Workers words ≡ true
@@ -74,7 +81,7 @@ workers_push named (first ∷ next ∷ before) (number ∷ []) follows has =
 workers_push named (first ∷ []) (number ∷ []) follows has =
     let statement : Statement = record { keyword = Workers; words = number ∷ [] } in
     let before = first ∷ [] in
-    same_script (script_said named (before ++ statement ∷ [])) (script_after (context_of named before) Workers (number ∷ [])) refl
+    same_script (script_said named (before ++ statement ∷ [])) (script_after (context_of named before) Workers (number ∷ [])) refl refl
     (factor_kept named before statement refl) (keys_kept named before statement refl) (round_kept named before statement refl) (kinds_kept named before statement refl) (plans_kept named before statement refl refl refl)
 
 -- the last line says nothing of the script
@@ -82,7 +89,7 @@ end_push : (named : List (List ℕ)) (before : List Statement) (words : List (Li
     → script_said named (before ++ record { keyword = End; words = words } ∷ []) ≡ script_after (context_of named before) End words
 end_push named before words after =
     let statement : Statement = record { keyword = End; words = words } in
-    same_script (script_said named (before ++ statement ∷ [])) (script_after (context_of named before) End words) (workers_kept before statement after)
+    same_script (script_said named (before ++ statement ∷ [])) (script_after (context_of named before) End words) (version_kept before statement after) (workers_kept before statement after)
     (factor_kept named before statement refl) (keys_kept named before statement refl) (round_kept named before statement refl) (kinds_kept named before statement refl) (plans_kept named before statement refl refl refl)
 
 -- a line that says the replication factor
@@ -92,7 +99,7 @@ factor_push named before [] after has new = absurd cc
 factor_push named before (number ∷ other ∷ words) after has new = absurd cc
 factor_push named before (number ∷ []) after has new =
     let statement : Statement = record { keyword = Factor; words = number ∷ [] } in
-    same_script (script_said named (before ++ statement ∷ [])) (script_after (context_of named before) Factor (number ∷ [])) (workers_kept before statement after)
+    same_script (script_said named (before ++ statement ∷ [])) (script_after (context_of named before) Factor (number ∷ [])) (version_kept before statement after) (workers_kept before statement after)
     (ap (λ (lines : List Statement). number_or 1 lines) (those_keep is_factor before statement refl) ∙ number_first 1 (those is_factor before) statement new)
     (keys_kept named before statement refl) (round_kept named before statement refl) (kinds_kept named before statement refl) (plans_kept named before statement refl refl refl)
 
@@ -103,7 +110,7 @@ round_push named before [] after has new = absurd cc
 round_push named before (number ∷ other ∷ words) after has new = absurd cc
 round_push named before (number ∷ []) after has new =
     let statement : Statement = record { keyword = Round; words = number ∷ [] } in
-    same_script (script_said named (before ++ statement ∷ [])) (script_after (context_of named before) Round (number ∷ [])) (workers_kept before statement after)
+    same_script (script_said named (before ++ statement ∷ [])) (script_after (context_of named before) Round (number ∷ [])) (version_kept before statement after) (workers_kept before statement after)
     (factor_kept named before statement refl) (keys_kept named before statement refl)
     (ap (λ (lines : List Statement). number_or 4 lines) (those_keep is_round before statement refl) ∙ number_first 4 (those is_round before) statement new)
     (kinds_kept named before statement refl) (plans_kept named before statement refl refl refl)
@@ -122,7 +129,7 @@ key_push named before words follows =
     let few = leb-true (length sessions) 0 may.1 in
     let none : length sessions ≡ 0 = omega arith in
     let one_more = those_keep is_key before statement refl in
-    same_script (script_said named (before ++ statement ∷ [])) (script_after (context_of named before) Key words) (workers_kept before statement may.0)
+    same_script (script_said named (before ++ statement ∷ [])) (script_after (context_of named before) Key words) (version_kept before statement may.0) (workers_kept before statement may.0)
     (factor_kept named before statement refl)
     (ap (λ (lines : List Statement). map key_said lines) one_more ∙ map-append key_said (those is_key before) (statement ∷ []))
     (round_kept named before statement refl)
@@ -134,7 +141,7 @@ session_push : (named : List (List ℕ)) (before : List Statement) (words : List
     → script_said named (before ++ record { keyword = Session; words = words } ∷ []) ≡ script_after (context_of named before) Session words
 session_push named before words after =
     let statement : Statement = record { keyword = Session; words = words } in
-    same_script (script_said named (before ++ statement ∷ [])) (script_after (context_of named before) Session words) (workers_kept before statement after)
+    same_script (script_said named (before ++ statement ∷ [])) (script_after (context_of named before) Session words) (version_kept before statement after) (workers_kept before statement after)
     (factor_kept named before statement refl) (keys_kept named before statement refl) (round_kept named before statement refl) (kinds_kept named before statement refl)
     (old_keys named before statement refl ∙ sessions_begun (map (word 0) (those is_key before)) (map kind_in (those is_key before)) named before statement refl)
 
@@ -152,10 +159,10 @@ command_plans named before statement no_key no_start one =
 -- a command changes nothing but the sessions
 command_push : (named : List (List ℕ)) (before : List Statement) (statement : Statement) (sessions : List SessionPlan) → nat_lt 1 (length before) ≡ true → is_key statement.keyword ≡ false → is_factor statement.keyword ≡ false → is_round statement.keyword ≡ false
     → (script_said named (before ++ statement ∷ [])).sessions ≡ sessions
-    → script_said named (before ++ statement ∷ []) ≡ record { config = (script_said named before).config; round = (script_said named before).round; kinds = (script_said named before).kinds; sessions = sessions }
+    → script_said named (before ++ statement ∷ []) ≡ record { version = (script_said named before).version; config = (script_said named before).config; round = (script_said named before).round; kinds = (script_said named before).kinds; sessions = sessions }
 command_push named before statement sessions after no_key no_factor no_round same =
-    same_script (script_said named (before ++ statement ∷ [])) (record { config = (script_said named before).config; round = (script_said named before).round; kinds = (script_said named before).kinds; sessions = sessions })
-    (workers_kept before statement after) (factor_kept named before statement no_factor) (keys_kept named before statement no_key) (round_kept named before statement no_round) (kinds_kept named before statement no_key) same
+    same_script (script_said named (before ++ statement ∷ [])) (record { version = (script_said named before).version; config = (script_said named before).config; round = (script_said named before).round; kinds = (script_said named before).kinds; sessions = sessions })
+    (version_kept before statement after) (workers_kept before statement after) (factor_kept named before statement no_factor) (keys_kept named before statement no_key) (round_kept named before statement no_round) (kinds_kept named before statement no_key) same
 
 -- such a line stands after the number of workers
 after_workers : (after rest : Bool) → (after && rest) ≡ true → after ≡ true
@@ -164,7 +171,7 @@ after_workers after rest both = (and_parts after rest both).0
 -- what a line that may stand there adds to the script
 script_push : (named : List (List ℕ)) (before : List Statement) (keyword : Keyword) (words : List (List ℕ)) → may_follow (context_of named before) keyword ≡ true → may_have keyword words ≡ true → repeats (context_of named before) keyword words ≡ false
     → script_said named (before ++ record { keyword = keyword; words = words } ∷ []) ≡ script_after (context_of named before) keyword words
-script_push named before Anna words follows has new = anna_push named before words follows
+script_push named before Anna words follows has new = anna_push named before words follows has
 script_push named before Workers words follows has new = workers_push named before words follows has
 script_push named before Factor words follows has new = factor_push named before words (after_workers (nat_lt 1 (length before)) _ follows) has new
 script_push named before Round words follows has new = round_push named before words (after_workers (nat_lt 1 (length before)) _ follows) has new

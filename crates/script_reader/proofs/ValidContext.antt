@@ -3,7 +3,7 @@ use Rattle.std.specs.Prelude.{◌≡◌, ◌≢◌, ℕ, ◌≤◌, Bool, true, 
 use Rattle.composed_value.specs.Kind.{kind_of}
 use Rattle.composed_value.specs.Put.{IsPayload}
 use Rattle.composed_value.specs.declared.kind.Kind.{Kind}
-use Rattle.placement.specs.Config.{IsOneOf, ArePins, placed}
+use Rattle.placement.specs.Config.{IsOneOf, ArePins, IsOwnFactor, placed}
 use Rattle.placement.specs.Name.{IsName}
 use Rattle.placement.specs.declared.config.Config.{Config}
 use Rattle.script_reader.specs.Faults.{Context}
@@ -44,10 +44,11 @@ pub record AreApart (names : List (List ℕ)) : Type 0 where
   pub named : All IsName names
   pub different : AllPairs (λ name other. name ≢ other) names
 
--- the keys of a config are few, pinned to its workers, each of a kind, and have different names
+-- the keys of a config are few, pinned to its workers or placed at as many as there are, each of a kind, and have different names
 pub record AreKeys (config : Config) (of_keys : List Kind) : Type 0 where
   pub few : length config.keys ≤ 128
   pub pins : All (λ key. ArePins config.workers key.pins) config.keys
+  pub factors : All (IsOwnFactor config.workers) config.keys
   pub kinds : length of_keys ≡ length config.keys
   pub names : AreApart (map (λ key. key.name) config.keys)
 
@@ -61,6 +62,7 @@ pub record AreSessions (keys : ℕ) (of_keys : List Kind) (named : ℕ) (table :
 
 -- The context is one that faultless lines leave.
 pub record IsValidContext (context : Context) : Type 0 where
+  pub version : IsOneOf 2 context.script.version
   pub header : IsTrue context.has_workers → IsTrue context.has_header
   pub workers : IsTrue context.has_workers → IsOneOf 8 context.script.config.workers × IsOneOf context.script.config.workers context.script.config.factor
   pub bare : IsFalse context.has_workers → (length context.script.config.keys ≤ 0) × (length context.script.sessions ≤ 0) × (context.script.config.factor ≡ 1)

@@ -2,21 +2,21 @@
 use Rattle.std.specs.Prelude.{◌≡◌, ℕ, ◌<◌, ◌≤◌, Bool, true, false, IsTrue, IsFalse, ◌&&◌, not, nat_lt, nat_le, List, [], ◌∷◌, ◌++◌, map, length, Some, None, Contains}
 use Rattle.std.specs.List.{list_any}
 use Rattle.std.specs.Str.{bytes_eq}
-use Rattle.std.proofs.Common.{refl, sym, subst, arith}
+use Rattle.std.proofs.Common.{refl, sym, ap, subst, ◌∙◌, arith}
 use Rattle.std.proofs.lemmas.Bool.{false≢true, true≢false, both_ways, not-true, not-false, ltb-true, leb-true, leb-false, and_parts, or_parts, false_from_ne_true}
 use Rattle.std.proofs.lemmas.List.{map_push, length_push, length-map}
 use Rattle.std.proofs.lemmas.List.Elements.{All-nil, All-push}
 use Rattle.composed_value.specs.declared.kind.Kind.{Kind}
-use Rattle.placement.specs.Config.{IsOneOf, ArePins, placed}
+use Rattle.placement.specs.Config.{IsOneOf, ArePins, IsOwnFactor, placed}
 use Rattle.placement.specs.Name.{IsName}
 use Rattle.placement.specs.declared.config.KeyPlace.{KeyPlace}
-use Rattle.script_reader.specs.Faults.{Context, context_of, keys_of, level_of, commands_of, is_declared, is_causal, is_committed, may_follow, may_have, suits, lacks_name, repeats, is_unknown, misfits, passes_limit, breaks_transaction, code_of}
-use Rattle.script_reader.proofs.FaultsLaws.{word_fine, name_fine, twice_fine, unknown_fine, kind_fine, limit_fine, transaction_fine}
+use Rattle.script_reader.specs.Faults.{Context, context_of, keys_of, level_of, commands_of, is_declared, is_causal, is_committed, is_version, may_follow, may_have, suits, lacks_header, lacks_name, repeats, is_unknown, misfits, passes_limit, breaks_transaction, code_of}
+use Rattle.script_reader.proofs.FaultsLaws.{header_fine, word_fine, name_fine, twice_fine, unknown_fine, kind_fine, limit_fine, transaction_fine}
 use Rattle.script_reader.specs.Lines.{Statement}
-use Rattle.script_reader.specs.Said.{key_said, kind_in, pins_said, number_in, line_said}
+use Rattle.script_reader.specs.Said.{is_by_factor, key_numbers, key_said, kind_in, pins_said, number_in, line_said}
 use Rattle.script_reader.specs.Steps.{next_context, new_session, with_line, with_factor}
 use Rattle.script_reader.proofs.ValidContext.{AreApart, AreKeys, AreSessions, IsValidContext, Leads, Stands}
-use Rattle.script_reader.proofs.ValidListsLaws.{within_is, are_workers, no_repeat, apart_push, number_within, session_within, name_new, payload_kind, payload_is, is_spelling, replica_contained}
+use Rattle.script_reader.proofs.ValidListsLaws.{within_is, own_factor, version_within, are_workers, no_repeat, apart_push, number_within, session_within, name_new, payload_kind, payload_is, is_spelling, replica_contained}
 use Rattle.script_reader.proofs.ValidSessionsLaws.{sessions_line, sessions_push, sessions_none}
 use Rattle.script_reader.specs.Words.{number_of}
 use Rattle.script_reader.specs.declared.keyword.Keyword.{Keyword}
@@ -29,6 +29,7 @@ use Rattle.session_known.specs.declared.script.Line.TheVariants as lines
 
 -- what is read of the codes that a line does not have
 record IsFaultless (context : Context) (keyword : Keyword) (words : List (List ℕ)) : Type 0 where
+  headed : lacks_header context keyword words ≡ false
   follows : may_follow context keyword ≡ true
   has : may_have keyword words ≡ true
   suited : suits (level_of context) keyword words ≡ true
@@ -46,9 +47,10 @@ faultless context keyword words none =
     let follows = and_parts (may_follow context keyword) _ all in
     let has = and_parts (may_have keyword words) _ follows.1 in
     record {
+      headed = header_fine context keyword words none;
       follows = follows.0;
       has = has.0;
-      suited = has.1;
+      suited = (and_parts (suits (level_of context) keyword words) _ has.1).0;
       named = name_fine context keyword words none;
       twice = twice_fine context keyword words none;
       unknown = unknown_fine context keyword words none;
@@ -60,6 +62,7 @@ faultless context keyword words none =
 -- where no line stands before, the context is valid
 pub start : (named : List (List ℕ)) → IsValidContext (context_of named [])
 start named = record {
+  version = (omega arith, omega arith);
   header = λ has. absurd (false≢true has);
   workers = λ has. absurd (false≢true has);
   bare = λ no. (omega arith, omega arith, refl);
@@ -67,6 +70,7 @@ start named = record {
   keys = record {
     few = omega arith;
     pins = All-nil (λ (key : KeyPlace). ArePins 0 key.pins);
+    factors = All-nil (IsOwnFactor 0);
     kinds = refl;
     names = record { named = λ k d lt. absurd (omega arith); different = λ i j d i<j j<. absurd (omega arith) };
   };
@@ -80,13 +84,14 @@ start named = record {
 }
 
 -- a line after the line of workers
-after_workers : (context : Context) (keyword : Keyword) (words : List (List ℕ)) → IsValidContext context → context.has_workers ≡ true
+after_workers : (context : Context) (keyword : Keyword) (words : List (List ℕ)) → IsValidContext context → IsOneOf 2 (next_context context keyword words).script.version → context.has_workers ≡ true
     → IsOneOf 8 (next_context context keyword words).script.config.workers × IsOneOf (next_context context keyword words).script.config.workers (next_context context keyword words).script.config.factor
     → IsOneOf 64 (next_context context keyword words).script.round
     → AreKeys (next_context context keyword words).script.config (next_context context keyword words).script.kinds
     → AreSessions (length (next_context context keyword words).script.config.keys) (next_context context keyword words).script.kinds (length (next_context context keyword words).named) (placed (next_context context keyword words).script.config) (next_context context keyword words).begun (next_context context keyword words).script.sessions
     → IsValidContext (next_context context keyword words)
-after_workers context keyword words valid has numbers round keys sessions = record {
+after_workers context keyword words valid version has numbers round keys sessions = record {
+  version = version;
   header = λ _. refl;
   workers = λ _. numbers;
   bare = λ no. absurd (both_ways _ no (valid.header has));
@@ -97,10 +102,14 @@ after_workers context keyword words valid has numbers round keys sessions = reco
 
 -- the header
 step_anna : (context : Context) (words : List (List ℕ)) → IsValidContext context → IsFaultless context Anna words → IsValidContext (next_context context Anna words)
-step_anna context words valid fine =
+step_anna context [] valid fine = absurd (false≢true fine.has)
+step_anna context (version ∷ other ∷ words) valid fine = absurd (false≢true fine.has)
+step_anna context (version ∷ []) valid fine =
     let no_header : context.has_header ≡ false = not-true _ fine.follows in
     let no_workers : context.has_workers ≡ false = false_from_ne_true _ (λ has. both_ways _ no_header (valid.header has)) in
+    let is : is_version version ≡ true = not-false _ (ap (λ has. not has && not (is_version version)) (sym no_header) ∙ fine.headed) in
     record {
+      version = version_within version is;
       header = λ _. refl;
       workers = λ has. absurd (both_ways _ no_header has);
       bare = λ _. valid.bare no_workers;
@@ -119,11 +128,12 @@ step_workers context (number ∷ words) valid fine =
     let within = within_is 1 8 (number_of number) (not-false _ fine.limit) in
     let factor : context.script.config.factor ≡ 1 = bare.2 in
     record {
+      version = valid.version;
       header = λ _. refl;
       workers = λ _. (within, (omega arith, omega arith));
       bare = λ no. absurd (both_ways _ no follows.0);
       round = valid.round;
-      keys = record { few = valid.keys.few; pins = λ k d lt. absurd (omega arith); kinds = valid.keys.kinds; names = valid.keys.names };
+      keys = record { few = valid.keys.few; pins = λ k d lt. absurd (omega arith); factors = λ k d lt. absurd (omega arith); kinds = valid.keys.kinds; names = valid.keys.names };
       sessions = sessions_none _ _ _ _ _ _ _ _ _ bare.1 valid.sessions;
     }
 
@@ -140,21 +150,22 @@ step_factor context [] valid fine = absurd (false≢true fine.has)
 step_factor context (number ∷ words) valid fine =
     let follows = option_follows context fine.follows in
     let within = within_is 1 context.script.config.workers (number_of number) (not-false _ fine.limit) in
-    let keys : AreKeys (with_factor (number_of number) context.script).config context.script.kinds = record { few = valid.keys.few; pins = valid.keys.pins; kinds = valid.keys.kinds; names = valid.keys.names } in
-    after_workers context Factor (number ∷ words) valid follows.0 ((valid.workers follows.0).0, within) valid.round keys (sessions_none _ _ _ _ _ _ _ _ _ follows.1 valid.sessions)
+    let keys : AreKeys (with_factor (number_of number) context.script).config context.script.kinds = record { few = valid.keys.few; pins = valid.keys.pins; factors = valid.keys.factors; kinds = valid.keys.kinds; names = valid.keys.names } in
+    after_workers context Factor (number ∷ words) valid valid.version follows.0 ((valid.workers follows.0).0, within) valid.round keys (sessions_none _ _ _ _ _ _ _ _ _ follows.1 valid.sessions)
 
 -- the requests between rounds
 step_round : (context : Context) (words : List (List ℕ)) → IsValidContext context → IsFaultless context Round words → IsValidContext (next_context context Round words)
 step_round context [] valid fine = absurd (false≢true fine.has)
 step_round context (number ∷ words) valid fine =
     let follows = option_follows context fine.follows in
-    after_workers context Round (number ∷ words) valid follows.0 (valid.workers follows.0) (within_is 1 64 (number_of number) (not-false _ fine.limit)) valid.keys valid.sessions
+    after_workers context Round (number ∷ words) valid valid.version follows.0 (valid.workers follows.0) (within_is 1 64 (number_of number) (not-false _ fine.limit)) valid.keys valid.sessions
 
 -- the keys of a config with one more
-keys_push : (workers factor : ℕ) (keys : List KeyPlace) (of_keys : List Kind) (key : KeyPlace) (kind : Kind) → AreKeys (record { workers = workers; factor = factor; keys = keys }) of_keys → length keys < 128 → ArePins workers key.pins → IsName key.name → list_any (bytes_eq key.name) (map (λ key. key.name) keys) ≡ false → AreKeys (record { workers = workers; factor = factor; keys = keys ++ key ∷ [] }) (of_keys ++ kind ∷ [])
-keys_push workers factor keys of_keys key kind are room pins is_name new = record {
+keys_push : (workers factor : ℕ) (keys : List KeyPlace) (of_keys : List Kind) (key : KeyPlace) (kind : Kind) → AreKeys (record { workers = workers; factor = factor; keys = keys }) of_keys → length keys < 128 → ArePins workers key.pins → IsOwnFactor workers key → IsName key.name → list_any (bytes_eq key.name) (map (λ key. key.name) keys) ≡ false → AreKeys (record { workers = workers; factor = factor; keys = keys ++ key ∷ [] }) (of_keys ++ kind ∷ [])
+keys_push workers factor keys of_keys key kind are room pins own is_name new = record {
   few = omega (arith, length_push keys key);
   pins = All-push (λ key. ArePins workers key.pins) keys key are.pins pins;
+  factors = All-push (IsOwnFactor workers) keys key are.factors own;
   kinds = let kinds = are.kinds in omega (arith, length_push keys key, length_push of_keys kind);
   names = subst AreApart (sym (map_push (λ key. key.name) keys key)) (apart_push (map (λ key. key.name) keys) key.name are.names is_name new);
 }
@@ -167,21 +178,23 @@ step_key context (name ∷ words) valid fine =
     let twice = or_parts (is_declared context name) _ fine.twice in
     let config = context.script.config in
     let pins : ArePins config.workers (pins_said (name ∷ words)) = record { are_workers = are_workers config.workers (pins_said (name ∷ words)) fine.unknown; different = no_repeat (pins_said (name ∷ words)) twice.1 } in
+    let limit = or_parts (nat_le 128 (length config.keys)) _ fine.limit in
     let statement : Statement = record { keyword = Key; words = name ∷ words } in
-    let keys = keys_push config.workers config.factor config.keys context.script.kinds (key_said statement) (kind_in statement) valid.keys (leb-false _ _ fine.limit) pins (is_spelling 32 name (not-false _ fine.named)) (name_new (keys_of context) name twice.0) in
-    after_workers context Key (name ∷ words) valid follows.0 (valid.workers follows.0) valid.round keys (sessions_none _ _ _ _ _ _ _ _ _ (leb-true _ _ follows.1) valid.sessions)
+    let own : IsOwnFactor config.workers (key_said statement) = own_factor config.workers (is_by_factor (name ∷ words)) (key_numbers (name ∷ words)) limit.1 in
+    let keys = keys_push config.workers config.factor config.keys context.script.kinds (key_said statement) (kind_in statement) valid.keys (leb-false _ _ limit.0) pins own (is_spelling 32 name (not-false _ fine.named)) (name_new (keys_of context) name twice.0) in
+    after_workers context Key (name ∷ words) valid valid.version follows.0 (valid.workers follows.0) valid.round keys (sessions_none _ _ _ _ _ _ _ _ _ (leb-true _ _ follows.1) valid.sessions)
 
 -- a session
 step_session : (context : Context) (words : List (List ℕ)) → IsValidContext context → IsFaultless context Session words → IsValidContext (next_context context Session words)
 step_session context [] valid fine = absurd (false≢true fine.has)
 step_session context (name ∷ words) valid fine =
     let statement : Statement = record { keyword = Session; words = name ∷ words } in
-    after_workers context Session (name ∷ words) valid fine.follows (valid.workers fine.follows) valid.round valid.keys
+    after_workers context Session (name ∷ words) valid valid.version fine.follows (valid.workers fine.follows) valid.round valid.keys
     (sessions_push _ _ _ _ _ context.script.sessions (new_session statement) valid.sessions fine.transaction refl (leb-false _ _ fine.limit) (is_spelling 32 name (not-false _ fine.named)) fine.twice)
 
 -- the end
 step_end : (context : Context) (words : List (List ℕ)) → IsValidContext context → IsFaultless context End words → IsValidContext (next_context context End words)
-step_end context words valid fine = after_workers context End words valid fine.follows (valid.workers fine.follows) valid.round valid.keys valid.sessions
+step_end context words valid fine = after_workers context End words valid valid.version fine.follows (valid.workers fine.follows) valid.round valid.keys valid.sessions
 
 -- a command
 command_follows : (context : Context) → (context.has_workers && (true && nat_lt 0 (length context.script.sessions))) ≡ true → (context.has_workers ≡ true) × (0 < length context.script.sessions)
@@ -207,7 +220,7 @@ step_put context (key ∷ words) valid fine =
     let within = key_within context key (not-false _ fine.unknown) in
     let payload = payload_is (keys_of context) context.script.kinds key words (not-false _ fine.kind) in
     let kind = payload_kind (keys_of context) context.script.kinds key words (not-false _ fine.kind) in
-    after_workers context Put (key ∷ words) valid follows.0 (valid.workers follows.0) valid.round valid.keys
+    after_workers context Put (key ∷ words) valid valid.version follows.0 (valid.workers follows.0) valid.round valid.keys
     (takes_line context context.begun (line_said (keys_of context) context.script.kinds context.named Put (key ∷ words)) valid follows.1 fine.limit (within, payload, kind) refl)
 
 -- a session that is not causal may name a replica
@@ -222,14 +235,14 @@ step_get context [] valid fine = absurd (false≢true fine.has)
 step_get context (key ∷ []) valid fine =
     let follows = command_follows context fine.follows in
     let within = key_within context key (not-false _ fine.unknown) in
-    after_workers context Get (key ∷ []) valid follows.0 (valid.workers follows.0) valid.round valid.keys
+    after_workers context Get (key ∷ []) valid valid.version follows.0 (valid.workers follows.0) valid.round valid.keys
     (takes_line context context.begun (line_said (keys_of context) context.script.kinds context.named Get (key ∷ [])) valid follows.1 fine.limit (within, tt) refl)
 step_get context (key ∷ worker ∷ words) valid fine =
     let follows = command_follows context fine.follows in
     let known = and_parts (is_declared context key) _ (not-false _ fine.unknown) in
     let within = key_within context key known.0 in
     let replica = replica_contained (keys_of context) key (placed context.script.config) (number_of worker) known.1 in
-    after_workers context Get (key ∷ worker ∷ words) valid follows.0 (valid.workers follows.0) valid.round valid.keys
+    after_workers context Get (key ∷ worker ∷ words) valid valid.version follows.0 (valid.workers follows.0) valid.round valid.keys
     (takes_line context context.begun (line_said (keys_of context) context.script.kinds context.named Get (key ∷ worker ∷ words)) valid follows.1 fine.limit (within, may_name (level_of context) _ (number_of worker) fine.suited replica) refl)
 
 -- a level that passes the test of causal ones
@@ -246,7 +259,7 @@ step_await context (key ∷ session ∷ []) valid fine = absurd (false≢true fi
 step_await context (key ∷ session ∷ count ∷ words) valid fine =
     let follows = command_follows context fine.follows in
     let known = and_parts (is_declared context key) _ (not-false _ fine.unknown) in
-    after_workers context Await (key ∷ session ∷ count ∷ words) valid follows.0 (valid.workers follows.0) valid.round valid.keys
+    after_workers context Await (key ∷ session ∷ count ∷ words) valid valid.version follows.0 (valid.workers follows.0) valid.round valid.keys
     (takes_line context context.begun (line_said (keys_of context) context.script.kinds context.named Await (key ∷ session ∷ count ∷ words)) valid follows.1 fine.limit (key_within context key known.0, session_within context.named session known.1, causal_is (level_of context) fine.suited) refl)
 
 -- a level that passes the test of committed ones
@@ -260,7 +273,7 @@ step_begin : (context : Context) (words : List (List ℕ)) → IsValidContext co
 step_begin context words valid fine =
     let follows = command_follows context fine.follows in
     let held = or_parts (not (is_committed (level_of context))) _ fine.transaction in
-    after_workers context Begin words valid follows.0 (valid.workers follows.0) valid.round valid.keys
+    after_workers context Begin words valid valid.version follows.0 (valid.workers follows.0) valid.round valid.keys
     (takes_line context true lines.Begin valid follows.1 fine.limit (committed_is (level_of context) held.0) (held.1, refl))
 
 -- the commit of a transaction
@@ -268,7 +281,7 @@ step_commit : (context : Context) (words : List (List ℕ)) → IsValidContext c
 step_commit context words valid fine =
     let follows = command_follows context fine.follows in
     let held = or_parts (not (is_committed (level_of context))) _ fine.transaction in
-    after_workers context Commit words valid follows.0 (valid.workers follows.0) valid.round valid.keys
+    after_workers context Commit words valid valid.version follows.0 (valid.workers follows.0) valid.round valid.keys
     (takes_line context false lines.Commit valid follows.1 fine.limit (committed_is (level_of context) held.0) (not-false _ held.1, refl))
 
 -- the abort of a transaction
@@ -276,7 +289,7 @@ step_abort : (context : Context) (words : List (List ℕ)) → IsValidContext co
 step_abort context words valid fine =
     let follows = command_follows context fine.follows in
     let held = or_parts (not (is_committed (level_of context))) _ fine.transaction in
-    after_workers context Abort words valid follows.0 (valid.workers follows.0) valid.round valid.keys
+    after_workers context Abort words valid valid.version follows.0 (valid.workers follows.0) valid.round valid.keys
     (takes_line context false lines.Abort valid follows.1 fine.limit (committed_is (level_of context) held.0) (not-false _ held.1, refl))
 
 -- a line without faults, by its first word

@@ -124,6 +124,7 @@ valid_closed context valid closed named =
     let ends = all_end context.script.sessions (subst (λ begun. AreLed context.script.sessions begun) closed.1 valid.sessions.led) in
     let table = placed context.script.config in
     record {
+      version = valid.version;
       config = record {
         workers_some = numbers.0.0;
         workers_most = numbers.0.1;
@@ -131,6 +132,7 @@ valid_closed context valid closed named =
         factor_most = numbers.1.1;
         keys_most = valid.keys.few;
         pins = valid.keys.pins;
+        factors = valid.keys.factors;
       };
       placed = is_placement context.script.config;
       round = valid.round;

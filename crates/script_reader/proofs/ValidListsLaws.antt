@@ -1,5 +1,5 @@
 -- What the tests of lines say of lists, of names and of payloads.
-use Rattle.std.specs.Prelude.{◌≡◌, ◌≢◌, ℕ, ◌+◌, ◌-◌, ◌<◌, ◌≤◌, Bool, true, false, ◌==◌, not, nat_le, List, [], ◌∷◌, ◌++◌, length, codes, cond, slice_index_or, Option, Some, None, is_some, unwrap_or, All, Contains, ◌^◌, ◌&&◌, nat_lt}
+use Rattle.std.specs.Prelude.{◌≡◌, ◌≢◌, ℕ, ◌+◌, ◌-◌, ◌<◌, ◌≤◌, Bool, true, false, ◌==◌, not, nat_le, List, [], ◌∷◌, ◌++◌, length, codes, cond, slice_index_or, Option, Some, None, is_some, unwrap_or, IfSome, All, Contains, ◌^◌, ◌&&◌, ◌||◌, nat_lt}
 use Rattle.std.specs.List.{list_any, slice_get, position_or_len}
 use Rattle.std.specs.Option.{option_map, option_map_or, option_and_then}
 use Rattle.std.specs.Str.{bytes_eq}
@@ -24,10 +24,10 @@ use Rattle.composed_value.specs.declared.payload.Payload.{Payload}
 use Rattle.composed_value.specs.declared.payload.Payload.TheVariants as payloads
 use Rattle.placement.specs.Config.{AreDifferent, IsOneOf}
 use Rattle.placement.specs.Name.{IsName}
-use Rattle.script_reader.specs.Faults.{has_repeat, is_within}
-use Rattle.script_reader.specs.Said.{place_of, number_in, session_number, payload_for}
+use Rattle.script_reader.specs.Faults.{has_repeat, is_version, is_within}
+use Rattle.script_reader.specs.Said.{place_of, number_in, session_number, payload_for, pins_by, factor_by}
 use Rattle.script_reader.proofs.ValidContext.{AreApart}
-use Rattle.script_reader.specs.Words.{is_spelled, is_value_word, is_numeral, number_said, word_said, payload_said}
+use Rattle.script_reader.specs.Words.{is_spelled, is_value_word, is_numeral, number_of, number_said, word_said, payload_said}
 use Rattle.composed_value.specs.Keyed.{kind_at}
 use Rattle.placement.specs.Asked.{replicas_of}
 
@@ -36,6 +36,21 @@ pub within_is : (least greatest n : ℕ) → is_within least greatest n ≡ true
 within_is least greatest n is =
     let both = and_parts (nat_le least n) (nat_le n greatest) is in
     (leb-true least n both.0, leb-true n greatest both.1)
+
+-- a replication factor of a key's own is at most the number of workers, and stands beside no pins
+pub own_factor : (workers : ℕ) (by_factor : Bool) (numbers : List ℕ) → option_map_or (λ factor. not (is_within 1 workers factor)) (factor_by by_factor numbers) false ≡ false → IfSome (factor_by by_factor numbers) (λ factor. IsOneOf workers factor × (pins_by by_factor numbers ≡ []))
+own_factor workers false numbers fine = tt
+own_factor workers true [] fine = tt
+own_factor workers true (number ∷ numbers) fine = (within_is 1 workers number (not-false _ fine), refl)
+
+-- the version of a header is one or two
+version_first : (word : List ℕ) (one two : Bool) → bytes_eq word (codes "1") ≡ one → bytes_eq word (codes "2") ≡ two → (one || two) ≡ true → IsOneOf 2 (number_of word)
+version_first word true two is other either = subst (λ word. IsOneOf 2 (number_of word)) (sym ((bytes_eq-Decides word (codes "1")).0 is)) (omega arith, omega arith)
+version_first word false true other is either = subst (λ word. IsOneOf 2 (number_of word)) (sym ((bytes_eq-Decides word (codes "2")).0 is)) (omega arith, omega arith)
+version_first word false false is other either = absurd (false≢true either)
+
+pub version_within : (word : List ℕ) → is_version word ≡ true → IsOneOf 2 (number_of word)
+version_within word is = version_first word (bytes_eq word (codes "1")) (bytes_eq word (codes "2")) refl refl is
 
 -- each of the numbers is a worker, where none is out of the bounds
 pub are_workers : (workers : ℕ) (pins : List ℕ) → list_any (λ pin. not (is_within 1 workers pin)) pins ≡ false → All (IsOneOf workers) pins

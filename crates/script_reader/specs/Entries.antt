@@ -1,21 +1,29 @@
 -- Which words an entry was read from.
-use Rattle.std.specs.Prelude.{◌≡◌, ℕ, true, false, List, [], ◌∷◌, drop, slice_index_or, Option, Some, MatchOption}
+use Rattle.std.specs.Prelude.{◌≡◌, ℕ, Bool, true, false, List, [], ◌∷◌, drop, slice_index_or, Option, Some, MatchOption}
 use Rattle.composed_value.specs.declared.kind.Kind.{Kind}
 use Rattle.session_known.specs.declared.script.Level.{Level}
 use Rattle.script_reader.specs.Words.{kind_said, level_said, texts}
-use Rattle.script_reader.specs.Faults.{may_have}
+use Rattle.script_reader.specs.Faults.{may_have, may_place}
+use Rattle.script_reader.specs.Said.{says_factor, is_by_factor}
 use Rattle.script_reader.specs.declared.entry.Bare.TheVariants as bares
 use Rattle.script_reader.specs.declared.entry.Entry.{Entry}
 use Rattle.script_reader.specs.declared.entry.Entry.TheVariants as entries
 use Rattle.script_reader.specs.declared.keyword.Keyword.{Keyword}
 use Rattle.script_reader.specs.declared.keyword.Keyword.TheVariants as keywords
 
--- the words after `key`: a name, a kind, and pins where there are any
-pub record AreKeyWords (words : List (List ℕ)) (name : List ℕ) (kind : Kind) (pins : List (List ℕ)) : Type 0 where
+-- the words of a key after its kind: numbers where there are any, pins or a replication factor
+pub record ArePlaced (placed : List (List ℕ)) (by_factor : Bool) (numbers : List (List ℕ)) : Type 0 where
+  pub may_stand : may_place placed ≡ true
+  pub by_is : says_factor placed ≡ by_factor
+  pub numbers_are : drop 1 placed ≡ numbers
+
+-- the words after `key`: a name, a kind, and numbers where there are any, pins or a replication factor
+pub record AreKeyWords (words : List (List ℕ)) (name : List ℕ) (kind : Kind) (by_factor : Bool) (numbers : List (List ℕ)) : Type 0 where
   pub may_stand : may_have keywords.Key words ≡ true
   pub name_is : slice_index_or words 0 [] ≡ name
   pub kind_is : kind_said (slice_index_or words 1 []) ≡ Some kind
-  pub pins_are : drop 3 words ≡ pins
+  pub by_is : is_by_factor words ≡ by_factor
+  pub numbers_are : drop 3 words ≡ numbers
 
 -- the words after `session`: a name and a level
 pub record AreSessionWords (words : List (List ℕ)) (name : List ℕ) (level : Level) : Type 0 where
@@ -29,7 +37,7 @@ Shows (entries.Header version) keyword words = (keyword ≡ keywords.Anna) × (w
 Shows (entries.Workers number) keyword words = (keyword ≡ keywords.Workers) × (words ≡ number.now ∷ [])
 Shows (entries.Factor number) keyword words = (keyword ≡ keywords.Factor) × (words ≡ number.now ∷ [])
 Shows (entries.Round number) keyword words = (keyword ≡ keywords.Round) × (words ≡ number.now ∷ [])
-Shows (entries.Key name kind pins) keyword words = (keyword ≡ keywords.Key) × AreKeyWords words name.now kind (texts pins.now)
+Shows (entries.Key name kind by_factor numbers) keyword words = (keyword ≡ keywords.Key) × AreKeyWords words name.now kind by_factor (texts numbers.now)
 Shows (entries.Session name level) keyword words = (keyword ≡ keywords.Session) × AreSessionWords words name.now level
 Shows (entries.Put key payload) keyword words = (keyword ≡ keywords.Put) × (may_have keywords.Put words ≡ true) × (words ≡ key.now ∷ texts payload.now)
 Shows (entries.Get key) keyword words = (keyword ≡ keywords.Get) × (words ≡ key.now ∷ [])

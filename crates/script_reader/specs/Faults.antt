@@ -12,7 +12,7 @@ use Rattle.session_known.specs.declared.script.Script.{Script}
 use Rattle.session_known.specs.declared.script.SessionPlan.{SessionPlan}
 use Rattle.script_reader.specs.Keywords.{is_factor, is_round, is_command, is_begin, is_boundary}
 use Rattle.script_reader.specs.Lines.{Statement, those, statement_of, statements_of, has_end}
-use Rattle.script_reader.specs.Said.{place_of, pins_said, payload_for, script_said}
+use Rattle.script_reader.specs.Said.{place_of, is_by_factor, pins_said, factor_said, payload_for, script_said}
 use Rattle.script_reader.specs.Words.{is_name, is_number, has_non_number, number_of, kind_said, level_said, is_payload_too_great}
 use Rattle.script_reader.specs.declared.code.Code.{Code}
 use Rattle.script_reader.specs.declared.code.Code.TheVariants as codes_of
@@ -91,10 +91,13 @@ abbrev pub is_committed : Level → Bool
 is_committed Committed = true
 is_committed level = false
 
--- ---- header: the first line with words is not `anna 1`
+-- ---- header: the first line with words is neither `anna 1` nor `anna 2`
+
+abbrev pub is_version : List ℕ → Bool
+is_version word = bytes_eq word (codes "1") || bytes_eq word (codes "2")
 
 abbrev pub is_header : Keyword → List (List ℕ) → Bool
-is_header Anna (version ∷ []) = bytes_eq version (codes "1")
+is_header Anna (version ∷ []) = is_version version
 is_header keyword words = false
 
 abbrev pub lacks_header : Context → Keyword → List (List ℕ) → Bool
@@ -113,14 +116,19 @@ may_follow context Session = context.has_workers
 may_follow context End = context.has_workers
 may_follow context keyword = context.has_workers && (is_command keyword && nat_lt 0 (length context.script.sessions))
 
+-- the words of a key after its kind: none, pins after `at`, or one replication factor after `factor`
+abbrev pub may_place : List (List ℕ) → Bool
+may_place [] = true
+may_place (by ∷ number ∷ numbers) = bytes_eq by (codes "at") || (bytes_eq by (codes "factor") && nat_le (length numbers) 0)
+may_place words = false
+
 -- how many words a first word may have after it, and which of them are given
 abbrev pub may_have : Keyword → List (List ℕ) → Bool
 may_have Anna (version ∷ []) = true
 may_have Workers (number ∷ []) = true
 may_have Factor (number ∷ []) = true
 may_have Round (number ∷ []) = true
-may_have Key (name ∷ kind ∷ []) = is_some (kind_said kind)
-may_have Key (name ∷ kind ∷ at ∷ pin ∷ pins) = is_some (kind_said kind) && bytes_eq at (codes "at")
+may_have Key (name ∷ kind ∷ placed) = is_some (kind_said kind) && may_place placed
 may_have Session (name ∷ level ∷ []) = is_some (level_said level)
 may_have Put (key ∷ value ∷ []) = true
 may_have Put (key ∷ field ∷ value ∷ []) = true
@@ -139,9 +147,14 @@ suits level Await words = is_causal level
 suits level Get (key ∷ worker ∷ words) = not (is_causal level)
 suits level keyword words = true
 
+-- a key has a replication factor of its own from version 2 on: so no such line is one of version 1
+abbrev pub is_in_version : ℕ → Keyword → List (List ℕ) → Bool
+is_in_version version Key words = not (is_by_factor words) || nat_le 2 version
+is_in_version version keyword words = true
+
 abbrev pub lacks_word : Context → Keyword → List (List ℕ) → Bool
 lacks_word context keyword words =
-    not (may_follow context keyword && (may_have keyword words && suits (level_of context) keyword words))
+    not (may_follow context keyword && (may_have keyword words && (suits (level_of context) keyword words && is_in_version context.script.version keyword words)))
 
 -- ---- number: a word that must be a number is none, or the number of a payload is too great
 
@@ -200,7 +213,7 @@ abbrev pub passes_limit : Context → Keyword → List (List ℕ) → Bool
 passes_limit context Workers (number ∷ words) = not (is_within 1 8 (number_of number))
 passes_limit context Factor (number ∷ words) = not (is_within 1 context.script.config.workers (number_of number))
 passes_limit context Round (number ∷ words) = not (is_within 1 64 (number_of number))
-passes_limit context Key words = nat_le 128 (length context.script.config.keys)
+passes_limit context Key words = nat_le 128 (length context.script.config.keys) || option_map_or (λ factor. not (is_within 1 context.script.config.workers factor)) (factor_said words) false
 passes_limit context Session words = nat_le 16 (length context.script.sessions)
 passes_limit context keyword words = is_command keyword && nat_le 4096 (commands_of context)
 

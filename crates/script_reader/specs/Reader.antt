@@ -38,7 +38,7 @@ so_far reader = record {
   has_workers = reader.has_workers;
   has_factor = reader.has_factor;
   has_round = reader.has_round;
-  script = record { config = reader.config; round = reader.round; kinds = reader.kinds.items; sessions = plans_of reader.sessions };
+  script = record { version = reader.version; config = reader.config; round = reader.round; kinds = reader.kinds.items; sessions = plans_of reader.sessions };
   begun = begun_of reader.sessions;
 }
 

@@ -1,5 +1,5 @@
 -- The script that statements say: each part is read off the whole list.
-use Rattle.std.specs.Prelude.{ℕ, ◌+◌, min, if◌then◌else◌, List, [], ◌∷◌, ◌++◌, map, drop, fold, Option, Some, None, unwrap_or, position}
+use Rattle.std.specs.Prelude.{ℕ, ◌+◌, min, Bool, false, if◌then◌else◌, List, [], ◌∷◌, ◌++◌, map, drop, fold, codes, Option, Some, None, unwrap_or, position}
 use Rattle.std.specs.List.{slice_get, list_any}
 use Rattle.std.specs.Option.{option_and_then}
 use Rattle.std.specs.Str.{bytes_eq}
@@ -46,12 +46,36 @@ abbrev pub number_or : ℕ → List Statement → ℕ
 number_or other [] = other
 number_or other (statement ∷ statements) = number_of (word 0 statement)
 
+-- the numbers of a key, of the words after `key`: its pins, or its own replication factor
+abbrev pub key_numbers : List (List ℕ) → List ℕ
+key_numbers words = map number_of (drop 3 words)
+
+-- the words of a key after its kind say a replication factor
+abbrev pub says_factor : List (List ℕ) → Bool
+says_factor [] = false
+says_factor (by ∷ numbers) = bytes_eq by (codes "factor")
+
+-- the numbers of a key are a replication factor, of the words after `key`
+abbrev pub is_by_factor : List (List ℕ) → Bool
+is_by_factor words = says_factor (drop 2 words)
+
+-- what the numbers of a key say, by whether they are a replication factor: its pins, and the factor
+abbrev pub pins_by : Bool → List ℕ → List ℕ
+pins_by by_factor numbers = if by_factor then [] else numbers
+
+abbrev pub factor_by : Bool → List ℕ → Option ℕ
+factor_by by_factor numbers = if by_factor then slice_get numbers 0 else None
+
 -- the pins of a key, of the words after `key`
 abbrev pub pins_said : List (List ℕ) → List ℕ
-pins_said words = map number_of (drop 3 words)
+pins_said words = pins_by (is_by_factor words) (key_numbers words)
+
+-- and its own replication factor
+abbrev pub factor_said : List (List ℕ) → Option ℕ
+factor_said words = factor_by (is_by_factor words) (key_numbers words)
 
 abbrev pub key_said : Statement → KeyPlace
-key_said statement = record { name = word 0 statement; pins = pins_said statement.words }
+key_said statement = record { name = word 0 statement; pins = pins_said statement.words; factor = factor_said statement.words }
 
 abbrev pub kind_in : Statement → Kind
 kind_in statement = unwrap_or (kind_said (word 1 statement)) kinds.Max
@@ -97,9 +121,10 @@ sessions_said keys of_keys named (statement ∷ statements) =
     ∷ sessions_said keys of_keys named statements
     else sessions_said keys of_keys named statements
 
--- The script that the statements say, where an await may name these sessions.
+-- The script that the statements say, where an await may name these sessions. The first line says its version.
 abbrev pub script_said : List (List ℕ) → List Statement → Script
 script_said named statements = record {
+  version = number_or 1 statements;
   config = config_said statements;
   round = number_or 4 (those is_round statements);
   kinds = map kind_in (those is_key statements);

@@ -9,10 +9,14 @@ use Rattle.script_reader.specs.Lines.{Statement, word}
 use Rattle.script_reader.specs.Said.{key_said, kind_in, level_in, line_said}
 use Rattle.script_reader.specs.Words.{number_of}
 use Rattle.script_reader.specs.declared.keyword.Keyword.{Keyword}
-use Rattle.script_reader.specs.declared.keyword.Keyword.TheVariants.{Workers, Factor, Round, Key, Session, Put, Get, Await, Begin, Commit, Abort}
+use Rattle.script_reader.specs.declared.keyword.Keyword.TheVariants.{Anna, Workers, Factor, Round, Key, Session, Put, Get, Await, Begin, Commit, Abort}
+
+abbrev pub with_version : ℕ → Script → Script
+with_version number script = record { version = number; config = script.config; round = script.round; kinds = script.kinds; sessions = script.sessions }
 
 abbrev pub with_workers : ℕ → Script → Script
 with_workers number script = record {
+  version = script.version;
   config = record { workers = number; factor = script.config.factor; keys = script.config.keys };
   round = script.round;
   kinds = script.kinds;
@@ -21,6 +25,7 @@ with_workers number script = record {
 
 abbrev pub with_factor : ℕ → Script → Script
 with_factor number script = record {
+  version = script.version;
   config = record { workers = script.config.workers; factor = number; keys = script.config.keys };
   round = script.round;
   kinds = script.kinds;
@@ -28,10 +33,11 @@ with_factor number script = record {
 }
 
 abbrev pub with_round : ℕ → Script → Script
-with_round number script = record { config = script.config; round = number; kinds = script.kinds; sessions = script.sessions }
+with_round number script = record { version = script.version; config = script.config; round = number; kinds = script.kinds; sessions = script.sessions }
 
 abbrev pub with_key : Statement → Script → Script
 with_key statement script = record {
+  version = script.version;
   config = record { workers = script.config.workers; factor = script.config.factor; keys = script.config.keys ++ key_said statement ∷ [] };
   round = script.round;
   kinds = script.kinds ++ kind_in statement ∷ [];
@@ -45,7 +51,7 @@ with_line line (plan ∷ []) = record { name = plan.name; level = plan.level; li
 with_line line (plan ∷ other ∷ plans) = plan ∷ with_line line (other ∷ plans)
 
 abbrev pub with_sessions : List SessionPlan → Script → Script
-with_sessions sessions script = record { config = script.config; round = script.round; kinds = script.kinds; sessions = sessions }
+with_sessions sessions script = record { version = script.version; config = script.config; round = script.round; kinds = script.kinds; sessions = sessions }
 
 -- a session that has no line yet
 abbrev pub new_session : Statement → SessionPlan
@@ -57,6 +63,7 @@ with_command context keyword words = with_sessions (with_line (line_said (keys_o
 
 -- the script with what a line says
 abbrev pub script_after : Context → Keyword → List (List ℕ) → Script
+script_after context Anna (version ∷ words) = with_version (number_of version) context.script
 script_after context Workers (number ∷ words) = with_workers (number_of number) context.script
 script_after context Factor (number ∷ words) = with_factor (number_of number) context.script
 script_after context Round (number ∷ words) = with_round (number_of number) context.script

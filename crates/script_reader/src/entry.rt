@@ -1,7 +1,8 @@
 //! Lines told apart by their first words.
-ghost use Rattle.std.specs.Prelude.{◌≡◌, ◌≢◌, ◌∷◌, [], length, MatchOption};
+ghost use Rattle.std.specs.Prelude.{◌≡◌, ◌≢◌, ◌∷◌, [], false, length, MatchOption};
 ghost use Rattle.script_reader.specs.declared.entry.Entry.TheVariants as entries;
-ghost use Rattle.script_reader.specs.Entries.{TellsApart};
+ghost use Rattle.script_reader.specs.Entries.{ArePlaced, TellsApart};
+ghost use Rattle.script_reader.specs.Faults.{may_place};
 ghost use Rattle.script_reader.specs.Words.{texts};
 
 use crate::keyword::Keyword;
@@ -34,10 +35,12 @@ pub(crate) enum Entry<'w, 'a> {
     Round {
         number: &'a [u8],
     },
+    /// A key, with numbers where there are any: its pins, or its own replication factor.
     Key {
         name: &'a [u8],
         kind: Kind,
-        pins: &'w [&'a [u8]],
+        by_factor: bool,
+        numbers: &'w [&'a [u8]],
     },
     Session {
         name: &'a [u8],
@@ -107,25 +110,38 @@ fn one_word<'w, 'a>(words: &'w [&'a [u8]]) -> Option<&'a [u8]>
     }
 }
 
-/// A key and its kind, and pins where there are any.
+/// A key and its kind, and pins or a replication factor where there are any.
 fn key_entry<'w, 'a>(words: &'w [&'a [u8]]) -> Option<Entry<'w, 'a>>
     ensures { TellsApart Keyword.Key (texts words.now) result }
 {
-    match words {
-        [name, word] => Some(Entry::Key {
-            name,
-            kind: kind(word)?,
-            pins: &[],
-        }),
-        [name, word, at, pins @ ..] if *at == b"at".as_slice() && !pins.is_empty() => {
-            Some(Entry::Key {
-                name,
-                kind: kind(word)?,
-                pins,
-            })
-        }
-        _ => None,
+    let [name, word, placed @ ..] = words else {
+        return None;
+    };
+    let (by_factor, numbers) = key_numbers(placed)?;
+    Some(Entry::Key {
+        name,
+        kind: kind(word)?,
+        by_factor,
+        numbers,
+    })
+}
+
+/// The numbers that say where a key is placed, and whether they are a replication factor: none, pins after `at`, or
+/// one factor after `factor`.
+fn key_numbers<'w, 'a>(placed: &'w [&'a [u8]]) -> Option<(bool, &'w [&'a [u8]])>
+    ensures { MatchOption result (may_place (texts placed.now) ≡ false)
+        (λ found. ArePlaced (texts placed.now) found.0 (texts found.1.now)) }
+{
+    let [by, numbers @ ..] = placed else {
+        return Some((false, placed));
+    };
+    if *by == b"at".as_slice() && !numbers.is_empty() {
+        return Some((false, numbers));
     }
+    if *by == b"factor".as_slice() && numbers.len() == 1 {
+        return Some((true, numbers));
+    }
+    None
 }
 
 /// A session and its level.

@@ -1,7 +1,9 @@
-//! The pins of a key.
-ghost use Rattle.std.specs.Prelude.{◌≡◌, ◌≤◌, true, not, All, IfOk, MatchOption};
+//! The pins of a key, and its own replication factor.
+ghost use Rattle.std.specs.Prelude.{◌≡◌, ◌≤◌, true, false, not, All, IfOk, MatchOption};
 ghost use Rattle.std.specs.List.{list_any};
+ghost use Rattle.std.specs.Option.{option_map_or};
 ghost use Rattle.script_reader.specs.Faults.{has_repeat as repeats, is_within as within};
+ghost use Rattle.script_reader.specs.Said.{pins_by, factor_by};
 ghost use Rattle.script_reader.specs.Words.{has_non_number, AreNumbers, texts};
 
 use crate::words::number;
@@ -50,6 +52,28 @@ pub(crate) fn are_workers(workers: u16, numbers: &[u64]) -> bool
     ensures { result ≡ not (list_any (λ n. not (within 1 workers n)) numbers.now) }
 {
     numbers.iter().all(|n| is_within(1, u64::from(workers), *n))
+}
+
+/// What the numbers of a key say: its pins, or its own replication factor.
+pub(crate) fn pins_or_factor(by_factor: bool, numbers: &[u64]) -> (&[u64], Option<u64>)
+    ensures pins { result.0.now ≡ pins_by by_factor numbers.now }
+    ensures factor { result.1 ≡ factor_by by_factor numbers.now }
+{
+    if by_factor {
+        (&[], numbers.first().copied())
+    } else {
+        (numbers, None)
+    }
+}
+
+/// Whether a key may live at so many workers, where it says so itself.
+pub(crate) fn is_factor(workers: u16, factor: Option<u64>) -> bool
+    ensures { result ≡ not (option_map_or (λ n. not (within 1 workers n)) factor false) }
+{
+    match factor {
+        Some(factor) => is_within(1, u64::from(workers), factor),
+        None => true,
+    }
 }
 
 /// The numbers as workers.

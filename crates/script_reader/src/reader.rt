@@ -4,7 +4,7 @@ mod commands;
 mod declared;
 
 ghost use Rattle.std.specs.Prelude.{◌≡◌, [], IfOk};
-ghost use Rattle.script_reader.specs.Faults.{context_of, may_follow, level_of, is_header as header_is, suits as level_suits};
+ghost use Rattle.script_reader.specs.Faults.{context_of, may_follow, level_of, is_header as header_is, is_in_version as in_version, suits as level_suits};
 ghost use Rattle.script_reader.specs.Reader.{so_far, plans_of, IsKept, TellsWhatSuits, Reads};
 ghost use Rattle.script_reader.specs.Words.{texts};
 
@@ -83,6 +83,8 @@ pub(crate) struct Reader<'a> {
     /// The sessions that an await may name.
     pub(crate) named: Names<'a>,
     pub(crate) has_header: bool,
+    /// 1 until the header is read.
+    pub(crate) version: u16,
     pub(crate) has_workers: bool,
     pub(crate) has_factor: bool,
     pub(crate) has_round: bool,
@@ -135,7 +137,7 @@ impl<'a> Reader<'a> {
         let Some(entry) = tell_apart(keyword, words) else {
             return Err(LineFault::Code(Code::Word));
         };
-        if !suits(self.level(), keyword, words) {
+        if !suits(self.level(), keyword, words) || !is_in_version(self.version, keyword, words) {
             return Err(LineFault::Code(Code::Word));
         }
         Ok(entry)
@@ -153,14 +155,16 @@ impl<'a> Reader<'a> {
         ensures { Reads self.old result self.new keyword (texts words.now) }
     {
         match self.check(keyword, words)? {
-            Entry::Header { .. } => {
-                self.has_header = true;
-                Ok(())
-            }
+            Entry::Header { version } => self.take_header(version),
             Entry::Workers { number } => self.take_workers(number),
             Entry::Factor { number } => self.take_factor(number),
             Entry::Round { number } => self.take_round(number),
-            Entry::Key { name, kind, pins } => self.take_key(alloc, name, kind, pins),
+            Entry::Key {
+                name,
+                kind,
+                by_factor,
+                numbers,
+            } => self.take_key(alloc, name, kind, by_factor, numbers),
             Entry::Session { name, level } => self.take_session(alloc, name, level),
             Entry::Put { key, payload } => self.take_put(key, payload),
             Entry::Get { key } => self.take_get(key),
@@ -185,6 +189,7 @@ impl<'a> Reader<'a> {
         Reader {
             named,
             has_header: false,
+            version: 1,
             has_workers: false,
             has_factor: false,
             has_round: false,
@@ -207,6 +212,7 @@ impl<'a> Reader<'a> {
         let Reader {
             named: _,
             has_header: _,
+            version,
             has_workers: _,
             has_factor: _,
             has_round: _,
@@ -217,6 +223,7 @@ impl<'a> Reader<'a> {
             sessions,
         } = self;
         Ok(Script {
+            version,
             config,
             round,
             kinds: Items::new(kinds),
@@ -242,8 +249,18 @@ fn is_header(keyword: Keyword, words: &[&[u8]]) -> bool
     ensures { result ≡ header_is keyword (texts words.now) }
 {
     match (keyword, words) {
-        (Keyword::Anna, [version]) => *version == b"1".as_slice(),
+        (Keyword::Anna, [version]) => *version == b"1".as_slice() || *version == b"2".as_slice(),
         _ => false,
+    }
+}
+
+/// Whether scripts of the version have such lines.
+fn is_in_version(version: u16, keyword: Keyword, words: &[&[u8]]) -> bool
+    ensures { result ≡ in_version version keyword (texts words.now) }
+{
+    match (keyword, words) {
+        (Keyword::Key, [_, _, by, ..]) => *by != b"factor".as_slice() || version >= 2,
+        _ => true,
     }
 }
 

@@ -4,3 +4,4 @@ pub mod KnownLemmas
 pub mod LaterLemmas
 pub mod LegalLemmas
 pub mod NumberedLemmas
+pub mod PlacesLemmas

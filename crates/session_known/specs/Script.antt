@@ -52,6 +52,7 @@ pub record IsValidSession (script : Script) (table : List (List ℕ)) (plan : Se
 
 -- A valid script, where the keys live as the table says.
 pub record IsValidScript (script : Script) (table : List (List ℕ)) : Type 0 where
+  pub version : IsOneOf 2 script.version
   pub config : IsValidConfig script.config
   pub placed : IsPlacement script.config table
   pub round : IsOneOf 64 script.round

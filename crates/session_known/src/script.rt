@@ -79,10 +79,11 @@ pub struct SessionPlan {
     pub lines: Items<Line>,
 }
 
-/// A script: workers and keys, how many requests a worker takes between rounds of gossip, the kinds
-/// of the keys, and the sessions, numbered from 1 in order.
+/// A script: its version, 1 or 2, workers and keys, how many requests a worker takes between rounds of gossip, the
+/// kinds of the keys, and the sessions, numbered from 1 in order.
 #[derive(Debug, Drop)]
 pub struct Script {
+    pub version: u16,
     pub config: Config,
     pub round: u32,
     pub kinds: Items<Kind>,
@@ -137,6 +138,7 @@ mod tests {
             keys.push(KeyPlace {
                 name: Name::of(name.as_slice())?,
                 pins: Items::new(Vec::new(alloc)),
+                factor: None,
             })?;
         }
         let mut sessions = Vec::new(alloc);
@@ -146,6 +148,7 @@ mod tests {
             lines: Items::new(Vec::new(alloc)),
         })?;
         let script = Script {
+            version: 1,
             config: Config {
                 workers: 1,
                 factor: 1,

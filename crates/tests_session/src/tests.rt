@@ -63,10 +63,12 @@ fn two_keys(alloc: Global) -> Result<Placement, Fail>
     let both = KeyPlace {
         name: Name::of(b"a")?,
         pins: Items::new(vec![in alloc; 1, 2]?),
+        factor: None,
     };
     let one = KeyPlace {
         name: Name::of(b"b")?,
         pins: Items::new(vec![in alloc; 1]?),
+        factor: None,
     };
     let config = Config {
         workers: 2,

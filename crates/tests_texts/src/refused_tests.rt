@@ -5,13 +5,15 @@ use std::alloc::Global;
 use std::test::Fail;
 
 /// Texts, each with the line at which it is refused, and the code.
-const REFUSED: [(&str, u32, u8); 26] = [
+const REFUSED: [(&str, u32, u8); 30] = [
     // No header.
-    ("anna 2\nworkers 1\nend\n", 1, 1),
+    ("anna 3\nworkers 1\nend\n", 1, 1),
     ("\nworkers 1\nend\n", 2, 1),
     // A first word that may not stand there, or other words than it may have.
     ("anna 1\nkey a max\nend\n", 2, 2),
     ("anna 1\nworkers 1\nkey a list\nend\n", 3, 2),
+    ("anna 1\nworkers 2\nkey a max factor 2\nend\n", 3, 2),
+    ("anna 2\nworkers 2\nkey a max factor\nend\n", 3, 2),
     (
         "anna 1\nworkers 1\nkey a max\nsession s eventual\nput a\nend\n",
         5,
@@ -24,6 +26,7 @@ const REFUSED: [(&str, u32, u8); 26] = [
     ),
     // No number, or one that is too great.
     ("anna 1\nworkers one\nend\n", 2, 3),
+    ("anna 2\nworkers 2\nkey a max factor x\nend\n", 3, 3),
     (
         "anna 1\nworkers 1\nkey a max\nsession s eventual\nget a one\nend\n",
         5,
@@ -75,6 +78,7 @@ const REFUSED: [(&str, u32, u8); 26] = [
     // Out of range.
     ("anna 1\nworkers 9\nend\n", 2, 8),
     ("anna 1\nworkers 1\nround 65\nend\n", 3, 8),
+    ("anna 2\nworkers 2\nkey a max factor 3\nend\n", 3, 8),
     // A transaction outside a committed session.
     (
         "anna 1\nworkers 1\nkey a max\nsession s eventual\nbegin\nend\n",

@@ -61,9 +61,13 @@ const SHOP: Worked = (
     "anna report 1\nsession ann eventual\nput cart 1 at 1\nput cart 2 at 2\nput hits 1 at 3\nsession bob eventual\nput hits 1 at 1\nput hits 2 at 2\nget cart @1 clock ann:1 top 1 value {milk}\nsession cid committed\nbegin\nput profile held\nput stock held\ncommit 2 at 1\nsession dee committed\nbegin\nput stock held\nabort 1\nput sale 1 at 1\nsession eve causal\nput notes 1 at 1\nawait stock cid 1 @4 clock cid:1 top 1 value 40 needs -\nget cart @2 clock ann:2 top 2 value {bread,milk} needs -\nsession fay causal\nput notes 1 at 1\nget notes @1 clock eve:1,fay:1 top 1 value draft(eve:1)|final(fay:1) needs -\nfinal\ncart @1 clock ann:2 top 2 value {bread,milk}\ncart @2 clock ann:2 top 2 value {bread,milk}\ncart @4 clock ann:2 top 2 value {bread,milk}\nhits @1 clock ann:1,bob:2 top 3 value {about=1,home=5}\nhits @3 clock ann:1,bob:2 top 3 value {about=1,home=5}\nhits @4 clock ann:1,bob:2 top 3 value {about=1,home=5}\nprofile @1 clock cid:1 top 1 value blue/1/cid/0\nprofile @2 clock cid:1 top 1 value blue/1/cid/0\nprofile @4 clock cid:1 top 1 value blue/1/cid/0\nstock @1 clock cid:1 top 1 value 40\nstock @3 clock cid:1 top 1 value 40\nstock @4 clock cid:1 top 1 value 40\nsale @1 clock dee:1 top 1 value on\nsale @3 clock dee:1 top 1 value on\nsale @4 clock dee:1 top 1 value on\nnotes @1 clock eve:1,fay:1 top 1 value draft(eve:1)|final(fay:1)\nnotes @3 clock eve:1,fay:1 top 1 value draft(eve:1)|final(fay:1)\nnotes @4 clock eve:1,fay:1 top 1 value draft(eve:1)|final(fay:1)\nend\n",
 );
 
-/// Short ones: an empty cell, the greatest number, replies of the home, two transactions, a held put, and an
+/// Short ones: a key with a factor of its own, an empty cell, the greatest number, replies of the home, two transactions, a held put, and an
 /// await that gives up.
-const SHORT: [Worked; 6] = [
+const SHORT: [Worked; 7] = [
+    (
+        "anna 2\nworkers 2\nfactor 1\nkey a max factor 2\nkey b max at 2\nsession s eventual\nput a 5\nput b 6\nend\n",
+        "anna report 2\nkey a max on 1 2\nkey b max on 2\nsession s eventual\nput a 1 at 1\nput b 1 at 2\nfinal\na @1 clock s:1 top 1 value 5\na @2 clock s:1 top 1 value 5\nb @2 clock s:1 top 2 value 6\nend\n",
+    ),
     (
         "anna 1\nworkers 1\nkey a max\nsession s eventual\nget a\nend\n",
         "anna report 1\nsession s eventual\nget a @1 clock - top 0 value none\nfinal\na @1 clock - top 0 value none\nend\n",

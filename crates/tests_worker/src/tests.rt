@@ -31,7 +31,11 @@ pub(crate) fn shared_keys(alloc: Global, keys: u16) -> Result<Placement, Fail>
     for _ in 0..keys {
         let name = Name::of(b"k")?;
         let pins = Items::new(vec![in alloc; 1, 2]?);
-        places.push(KeyPlace { name, pins })?;
+        places.push(KeyPlace {
+            name,
+            pins,
+            factor: None,
+        })?;
     }
     let config = Config {
         workers: 2,

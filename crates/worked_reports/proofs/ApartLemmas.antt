@@ -13,7 +13,7 @@ use Rattle.composed_value.specs.declared.payload.Payload.TheVariants as payloads
 use Rattle.composed_value.specs.declared.put.Put.{Put}
 use Rattle.composed_value.specs.declared.value.Value.TheVariants as values
 use Rattle.placement.specs.Name.{IsName}
-use Rattle.placement.specs.Config.{IsOneOf, ArePins, IsPlacement}
+use Rattle.placement.specs.Config.{IsOneOf, ArePins, IsOwnFactor, IsPlacement}
 use Rattle.placement.specs.declared.config.KeyPlace.{KeyPlace}
 use Rattle.composed_value.specs.Keyed.{puts_on}
 use Rattle.session_known.specs.Accepted.{accepted}
@@ -186,6 +186,7 @@ apart_is_legal = record {
 -- The script is valid.
 pub apart_is_valid : IsPlacement apart_script.config apart_table → IsValidScript apart_script apart_table
 apart_is_valid placed = record {
+  version = (lit≤ tt, lit≤ tt);
   config = record {
     workers_some = lit≤ tt;
     workers_most = lit≤ tt;
@@ -193,6 +194,7 @@ apart_is_valid placed = record {
     factor_most = lit≤ tt;
     keys_most = lit≤ tt;
     pins = All-from_recursion (λ (key : KeyPlace). ArePins apart_script.config.workers key.pins) apart_script.config.keys (pins_are 2 (2 ∷ 1 ∷ []) ((lit≤ tt, lit≤ tt), ((lit≤ tt, lit≤ tt), tt)) (((λ same. omega (arith, same)), tt), (tt, tt)), (pins_are 2 (1 ∷ []) ((lit≤ tt, lit≤ tt), tt) (tt, tt), tt));
+    factors = All-from_recursion (IsOwnFactor apart_script.config.workers) apart_script.config.keys (tt, (tt, tt));
   };
   placed = placed;
   round = (lit≤ tt, lit≤ tt);

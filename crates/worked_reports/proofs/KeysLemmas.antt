@@ -114,6 +114,7 @@ pub keys_is_valid : IsPlacement keys_script.config commit_table → IsValidScrip
 keys_is_valid placed =
     let like = commit_is_valid placed in
     record {
+      version = like.version;
       config = like.config;
       placed = placed;
       round = like.round;

@@ -8,7 +8,7 @@ use Rattle.std.proofs.lemmas.List.Sums.{AllPass-from_list_all}
 use Rattle.lattice_laws.specs.Spelling.{is_spelling_byte}
 use Rattle.basic_lattices.specs.Word.{IsWord}
 use Rattle.placement.specs.Name.{IsName}
-use Rattle.placement.specs.Config.{IsOneOf, ArePins, IsPlacement, EachHasReplicas}
+use Rattle.placement.specs.Config.{IsOneOf, ArePins, IsOwnFactor, IsPlacement, EachHasReplicas}
 use Rattle.placement.specs.declared.config.KeyPlace.{KeyPlace}
 use Rattle.session_known.specs.Legal.{IsLegalAt, IsLegal}
 use Rattle.session_known.specs.Script.{MayStand, AreEnded, IsValidSession, IsValidScript}
@@ -82,6 +82,7 @@ session_is_valid script table {plan} stand ended = record { lines = All-from_rec
 -- The first script is valid.
 pub first_is_valid : IsPlacement first_script.config first_table → IsValidScript first_script first_table
 first_is_valid placed = record {
+  version = (lit≤ tt, lit≤ tt);
   config = record {
     workers_some = lit≤ tt;
     workers_most = lit≤ tt;
@@ -89,6 +90,7 @@ first_is_valid placed = record {
     factor_most = lit≤ tt;
     keys_most = lit≤ tt;
     pins = All-from_recursion (λ (key : KeyPlace). ArePins first_script.config.workers key.pins) first_script.config.keys (pins_are 1 [] tt tt, tt);
+    factors = All-from_recursion (IsOwnFactor first_script.config.workers) first_script.config.keys (tt, tt);
   };
   placed = placed;
   round = (lit≤ tt, lit≤ tt);
@@ -105,6 +107,7 @@ first_is_valid placed = record {
 -- The second script is valid.
 pub home_is_valid : IsPlacement home_script.config home_table → IsValidScript home_script home_table
 home_is_valid placed = record {
+  version = (lit≤ tt, lit≤ tt);
   config = record {
     workers_some = lit≤ tt;
     workers_most = lit≤ tt;
@@ -112,6 +115,7 @@ home_is_valid placed = record {
     factor_most = lit≤ tt;
     keys_most = lit≤ tt;
     pins = All-from_recursion (λ (key : KeyPlace). ArePins home_script.config.workers key.pins) home_script.config.keys (pins_are 2 (2 ∷ 1 ∷ []) ((lit≤ tt, lit≤ tt), ((lit≤ tt, lit≤ tt), tt)) (((λ same. omega (arith, same)), tt), (tt, tt)), tt);
+    factors = All-from_recursion (IsOwnFactor home_script.config.workers) home_script.config.keys (tt, tt);
   };
   placed = placed;
   round = (lit≤ tt, lit≤ tt);
@@ -128,6 +132,7 @@ home_is_valid placed = record {
 -- The third script is valid.
 pub commit_is_valid : IsPlacement commit_script.config commit_table → IsValidScript commit_script commit_table
 commit_is_valid placed = record {
+  version = (lit≤ tt, lit≤ tt);
   config = record {
     workers_some = lit≤ tt;
     workers_most = lit≤ tt;
@@ -135,6 +140,7 @@ commit_is_valid placed = record {
     factor_most = lit≤ tt;
     keys_most = lit≤ tt;
     pins = All-from_recursion (λ (key : KeyPlace). ArePins commit_script.config.workers key.pins) commit_script.config.keys (pins_are 1 [] tt tt, (pins_are 1 [] tt tt, tt));
+    factors = All-from_recursion (IsOwnFactor commit_script.config.workers) commit_script.config.keys (tt, (tt, tt));
   };
   placed = placed;
   round = (lit≤ tt, lit≤ tt);
@@ -151,6 +157,7 @@ commit_is_valid placed = record {
 -- The fourth script is valid.
 pub causal_is_valid : IsPlacement causal_script.config causal_table → IsValidScript causal_script causal_table
 causal_is_valid placed = record {
+  version = (lit≤ tt, lit≤ tt);
   config = record {
     workers_some = lit≤ tt;
     workers_most = lit≤ tt;
@@ -158,6 +165,7 @@ causal_is_valid placed = record {
     factor_most = lit≤ tt;
     keys_most = lit≤ tt;
     pins = All-from_recursion (λ (key : KeyPlace). ArePins causal_script.config.workers key.pins) causal_script.config.keys (pins_are 2 (1 ∷ []) ((lit≤ tt, lit≤ tt), tt) (tt, tt), (pins_are 2 (2 ∷ []) ((lit≤ tt, lit≤ tt), tt) (tt, tt), tt));
+    factors = All-from_recursion (IsOwnFactor causal_script.config.workers) causal_script.config.keys (tt, (tt, tt));
   };
   placed = placed;
   round = (lit≤ tt, lit≤ tt);

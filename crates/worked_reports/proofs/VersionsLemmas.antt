@@ -122,6 +122,7 @@ pub versions_is_valid : IsPlacement versions_script.config first_table → IsVal
 versions_is_valid placed =
     let like = first_is_valid placed in
     record {
+      version = like.version;
       config = like.config;
       placed = placed;
       round = like.round;

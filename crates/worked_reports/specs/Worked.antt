@@ -34,7 +34,8 @@ IsLegalWhereverPlaced script report =
 --     get a
 abbrev pub first_script : Script
 first_script = record {
-  config = record { workers = 1; factor = 1; keys = record { name = codes "a"; pins = [] } ∷ [] };
+  version = 1;
+  config = record { workers = 1; factor = 1; keys = record { name = codes "a"; pins = []; factor = None } ∷ [] };
   round = 4;
   kinds = kinds.Max ∷ [];
   sessions = record {
@@ -75,7 +76,8 @@ first_table = (1 ∷ []) ∷ []
 --     get a
 abbrev pub home_script : Script
 home_script = record {
-  config = record { workers = 2; factor = 1; keys = record { name = codes "a"; pins = 2 ∷ 1 ∷ [] } ∷ [] };
+  version = 1;
+  config = record { workers = 2; factor = 1; keys = record { name = codes "a"; pins = 2 ∷ 1 ∷ []; factor = None } ∷ [] };
   round = 4;
   kinds = kinds.Set ∷ [];
   sessions = record {
@@ -126,7 +128,8 @@ home_table = (2 ∷ 1 ∷ []) ∷ []
 --     get l
 abbrev pub commit_script : Script
 commit_script = record {
-  config = record { workers = 1; factor = 1; keys = record { name = codes "a"; pins = [] } ∷ record { name = codes "l"; pins = [] } ∷ [] };
+  version = 1;
+  config = record { workers = 1; factor = 1; keys = record { name = codes "a"; pins = []; factor = None } ∷ record { name = codes "l"; pins = []; factor = None } ∷ [] };
   round = 4;
   kinds = kinds.Max ∷ kinds.Last ∷ [];
   sessions = record {
@@ -181,7 +184,8 @@ commit_table = (1 ∷ []) ∷ (1 ∷ []) ∷ []
 --     put b 7
 abbrev pub causal_script : Script
 causal_script = record {
-  config = record { workers = 2; factor = 1; keys = record { name = codes "a"; pins = 1 ∷ [] } ∷ record { name = codes "b"; pins = 2 ∷ [] } ∷ [] };
+  version = 1;
+  config = record { workers = 2; factor = 1; keys = record { name = codes "a"; pins = 1 ∷ []; factor = None } ∷ record { name = codes "b"; pins = 2 ∷ []; factor = None } ∷ [] };
   round = 4;
   kinds = kinds.Max ∷ kinds.Max ∷ [];
   sessions =
@@ -315,7 +319,8 @@ versions_report = record {
 --     get a
 abbrev pub apart_script : Script
 apart_script = record {
-  config = record { workers = 2; factor = 1; keys = record { name = codes "a"; pins = 2 ∷ 1 ∷ [] } ∷ record { name = codes "b"; pins = 1 ∷ [] } ∷ [] };
+  version = 1;
+  config = record { workers = 2; factor = 1; keys = record { name = codes "a"; pins = 2 ∷ 1 ∷ []; factor = None } ∷ record { name = codes "b"; pins = 1 ∷ []; factor = None } ∷ [] };
   round = 64;
   kinds = kinds.Max ∷ kinds.Max ∷ [];
   sessions =

@@ -47,7 +47,7 @@ fn lines_are_refused_with_their_codes(rt: HostRuntime) -> Result<(), Fail> {
 const REFUSED_INPUTS: [(&str, &str); 5] = [
     ("", "refused line 1: code 10\n"),
     (
-        "anna 2\nworkers 1\nkey a max\nsession s eventual\nput a 5\nput a 3\nget a\nend\n",
+        "anna 3\nworkers 1\nkey a max\nsession s eventual\nput a 5\nput a 3\nget a\nend\n",
         "refused line 1: code 1\n",
     ),
     (

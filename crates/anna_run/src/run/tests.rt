@@ -126,8 +126,13 @@ pub(super) const CONVERGED: (&str, &str) = (
 );
 
 /// Scripts whose reports are the same on every schedule, and those reports.
-const SETTLED: [(&str, &str); 6] = [
+const SETTLED: [(&str, &str); 7] = [
     CONVERGED,
+    // A key has a factor of its own.
+    (
+        "anna 2\nworkers 2\nfactor 1\nkey a max factor 2\nkey b max at 2\nsession s eventual\nput a 5\nput b 6\nend\n",
+        "anna report 2\nkey a max on 1 2\nkey b max on 2\nsession s eventual\nput a 1 at 1\nput b 1 at 2\nfinal\na @1 clock s:1 top 1 value 5\na @2 clock s:1 top 1 value 5\nb @2 clock s:1 top 2 value 6\nend\n",
+    ),
     // A session is shown by its home what it put there before, and nothing that it puts later.
     (
         "anna 1\nworkers 2\nkey a set at 2 1\nsession s eventual\nput a x\nget a\nput a y\nget a\nend\n",
@@ -255,6 +260,27 @@ fn spaces_tabs_returns_and_comments_change_nothing(rt: HostRuntime) -> Result<()
     let (status, text) = run_on(&rt, rt.alloc(), input)?;
     assert_eq!(rt; status, Status::Done);
     assert_eq!(rt; text.as_slice(), FIRST_REPORT.as_bytes());
+    Ok(())
+}
+
+#[test]
+fn factors_of_keys_are_refused(rt: HostRuntime) -> Result<(), Fail> {
+    // The first line and the fourth, and what is said of the script.
+    let cases = [
+        ("anna 2", "key a max factor 3", "refused line 4: code 8\n"),
+        ("anna 2", "key a max factor", "refused line 4: code 2\n"),
+        ("anna 2", "key a max factor x", "refused line 4: code 3\n"),
+        ("anna 1", "key a max factor 2", "refused line 4: code 2\n"),
+        ("anna 3", "key a max factor 2", "refused line 1: code 1\n"),
+    ];
+    for (first, fourth, want) in cases {
+        let script = format!(in rt.alloc();
+            "{first}\nworkers 2\nfactor 1\n{fourth}\nkey b max at 2\nsession s eventual\nput a 5\nput b 6\nend\n"
+        )?;
+        let (status, text) = run_on(&rt, rt.alloc(), script.as_bytes())?;
+        assert_eq!(rt; status, Status::Refused, "{fourth:?}");
+        assert_eq!(rt; text.as_slice(), want.as_bytes(), "{fourth:?}");
+    }
     Ok(())
 }
 

@@ -110,7 +110,7 @@ fn refuses_the_first_line_at_fault(rt: HostRuntime) -> Result<(), Fail> {
         ("\r", 1, 10),
         ("\n\r", 2, 10),
         ("anna 1\nworkers 1", 3, 10),
-        ("# \x07\n\nanna 2", 3, 1),
+        ("# \x07\n\nanna 3", 3, 1),
         ("anna 1\nend", 2, 2),
         ("anna 1\nworkers 9", 2, 8),
         ("anna 1\nworkers 0", 2, 8),
@@ -143,10 +143,54 @@ fn refuses_the_first_line_at_fault(rt: HostRuntime) -> Result<(), Fail> {
 }
 
 #[test]
+fn refuses_factors_of_keys(rt: HostRuntime) -> Result<(), Fail> {
+    // The version, the third line of a script of two workers, and the code.
+    let cases = [
+        (1, "key a max factor 2", 2),
+        (2, "key a max factor", 2),
+        (2, "key a max factor 1 2", 2),
+        (2, "key a max Factor 2", 2),
+        (2, "key a max 2", 2),
+        (2, "key a+ max factor x", 3),
+        (2, "key a max factor 18446744073709551616", 3),
+        (2, "key a+ max factor 3", 4),
+        (2, "key a max factor 3", 8),
+        (2, "key a max factor 0", 8),
+        (2, "key a max factor 65538", 8),
+        (2, "key a max at 1 factor 2", 3),
+        (2, "key a max at 3", 6),
+    ];
+    for (version, line, code) in cases {
+        let text = format!(in rt.alloc(); "anna {version}\nworkers 2\n{line}\nend\n")?;
+        let fault = read_script(rt.alloc(), text.as_bytes()).err();
+        assert_eq!(rt; fault, refusal(3, code), "{line:?}");
+    }
+    Ok(())
+}
+
+#[test]
+fn reads_factors_of_keys(rt: HostRuntime) -> Result<(), Fail> {
+    let text =
+        "anna 2\nworkers 3\nfactor 2\nkey a max factor 03\nkey b set\nkey c or at 3 1\nend\n";
+    let script = read_script(rt.alloc(), text.as_bytes())?;
+    assert_eq!(rt; script.version, 2);
+    let [a, b, c] = script.config.keys.as_slice() else {
+        return Err("three keys".into());
+    };
+    for (place, own, factor) in [(a, Some(3), 3), (b, None, 2), (c, None, 2)] {
+        assert_eq!(rt; place.factor, own);
+        assert_eq!(rt; script.config.factor_of(place), factor);
+    }
+    assert_eq!(rt; c.pins.as_slice(), [3, 1].as_slice());
+    Ok(())
+}
+
+#[test]
 fn reads_what_a_script_declares(rt: HostRuntime) -> Result<(), Fail> {
     let text =
         "\r\n  # a shop \x07\r\nanna\t1\r\nworkers 03 \r\nround 7\r\nfactor 2\r\nkey s set\r\nkey b max at 3 01\r\nsession s causal\r\nawait b t 0\r\nsession t eventual\r\nend";
     let script = read_script(rt.alloc(), text.as_bytes())?;
+    assert_eq!(rt; script.version, 1);
     assert_eq!(rt; script.config.workers, 3);
     assert_eq!(rt; script.config.factor, 2);
     assert_eq!(rt; script.round, 7);

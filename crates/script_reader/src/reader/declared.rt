@@ -3,13 +3,13 @@ ghost use Rattle.std.specs.Prelude.{◌≡◌, ◌<◌, List, ℕ, ◌∷◌, []
 ghost use Rattle.std.specs.List.{list_any};
 ghost use Rattle.std.specs.Str.{bytes_eq};
 ghost use Rattle.script_reader.specs.Entries.{AreKeyWords, AreSessionWords};
-ghost use Rattle.script_reader.specs.Faults.{sessions_of};
+ghost use Rattle.script_reader.specs.Faults.{is_version, sessions_of};
 ghost use Rattle.script_reader.specs.Reader.{so_far, begun_of, IsKept, SuitsPlace, Reads, IsNameFault, HasOpened};
-ghost use Rattle.script_reader.specs.Words.{is_name, texts};
+ghost use Rattle.script_reader.specs.Words.{is_name, number_of, texts};
 ghost use Rattle.script_reader.specs.declared.keyword.Keyword.TheVariants as keywords;
 
 use crate::code::Code;
-use crate::pins::{are_workers, has_repeat, is_within, numbers, pins};
+use crate::pins::{are_workers, has_repeat, is_factor, is_within, numbers, pins, pins_or_factor};
 use crate::reader::{LineFault, Reader, Sessions};
 use crate::words::number;
 use composed_value::Kind;
@@ -31,7 +31,25 @@ fn read_name(word: &[u8]) -> Result<Name, LineFault>
     }
 }
 
+/// The version that a header says.
+fn version_of(word: &[u8]) -> u16
+    ensures { is_version word.now ≡ true → result ≡ number_of word.now }
+{
+    if word == b"2".as_slice() { 2 } else { 1 }
+}
+
 impl<'a> Reader<'a> {
+    /// Reads the version.
+    pub(crate) fn take_header(&mut self, version: &[u8]) -> Result<(), LineFault>
+        requires kept { IsKept self.old }
+        requires stands { SuitsPlace (so_far self.old) keywords.Anna (version.now ∷ []) }
+        ensures { Reads self.old result self.new keywords.Anna (version.now ∷ []) }
+    {
+        self.version = version_of(version);
+        self.has_header = true;
+        Ok(())
+    }
+
     /// Reads the number of workers.
     pub(crate) fn take_workers(&mut self, word: &[u8]) -> Result<(), LineFault>
         requires kept { IsKept self.old }
@@ -95,32 +113,36 @@ impl<'a> Reader<'a> {
         alloc: Global,
         name: &'a [u8],
         kind: Kind,
-        pin_words: &[&[u8]],
+        by_factor: bool,
+        number_words: &[&[u8]],
     ) -> Result<(), LineFault>
         requires kept { IsKept self.old }
-        ensures { (words : List (List ℕ)) → AreKeyWords words name.now kind (texts pin_words.now)
+        ensures { (words : List (List ℕ))
+            → AreKeyWords words name.now kind by_factor (texts number_words.now)
             → SuitsPlace (so_far self.old) keywords.Key words
             → Reads self.old result self.new keywords.Key words }
     {
-        let Some(numbers) = numbers(alloc, pin_words)? else {
+        let Some(numbers) = numbers(alloc, number_words)? else {
             return Err(LineFault::Code(Code::Number));
         };
         let key_name = read_name(name)?;
-        if self.keys.place_of(name).is_some() || has_repeat(alloc, &numbers)? {
+        let (pinned, factor) = pins_or_factor(by_factor, &numbers);
+        if self.keys.place_of(name).is_some() || has_repeat(alloc, pinned)? {
             return Err(LineFault::Code(Code::Twice));
         }
-        if !are_workers(self.config.workers, &numbers) {
+        if !are_workers(self.config.workers, pinned) {
             return Err(LineFault::Code(Code::Unknown));
         }
-        if self.config.keys.as_slice().len() >= 128 {
+        if self.config.keys.as_slice().len() >= 128 || !is_factor(self.config.workers, factor) {
             return Err(LineFault::Code(Code::Limit));
         }
-        let pins = Items::new(pins(alloc, &numbers)?);
+        let pins = Items::new(pins(alloc, pinned)?);
         self.keys.add(name)?;
         self.kinds.push(kind)?;
         self.config.keys.push(KeyPlace {
             name: key_name,
             pins,
+            factor: factor.map(|factor| factor as u16),
         })?;
         Ok(())
     }

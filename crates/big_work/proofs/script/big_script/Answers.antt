@@ -10,9 +10,9 @@ use Rattle.big_work.proofs.script.big_script.Goals as goal
 pub returns-clause-valid : goal.returns-clause-valid
 returns-clause-valid c =
     let made : Script =
-    record { config = record { workers = 4; factor = 3; keys = c.in_ok-key_places.field-0 }; round = 4; kinds = c.in_ok-kinds.field-0; sessions = c.in_ok-plans.field-0 } in
+    record { version = 1; config = record { workers = 4; factor = 3; keys = c.in_ok-key_places.field-0 }; round = 4; kinds = c.in_ok-kinds.field-0; sessions = c.in_ok-plans.field-0 } in
     let same : script_of c.args.number ≡ made =
-    λ j. record { config = record { workers = 4; factor = 3; keys = sym c.in_ok-key_places.ensures j }; round = 4; kinds = sym c.in_ok-kinds.ensures j; sessions = sym c.in_ok-plans.ensures j } in
+    λ j. record { version = 1; config = record { workers = 4; factor = 3; keys = sym c.in_ok-key_places.ensures j }; round = 4; kinds = sym c.in_ok-kinds.ensures j; sessions = sym c.in_ok-plans.ensures j } in
     subst (λ (script : Script). IsValidScript script (placed script.config)) same (big_is_valid c.args.number)
 
 pub returns-clause-commands : goal.returns-clause-commands

@@ -27,7 +27,7 @@ abbrev causal : SessionPlan
 causal = record { name = 97 ∷ []; level = Causal; lines = Await 1 1 1 ∷ [] }
 
 abbrev small : Config → Script
-small config = record { config = config; round = 4; kinds = Max ∷ []; sessions = eventual ∷ committed ∷ causal ∷ [] }
+small config = record { version = 1; config = config; round = 4; kinds = Max ∷ []; sessions = eventual ∷ committed ∷ causal ∷ [] }
 
 -- names of one letter differ
 letters_differ : (a b : ℕ) → a ≢ b → a ∷ [] ≢ b ∷ []
@@ -38,6 +38,7 @@ small_is_valid : (config : Config) → IsValidConfig config → length config.ke
 small_is_valid config valid one named first second third =
     let the_key : IsOneOf (length config.keys) 1 = (omega arith, omega (arith, one)) in
     record {
+      version = (omega arith, omega arith);
       config = valid;
       placed = is_placement config;
       round = (omega arith, omega arith);
@@ -80,7 +81,7 @@ returns c =
     session_is c.in_ok-causal.causal causal.name causal.level causal.lines c.in_ok-causal.ensures.name c.in_ok-causal.ensures.level (c.in_ok-causal.ensures.lines ∙ c.in_ok-vec-3.ensures.items) in
     let kinds : c.new.result ≡ Max ∷ [] = c.new.ensures ∙ c.in_ok-vec-4.ensures.items in
     let sessions : c.new-2.result ≡ eventual ∷ committed ∷ causal ∷ [] = c.new-2.ensures ∙ c.in_ok-vec-5.ensures.items ∙ (λ j. first j ∷ second j ∷ third j ∷ []) in
-    let are : record { config = config; round = 4; kinds = c.new.result; sessions = c.new-2.result } ≡ small config = λ j. record { config = config; round = 4; kinds = kinds j; sessions = sessions j } in
+    let are : record { version = 1; config = config; round = 4; kinds = c.new.result; sessions = c.new-2.result } ≡ small config = λ j. record { version = 1; config = config; round = 4; kinds = kinds j; sessions = sessions j } in
     subst (λ script. IsValidScript script (placed config)) (sym are)
     (small_is_valid config c.in_ok-one_key.ensures.valid c.in_ok-one_key.ensures.one c.in_ok-one_key.ensures.named
     (subst IsName (ap (λ plan. plan.name) first) c.in_ok-eventual.ensures.named) (subst IsName (ap (λ plan. plan.name) second) c.in_ok-committed.ensures.named)

@@ -1,11 +1,12 @@
-use Rattle.std.proofs.Common.{sym, ◌∙◌}
-use Rattle.report_reader.proofs.ReadPartLemmas.{places_skip, places_take}
+use Rattle.std.proofs.Common.{ap, ◌∙◌, ◌++◌, get_or}
+use Rattle.std.proofs.lemmas.List.{take_all, get_or_default}
+use Rattle.report_reader.specs.ReadLines.{places_at}
+use Rattle.report_reader.proofs.ReadPartLemmas.{mapped_more}
 use Rattle.report_reader.proofs.lines.push_places.Goals as goal
 
-pub loop-i-preserved-then-not-contains : goal.loop-i-preserved-then-not-contains
-loop-i-preserved-then-not-contains c =
-    places_skip c.loop-i.places.items c.args.places.now.items c.args.key c.args.replicas.now c.loop-i.i c.loop-i.invariant (sym c.contains.ensures.value ∙ c.if-not-contains.true)
+pub loop-worker-preserved : goal.loop-worker-preserved
+loop-worker-preserved c =
+    mapped_more (λ worker. (c.args.key, worker)) c.args.places.now.items c.loop-worker.places.items c.push.new.self.items c.args.workers.now c.loop-worker.worker-index (get_or c.args.workers.now c.loop-worker.worker-index 0) c.loop-worker-test.true (get_or_default c.args.workers.now c.loop-worker.worker-index 0 _ c.loop-worker-test.true) c.loop-worker.invariant c.in_ok-push.ensures.items
 
-pub loop-i-preserved : goal.loop-i-preserved
-loop-i-preserved c =
-    places_take c.loop-i.places.items c.args.places.now.items c.push.new.self.items c.args.key c.args.replicas.now c.loop-i.i c.loop-i.invariant c.in_ok-push.ensures.items (sym c.contains.ensures.value ∙ c.if-not-contains.false)
+pub returns : goal.returns
+returns c = c.loop-worker.invariant ∙ ap (λ workers. c.args.places.now.items ++ places_at c.args.key workers) (take_all c.loop-worker.worker-index c.args.workers.now c.loop-worker-test.false)

@@ -1,8 +1,7 @@
 use Rattle.std.proofs.Common.{ap, sym, ◌∙◌}
 use Rattle.outside.proofs.GatheringLemmas.{Adds-as, Adds-none}
-use Rattle.report_lines.specs.Text.{needs_words}
-use Rattle.report_text.specs.Writes.{spaced}
-use Rattle.report_text.proofs.WritesLemmas.{spaced-nil}
+use Rattle.report_lines.proofs.RenderingLemmas.{spaced-nil}
+use Rattle.report_lines.specs.Text.{needs_words, spaced}
 use Rattle.report_text.proofs.answers.write_shown_needs.Goals as goal
 
 pub returns-in_default : goal.returns-in_default
