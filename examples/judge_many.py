@@ -9,13 +9,18 @@ import subprocess
 import sys
 
 TOP = pathlib.Path(__file__).resolve().parent.parent
-KINDS = ["max", "or", "set", "map", "last", "versions"]
+KINDS = {1: ["max", "or", "set", "map", "last", "versions"]}
+KINDS[2] = [*KINDS[1], "counter", "orset"]
 
 
 def payload(draw, kind):
     """What a put brings to a key of this kind."""
     number = draw.randrange(1000)
     word = f"w{draw.randrange(40)}"
+    if kind == "counter":
+        return f"{draw.choice(['add', 'sub'])} {number}"
+    if kind == "orset":
+        return f"{draw.choice(['insert', 'insert', 'remove'])} w{draw.randrange(4)}"
     return {"max": number, "or": "on", "map": f"{word} {number}"}.get(kind, word)
 
 
@@ -56,7 +61,7 @@ def script(draw):
     lines = [f"anna {version}", f"workers {workers}", f"factor {draw.randrange(1, workers + 1)}", f"round {draw.randrange(1, 9)}"]
     keys = {}
     for number in range(draw.randrange(1, 12)):
-        kind = draw.choice(KINDS)
+        kind = draw.choice(KINDS[version])
         pins = draw.sample(range(1, workers + 1), draw.randrange(workers + 1))
         keys[f"k{number}"] = kind, pins
         lines.append(f"key k{number} {kind}{place(draw, version, workers, pins)}")

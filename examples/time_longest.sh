@@ -3,8 +3,9 @@
 # script that it takes, 1,048,576 bytes with 4,096 commands of sessions of all levels, on 8 workers with 3 replicas a key,
 # and scripts with a half and a quarter of its commands, whose reports are checked too; as many commands on 128 keys with
 # 8 replicas; as many of eventual sessions alone, on 1 and 8 workers, and of causal ones; 2,048 puts of words of 60 bytes
-# into one set with a get after each, and the same into one map (130 MB of report each); and 4,096 puts by 16 sessions to
-# one key and to 128 keys, on 1, 2, 4 and 8 workers. With `taskset -c 0,1` before it all runs on two cores.
+# into one set with a get after each, and the same into one map (130 MB of report each); as many puts of a counter and
+# inserts and removes of a set with removal, each with a get; and 4,096 puts by 16 sessions to one key and to 128 keys,
+# on 1, 2, 4 and 8 workers. With `taskset -c 0,1` before it all runs on two cores.
 set -u
 top=$(cd "$(dirname "$(readlink -f "$0")")/.." && pwd) || exit 1
 program=$top/crates/anna_run/out/anna_run
@@ -66,6 +67,20 @@ make_words() {
         printf "anna 1\nworkers 8\nfactor 3\nkey k %s\nsession s eventual\n", kind
         for (c = 0; c < 2048; c++)
             printf "put k w%059d%s\nget k\n", c, kind == "map" ? " 7" : ""
+        print "end"
+    }'
+}
+
+# 2,048 puts of one counter with a get after each, and 2,048 inserts and removes in turn of one set with removal. Each
+# third remove is of a word that is not there.
+make_dots() {
+    awk -v kind="$1" 'BEGIN {
+        printf "anna 2\nworkers 8\nfactor 3\nkey k %s\nsession s eventual\n", kind
+        for (c = 0; c < 2048; c++)
+            if (kind == "counter")
+                printf "put k %s %d\nget k\n", c % 3 ? "add" : "sub", c
+            else
+                printf "put k %s w%059d\nget k\n", c % 3 ? "insert" : "remove", c % 1365
         print "end"
     }'
 }
@@ -136,6 +151,10 @@ done
 for kind in set map; do
     make_words "$kind" >"$folder/script"
     time_run "2048 puts of words into one $kind with a get after each"
+done
+for kind in counter orset; do
+    make_dots "$kind" >"$folder/script"
+    time_run "2048 puts of one $kind with a get after each"
 done
 for keys in 1 128; do
     for workers in 1 2 4 8; do

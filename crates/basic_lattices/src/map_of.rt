@@ -45,6 +45,11 @@ impl<K: MapKey, L: AllFit> MapOf<K, L> {
         }
     }
 
+    /// Where it takes its memory.
+    pub fn alloc(&self) -> Global {
+        self.entries.alloc()
+    }
+
     /// Merges the value into what stands at the key, or puts it where the key is new. After
     /// `NoMemory` the map is as before.
     pub fn raise(&mut self, key: K, value: L) -> Result<(), NoMemory>

@@ -69,7 +69,7 @@ small_final_in worker = record {
     sessions = All-cons (λ (entry : ℕ × ℕ). IsOneOf 1 entry.0) (1, 1) [] (lit≤ tt, lit≤ tt) (All-nil (λ (entry : ℕ × ℕ). IsOneOf 1 entry.0));
   };
   top_fits = lit< tt;
-  value_is = record { is_value = lit< tt; of_kind = refl; sessions = tt };
+  value_is = record { is_value = lit< tt; of_kind = refl; sessions = tt; few = tt };
 }
 
 small_final : (worker : ℕ) → IsLawfulFinal small_script.kinds (accepted small_script small_report) (small_cell worker)

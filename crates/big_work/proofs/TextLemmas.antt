@@ -4,6 +4,7 @@ use Rattle.std.specs.Fmt.{decimal}
 use Rattle.std.specs.List.{flat_map, range_with_len}
 use Rattle.std.proofs.Common.{refl, sym, ap, subst, ◌∙◌, append_assoc, arith}
 use Rattle.report_lines.specs.Text.{line_text, short_words}
+use Rattle.session_known.proofs.AcceptedLemmas.{all_accept}
 use Rattle.session_known.specs.Accepted.{accepted}
 use Rattle.session_known.specs.Form.{replicas_ascending}
 use Rattle.session_known.specs.Legal.{IsLegalAt}
@@ -15,7 +16,7 @@ use Rattle.session_known.specs.declared.script.SessionPlan.{SessionPlan}
 use Rattle.big_work.specs.Big.{least_cell, summary_text}
 use Rattle.big_work.specs.Parts.{first_cells, head_text, puts_of_all}
 use Rattle.big_work.proofs.LeastLemmas.{firsts_are_least}
-use Rattle.big_work.proofs.PutsLemmas.{all_accept, all_told}
+use Rattle.big_work.proofs.PutsLemmas.{all_told}
 
 -- how many commands the sessions have
 abbrev pub commands_of : Script → ℕ

@@ -69,9 +69,7 @@ payload_is : (kind : Kind) (draw : ℕ) → IsPayload (payload_of kind draw)
 payload_is kinds.Max draw = omega arith
 payload_is kinds.Or draw = tt
 payload_is kinds.Set draw = numbered_is_spelled 64 (draw % 50) (codes "w") (lit≤ tt) (omega arith) (one_letter 119 refl)
-payload_is kinds.Map draw = (numbered_is_spelled 64 (draw % 10) (codes "f") (lit≤ tt) (omega arith) (one_letter 102 refl), omega arith)
-payload_is kinds.Last draw = (numbered_is_spelled 64 (draw % 10) (codes "f") (lit≤ tt) (omega arith) (one_letter 102 refl), omega arith)
-payload_is kinds.Versions draw = (numbered_is_spelled 64 (draw % 10) (codes "f") (lit≤ tt) (omega arith) (one_letter 102 refl), omega arith)
+payload_is kind draw = (numbered_is_spelled 64 (draw % 10) (codes "f") (lit≤ tt) (omega arith) (one_letter 102 refl), omega arith)
 
 -- and of the kind, which is one of the four
 payload_fits : (turn draw : ℕ) → kind_of (payload_of (turn_kind turn) draw) ≡ turn_kind turn

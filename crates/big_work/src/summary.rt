@@ -1,9 +1,10 @@
 //! Writes summaries.
 ghost use Rattle.std.specs.Prelude.{◌≡◌, ◌<◌, ◌^◌, ◌++◌, ◌∷◌, [], codes, length, sum_by, None};
-ghost use Rattle.std.specs.List.{flat_map};
+ghost use Rattle.std.specs.List.{All, flat_map};
 ghost use Rattle.outside.specs.Gathering.{Adds, Wrote};
 ghost use Rattle.outside.specs.Outside.{HasCause};
 ghost use Rattle.report_lines.specs.Text.{line_text, short_words};
+ghost use Rattle.session_known.specs.Form.{HasFewDots};
 ghost use Rattle.session_known.specs.Legal.{IsLegal};
 ghost use Rattle.big_work.specs.Big.{summary_text};
 ghost use Rattle.big_work.specs.Parts.{first_cells, head_text, puts_of_all, puts_of_session, puts_told};
@@ -113,6 +114,7 @@ fn write_numbered<K: Sink, N: Integer>(out: &mut Out<'_, K>, words: &[u8], numbe
 /// Writes the short line of each cell whose key differs from that of the cell before. Where the cells
 /// stand by key, and of each key by worker, it is that of the replica with the least number.
 fn write_cells<K: Sink>(script: &Script, finals: &[FinalCell], sink: &mut K) -> Result<(), Failed>
+    requires few { All (λ cell. HasFewDots cell.value) finals.now }
     ensures wrote { Wrote (K.written sink.old) (K.written sink.new)
         (flat_map (λ cell. line_text (short_words script.now cell)) (first_cells None finals.now))
         result }

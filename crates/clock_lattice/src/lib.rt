@@ -25,3 +25,4 @@ mod some_clock;
 pub use clock::{Clock, ClockIter};
 pub use coverage::{clocks_cover, needs_cover};
 pub use needs::{Needs, NeedsIter};
+pub use some_clock::SomeClock;

@@ -8,9 +8,10 @@ use crate::Clock;
 use lattice_laws::{AllFit, Lattice, NoMemory};
 use std::marker::Model;
 
-/// A clock that counts something: what needs have at a key. Contracts see the clock.
+/// A clock that counts something: what a map of clocks has at a key, where one that counts nothing is not kept.
+/// Contracts see the clock.
 #[derive(Debug, Drop)]
-pub(crate) struct SomeClock {
+pub struct SomeClock {
     clock: Clock,
 }
 
@@ -26,7 +27,8 @@ impl Model for SomeClock {
 }
 
 impl SomeClock {
-    pub(crate) fn of(clock: Clock) -> SomeClock
+    /// The clock, which counts something.
+    pub fn of(clock: Clock) -> SomeClock
         requires { 0 < length clock }
         ensures value { result ≡ clock }
         ensures some { IsSomeClock result }
@@ -35,7 +37,8 @@ impl SomeClock {
         SomeClock { clock }
     }
 
-    pub(crate) fn clock(&self) -> &Clock
+    /// The clock. Takes no memory.
+    pub fn clock(&self) -> &Clock
         ensures value { result.now ≡ self.now }
         ensures some { IsSomeClock result.now }
     {

@@ -8,7 +8,7 @@ use Rattle.lattice_laws.specs.Joins.{SameMembers}
 
 module _ {X Y : Type 0} (gather : X → Option Y) where
   -- some member gives it
-  abbrev IsGiven : List X → Y → Type 0
+  abbrev pub IsGiven : List X → Y → Type 0
   IsGiven xs y = (x : X) × Contains xs x × (gather x ≡ Some y)
 
   -- what the others give is given
@@ -16,7 +16,7 @@ module _ {X Y : Type 0} (gather : X → Option Y) where
   given_later x xs y from = (from.0, Contains-append_right (x ∷ []) xs from.0 from.1, from.2)
 
   -- what is gathered is given by some member
-  gathered_from : (xs : List X) (y : Y) → Contains (filter_map gather xs) y → IsGiven xs y
+  pub gathered_from : (xs : List X) (y : Y) → Contains (filter_map gather xs) y → IsGiven xs y
   gathered_from [] y has = absurd (omega arith)
   gathered_from (x ∷ xs) y has =
       elim (gather x) as (λ o. gather x ≡ o → Contains (cons_option o (filter_map gather xs)) y → IsGiven (x ∷ xs) y) [
@@ -28,7 +28,7 @@ module _ {X Y : Type 0} (gather : X → Option Y) where
       ] refl has
 
   -- and what some member gives is gathered
-  gathered_of : (xs : List X) (x : X) (y : Y) → Contains xs x → gather x ≡ Some y → Contains (filter_map gather xs) y
+  pub gathered_of : (xs : List X) (x : X) (y : Y) → Contains xs x → gather x ≡ Some y → Contains (filter_map gather xs) y
   gathered_of [] x y has gives = absurd (omega arith)
   gathered_of (first ∷ xs) x y has gives =
       elim (Contains-append_cases (first ∷ []) xs x has) [

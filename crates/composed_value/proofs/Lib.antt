@@ -1,4 +1,6 @@
 pub mod CellOfLemmas
+pub mod DotLawsLemmas
+pub mod DotValueLemmas
 pub mod GatheredLemmas
 pub mod KeyedLemmas
 pub mod PlainValueLemmas

@@ -26,13 +26,20 @@ use Rattle.basic_lattices.specs.TextSet.{united}
 use Rattle.basic_lattices.specs.Word.{IsWord, word_cmp}
 use Rattle.lattice_laws.specs.SpellingLaws.{spelled_total, spelled_exact}
 use Rattle.basic_lattices.specs.declared.stamped.Stamped.{Stamped}
-use Rattle.clock_lattice.specs.Clock.{IsClock}
 use Rattle.version_antichain.specs.Versions.{joined_versions}
 use Rattle.version_antichain.specs.declared.version.Version.{Version}
+use Rattle.dot_lattices.specs.Amounts.{amounts_of}
+use Rattle.dot_lattices.specs.Dot.{dot_cmp}
+use Rattle.dot_lattices.specs.DotSet.{joined_dot_sets}
+use Rattle.dot_lattices.specs.DotSums.{joined_sums}
+use Rattle.dot_lattices.specs.declared.amounts.Amounts.{Amounts}
+use Rattle.dot_lattices.specs.declared.dot.Dot.{Dot}
+use Rattle.dot_lattices.specs.declared.insert.Insert.{Insert}
+use Rattle.composed_value.proofs.DotValueLemmas.{amounts_by_members, amounts_fit, counter_of_none, counter_of_one, counter_of_both, counter_is_single, orset_of_none, orset_of_insert, orset_of_remove, orset_of_both, orset_by_members, orset_is_single}
 use Rattle.composed_value.proofs.GatheredLemmas.{same_gathered}
 use Rattle.composed_value.specs.Kind.{kind_of, kind_of_value}
-use Rattle.composed_value.specs.PlainValue.{IsPutOf, IsValueOf, number_of, word_of, number_at, stamped_of, version_of, numbers, words, numbers_at, stamped, versions}
-use Rattle.composed_value.specs.Put.{IsPayload, stamp_of, brought_by, value_of_put}
+use Rattle.composed_value.specs.PlainValue.{IsPutOf, IsValueOf, number_of, word_of, number_at, stamped_of, version_of, numbers, words, numbers_at, stamped, versions, change_at, insert_of, seen_of, changes_at, inserts, seen_by_removes, IsCounterOf, IsOrSetOf}
+use Rattle.composed_value.specs.Put.{IsPayload, IsPut, dot_of, stamp_of, brought_by, value_of_put}
 use Rattle.composed_value.proofs.SetsOfListsLemmas.{IsSetOf, set_of_none, set_of_one, set_of_both, set_of_is_single, set_of_by_members}
 use Rattle.composed_value.specs.Value.{joined_found, empty_value, joined_values}
 use Rattle.composed_value.specs.ValueLaws.{plain_of_joined, plain_of_injective, fields_laws}
@@ -60,6 +67,15 @@ stamped_in put = stamped_of put put.payload
 
 abbrev version_in : Put → Option Version
 version_in put = version_of put put.payload
+
+abbrev change_in : Dot → Put → Option Amounts
+change_in dot put = change_at dot put put.payload
+
+abbrev insert_in : Put → Option Insert
+insert_in put = insert_of put put.payload
+
+abbrev seen_in : List ℕ → Put → Option (List (ℕ × ℕ))
+seen_in word put = seen_of word put put.payload
 
 -- the order of stamped words has a greater of two
 stamp_is_greater : IsGreater (λ a b. IsTrue (is_le (stamp_cmp a b))) (ord_max stamp_cmp)
@@ -118,6 +134,8 @@ value_has_kind kinds.Set puts (values.Set set) is = refl
 value_has_kind kinds.Map puts (values.Map fields) is = refl
 value_has_kind kinds.Last puts (values.Last last) is = refl
 value_has_kind kinds.Versions puts (values.Versions kept) is = refl
+value_has_kind kinds.Counter puts (values.Counter sums) is = refl
+value_has_kind kinds.OrSet puts (values.OrSet set) is = refl
 value_has_kind _ puts _ is = absurd is
 
 -- the value of no puts
@@ -128,23 +146,28 @@ value_of_none kinds.Set = set_of_none spelled_total spelled_exact IsWord
 value_of_none kinds.Map = (record { ascending = refl; are_entries = All-nil (IsEntry IsWord (λ number. number < 2 ^ 64)) }, λ field. contains_none)
 value_of_none kinds.Last = contains_none
 value_of_none kinds.Versions = kept_of_none
+value_of_none kinds.Counter = counter_of_none
+value_of_none kinds.OrSet = orset_of_none
 
 -- the value of a put with the payload
-value_of_payload : (kind : Kind) (put : Put) (payload : Payload) → kind_of payload ≡ kind → IsClock put.seen → IsPayload payload → IsValueOf kind (record put { payload = payload } ∷ []) (brought_by put payload)
-value_of_payload kinds.Max put (payloads.Max number) of_kind seen is = greatest_of_one max_is_greater number
-value_of_payload kinds.Or put payloads.On of_kind seen is = ((λ on. omega arith), (λ some. refl))
-value_of_payload kinds.Set put (payloads.Add word) of_kind seen is = set_of_one spelled_total spelled_exact IsWord word is
-value_of_payload kinds.Map put (payloads.Field its_field number) of_kind seen is = (
+value_of_payload : (kind : Kind) (put : Put) (payload : Payload) → kind_of payload ≡ kind → IsPut put → IsPayload payload → IsValueOf kind (record put { payload = payload } ∷ []) (brought_by put payload)
+value_of_payload kinds.Max put (payloads.Max number) of_kind of_put is = greatest_of_one max_is_greater number
+value_of_payload kinds.Or put payloads.On of_kind of_put is = ((λ on. omega arith), (λ some. refl))
+value_of_payload kinds.Set put (payloads.Add word) of_kind of_put is = set_of_one spelled_total spelled_exact IsWord word is
+value_of_payload kinds.Map put (payloads.Field its_field number) of_kind of_put is = (
   record { ascending = refl; are_entries = All-cons (IsEntry IsWord (λ n. n < 2 ^ 64)) (its_field, number) [] is (All-nil (IsEntry IsWord (λ n. n < 2 ^ 64))) },
   λ field. field_of_one (eq_by_cmp word_cmp field its_field) number,
 )
-value_of_payload kinds.Last put (payloads.Last word) of_kind seen is = greatest_of_one stamp_is_greater (stamp_of put word)
-value_of_payload kinds.Versions put (payloads.Version word) of_kind seen is = kept_of_one (record { clock = put.seen; word = word }) (record { is_clock = seen; is_word = is })
-value_of_payload _ put _ of_kind seen is = absurd (cc)
+value_of_payload kinds.Last put (payloads.Last word) of_kind of_put is = greatest_of_one stamp_is_greater (stamp_of put word)
+value_of_payload kinds.Versions put (payloads.Version word) of_kind of_put is = kept_of_one (record { clock = put.seen; word = word }) (record { is_clock = of_put.seen_is; is_word = is })
+value_of_payload kinds.Counter put (payloads.Amount plus amount) of_kind of_put is = counter_of_one (dot_of put) (amounts_of plus amount) (record { session_fits = of_put.session_fits; number_fits = of_put.number_fits }) (amounts_fit plus amount is)
+value_of_payload kinds.OrSet put (payloads.Insert word) of_kind of_put is = orset_of_insert (record { word = word; dot = dot_of put }) (record { is_word = is; is_dot = record { session_fits = of_put.session_fits; number_fits = of_put.number_fits } }) of_put.number_some
+value_of_payload kinds.OrSet put (payloads.Remove word) of_kind of_put is = orset_of_remove word put.seen is of_put.seen_is
+value_of_payload _ put _ of_kind of_put is = absurd (cc)
 
 -- the value of one put
 pub value_of_one : (kind : Kind) (put : Put) → IsPutOf kind put → IsValueOf kind (put ∷ []) (value_of_put put)
-value_of_one kind put is = value_of_payload kind put put.payload is.of_kind is.is_put.seen_is is.is_put.payload_is
+value_of_one kind put is = value_of_payload kind put put.payload is.of_kind is.is_put is.is_put.payload_is
 
 -- the value of two lists of puts is the join of their values
 pub value_of_both : (kind : Kind) (xs ys : List Put) (a b : Value) → IsValueOf kind xs a → IsValueOf kind ys b → IsValueOf kind (xs ++ ys) (joined_values a b)
@@ -166,6 +189,12 @@ value_of_both kinds.Last xs ys (values.Last a) _ va vb = absurd vb
 value_of_both kinds.Versions xs ys (values.Versions a) (values.Versions b) va vb =
     subst (λ all. AreKept all (joined_versions a b)) (sym (filter_map-append version_in xs ys)) (kept_of_both (versions xs) (versions ys) a b va vb)
 value_of_both kinds.Versions xs ys (values.Versions a) _ va vb = absurd vb
+value_of_both kinds.Counter xs ys (values.Counter a) (values.Counter b) va vb =
+    subst (λ changes. IsCounterOf changes (joined_sums a b)) (λ i dot. sym (filter_map-append (change_in dot) xs ys) i) (counter_of_both (changes_at xs) (changes_at ys) a b va vb)
+value_of_both kinds.Counter xs ys (values.Counter a) _ va vb = absurd vb
+value_of_both kinds.OrSet xs ys (values.OrSet a) (values.OrSet b) va vb =
+    subst₂ (λ all seen. IsOrSetOf all seen (joined_dot_sets a b)) (sym (filter_map-append insert_in xs ys)) (λ i word. sym (filter_map-append (seen_in word) xs ys) i) (orset_of_both (inserts xs) (inserts ys) (seen_by_removes xs) (seen_by_removes ys) a b va vb)
+value_of_both kinds.OrSet xs ys (values.OrSet a) _ va vb = absurd vb
 value_of_both _ xs ys _ _ va vb = absurd va
 
 -- lists with the same members have the same value
@@ -176,6 +205,8 @@ value_by_members kinds.Set xs ys (values.Set set) same is = set_of_by_members wo
 value_by_members kinds.Map xs ys (values.Map fields) same is = (is.0, λ field. greatest_by_members ◌≤◌ (numbers_at field xs) (numbers_at field ys) (find word_cmp field fields) (same_gathered (number_in_at field) xs ys same) (is.1 field))
 value_by_members kinds.Last xs ys (values.Last last) same is = greatest_by_members (λ a b. IsTrue (is_le (stamp_cmp a b))) (stamped xs) (stamped ys) (plain_of (λ word. word) last) (same_gathered stamped_in xs ys same) is
 value_by_members kinds.Versions xs ys (values.Versions kept) same is = kept_by_members (versions xs) (versions ys) kept (same_gathered version_in xs ys same) is
+value_by_members kinds.Counter xs ys (values.Counter sums) same is = (is.0, λ dot. amounts_by_members (changes_at xs dot) (changes_at ys dot) (find dot_cmp dot sums) (same_gathered (change_in dot) xs ys same) (is.1 dot))
+value_by_members kinds.OrSet xs ys (values.OrSet set) same is = orset_by_members (inserts xs) (inserts ys) (seen_by_removes xs) (seen_by_removes ys) set (same_gathered insert_in xs ys same) (λ word. same_gathered (seen_in word) xs ys same) is
 value_by_members _ xs ys _ same is = absurd is
 
 -- a list of puts has one value
@@ -194,4 +225,8 @@ value_is_single kinds.Last puts (values.Last a) (values.Last b) va vb = ap value
 value_is_single kinds.Last puts (values.Last a) _ va vb = absurd vb
 value_is_single kinds.Versions puts (values.Versions a) (values.Versions b) va vb = ap values.Versions (kept_is_single (versions puts) a b va vb)
 value_is_single kinds.Versions puts (values.Versions a) _ va vb = absurd vb
+value_is_single kinds.Counter puts (values.Counter a) (values.Counter b) va vb = ap values.Counter (counter_is_single (changes_at puts) a b va vb)
+value_is_single kinds.Counter puts (values.Counter a) _ va vb = absurd vb
+value_is_single kinds.OrSet puts (values.OrSet a) (values.OrSet b) va vb = ap values.OrSet (orset_is_single (inserts puts) (seen_by_removes puts) a b va vb)
+value_is_single kinds.OrSet puts (values.OrSet a) _ va vb = absurd vb
 value_is_single _ puts _ _ va vb = absurd va

@@ -9,12 +9,14 @@ use Rattle.version_antichain.specs.Version.{IsVersion, is_below}
 use Rattle.version_antichain.specs.VersionLaws.{below_order}
 use Rattle.version_antichain.specs.declared.version.Version.{Version}
 use Rattle.composed_value.specs.Kind.{kind_of, kind_of_value}
-use Rattle.composed_value.specs.Put.{IsPayload, IsPut, brought_by, value_of_put}
+use Rattle.dot_lattices.specs.Amounts.{amounts_of}
+use Rattle.composed_value.proofs.DotValueLemmas.{amounts_fit, counter_of_none, counter_of_one, orset_of_none, orset_of_insert, orset_of_remove}
+use Rattle.composed_value.specs.Put.{IsPayload, IsPut, brought_by, dot_of, value_of_put}
 use Rattle.composed_value.specs.Value.{IsValue, empty_value}
 use Rattle.composed_value.specs.declared.kind.Kind.{Kind}
 use Rattle.composed_value.specs.declared.kind.Kind.TheVariants as kinds
 use Rattle.composed_value.specs.declared.payload.Payload.{Payload}
-use Rattle.composed_value.specs.declared.payload.Payload.TheVariants.{Max, On, Add, Field, Last, Version as VersionOf}
+use Rattle.composed_value.specs.declared.payload.Payload.TheVariants.{Max, On, Add, Field, Last, Version as VersionOf, Amount, Insert, Remove}
 use Rattle.composed_value.specs.declared.put.Put.{Put}
 
 pub empty_is_value : (kind : Kind) → IsValue (empty_value kind)
@@ -23,6 +25,8 @@ empty_is_value kinds.Or = tt
 empty_is_value kinds.Set = record { ascending = refl; are_members = All-nil IsWord }
 empty_is_value kinds.Map = record { ascending = refl; are_entries = All-nil (IsEntry IsWord (λ number. number < 2 ^ 64)) }
 empty_is_value kinds.Last = tt
+empty_is_value kinds.Counter = counter_of_none.0
+empty_is_value kinds.OrSet = orset_of_none.is_set
 empty_is_value kinds.Versions = record { is_set = record { ascending = refl; are_members = All-nil IsVersion }; none_below = All-nil (λ version. list_any (is_below version) [] ≡ false) }
 
 -- the value that a put brings
@@ -38,6 +42,9 @@ brought_is_value put (VersionOf word) is of_payload =
       is_set = record { ascending = refl; are_members = All-cons IsVersion version [] (record { is_clock = is.seen_is; is_word = of_payload }) (All-nil IsVersion) };
       none_below = All-cons (λ x. list_any (is_below x) (version ∷ []) ≡ false) version [] (ap (λ t. t || false) (below_order.not_itself version)) (All-nil (λ x. list_any (is_below x) (version ∷ []) ≡ false));
     }
+brought_is_value put (Amount plus amount) is of_payload = (counter_of_one (dot_of put) (amounts_of plus amount) (record { session_fits = is.session_fits; number_fits = is.number_fits }) (amounts_fit plus amount of_payload)).0
+brought_is_value put (Insert word) is of_payload = (orset_of_insert (record { word = word; dot = dot_of put }) (record { is_word = of_payload; is_dot = record { session_fits = is.session_fits; number_fits = is.number_fits } }) is.number_some).is_set
+brought_is_value put (Remove word) is of_payload = (orset_of_remove word put.seen of_payload is.seen_is).is_set
 
 -- the value of no put is of its kind
 pub empty_has_kind : (kind : Kind) → kind_of_value (empty_value kind) ≡ kind
@@ -47,6 +54,8 @@ empty_has_kind kinds.Set = refl
 empty_has_kind kinds.Map = refl
 empty_has_kind kinds.Last = refl
 empty_has_kind kinds.Versions = refl
+empty_has_kind kinds.Counter = refl
+empty_has_kind kinds.OrSet = refl
 
 -- and that of one put is of its payload's
 brought_has_kind : (put : Put) (payload : Payload) → kind_of_value (brought_by put payload) ≡ kind_of payload
@@ -56,6 +65,9 @@ brought_has_kind put (Add word) = refl
 brought_has_kind put (Field field number) = refl
 brought_has_kind put (Last word) = refl
 brought_has_kind put (VersionOf word) = refl
+brought_has_kind put (Amount plus amount) = refl
+brought_has_kind put (Insert word) = refl
+brought_has_kind put (Remove word) = refl
 
 pub put_has_kind : (put : Put) → kind_of_value (value_of_put put) ≡ kind_of put.payload
 put_has_kind put = brought_has_kind put put.payload

@@ -8,9 +8,9 @@ use Rattle.std.specs.Cmp.{both_ways}
 use Rattle.lattice_laws.proofs.GreatestOfListsLemmas.{in_one}
 use Rattle.lattice_laws.specs.Joins.{SameMembers}
 use Rattle.lattice_laws.specs.Sets.{IsSet, has, united}
-use Rattle.lattice_laws.specs.SetsLaws.{set_laws, same_sets}
+use Rattle.lattice_laws.specs.SetsLaws.{set_laws, same_sets, has-filter, list_any-from_has, has-from_list_any}
 use Rattle.version_antichain.specs.Antichain.{maximal}
-use Rattle.version_antichain.specs.AntichainLaws.{has-filter, list_any-from_has, has-from_list_any, maximal_is_set, maximal_of_maximal}
+use Rattle.version_antichain.specs.AntichainLaws.{maximal_is_set, maximal_of_maximal}
 use Rattle.version_antichain.specs.Version.{IsVersion, version_cmp, is_below}
 use Rattle.version_antichain.specs.VersionLaws.{version_total, version_exact, below_order}
 use Rattle.version_antichain.specs.Versions.{IsVersions, joined_versions}

@@ -14,6 +14,9 @@ kind_of (payloads.Add word) = kinds.Set
 kind_of (payloads.Field field number) = kinds.Map
 kind_of (payloads.Last word) = kinds.Last
 kind_of (payloads.Version word) = kinds.Versions
+kind_of (payloads.Amount plus amount) = kinds.Counter
+kind_of (payloads.Insert word) = kinds.OrSet
+kind_of (payloads.Remove word) = kinds.OrSet
 
 -- the kind of the keys that have the value
 abbrev pub kind_of_value : Value → Kind
@@ -23,3 +26,5 @@ kind_of_value (values.Set words) = kinds.Set
 kind_of_value (values.Map fields) = kinds.Map
 kind_of_value (values.Last last) = kinds.Last
 kind_of_value (values.Versions versions) = kinds.Versions
+kind_of_value (values.Counter sums) = kinds.Counter
+kind_of_value (values.OrSet set) = kinds.OrSet

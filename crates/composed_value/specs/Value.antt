@@ -8,10 +8,12 @@ use Rattle.basic_lattices.specs.Stamped.{stamp_cmp, IsStamped}
 use Rattle.basic_lattices.specs.TextSet.{IsTextSet, united}
 use Rattle.basic_lattices.specs.Word.{IsWord, word_cmp}
 use Rattle.version_antichain.specs.Versions.{IsVersions, joined_versions}
+use Rattle.dot_lattices.specs.DotSet.{IsDotSet, joined_dot_sets, no_inserts}
+use Rattle.dot_lattices.specs.DotSums.{IsDotSums, joined_sums}
 use Rattle.composed_value.specs.declared.kind.Kind.{Kind}
 use Rattle.composed_value.specs.declared.kind.Kind.TheVariants as kinds
 use Rattle.composed_value.specs.declared.value.Value.{Value}
-use Rattle.composed_value.specs.declared.value.Value.TheVariants.{Max, Or, Set, Map, Last, Versions}
+use Rattle.composed_value.specs.declared.value.Value.TheVariants.{Max, Or, Set, Map, Last, Versions, Counter, OrSet}
 
 -- nothing yet, or a value that there can be
 abbrev pub IsBottomOr : {P : Type 0} → (P → Type 0) → Maybe P → Type 0
@@ -40,6 +42,8 @@ IsValue (Set words) = IsTextSet words
 IsValue (Map fields) = IsFields fields
 IsValue (Last last) = IsBottomOr IsStamped last
 IsValue (Versions versions) = IsVersions versions
+IsValue (Counter sums) = IsDotSums sums
+IsValue (OrSet set) = IsDotSet set
 
 -- the value of no put
 abbrev pub empty_value : Kind → Value
@@ -49,6 +53,8 @@ empty_value kinds.Set = Set []
 empty_value kinds.Map = Map []
 empty_value kinds.Last = Last Bottom
 empty_value kinds.Versions = Versions []
+empty_value kinds.Counter = Counter []
+empty_value kinds.OrSet = OrSet no_inserts
 
 -- The join of two values of one kind. Values of two kinds are never joined.
 abbrev pub joined_values : Value → Value → Value
@@ -58,4 +64,6 @@ joined_values (Set a) (Set b) = Set (united a b)
 joined_values (Map a) (Map b) = Map (joined_fields a b)
 joined_values (Last a) (Last b) = Last (joined_found (ord_max stamp_cmp) a b)
 joined_values (Versions a) (Versions b) = Versions (joined_versions a b)
+joined_values (Counter a) (Counter b) = Counter (joined_sums a b)
+joined_values (OrSet a) (OrSet b) = OrSet (joined_dot_sets a b)
 joined_values a _ = a

@@ -18,10 +18,12 @@ use Rattle.basic_lattices.specs.TextSetLaws.{set_laws, set_associative}
 use Rattle.basic_lattices.specs.Word.{IsWord}
 use Rattle.lattice_laws.specs.SpellingLaws.{spelled_total, spelled_exact}
 use Rattle.version_antichain.specs.VersionsLaws.{versions_laws, versions_associative}
+use Rattle.dot_lattices.specs.DotSetLaws.{dot_set_laws, dot_set_associative}
+use Rattle.dot_lattices.specs.DotSumsLaws.{sums_laws, sums_associative}
 use Rattle.composed_value.specs.Kind.{kind_of_value}
 use Rattle.composed_value.specs.Value.{IsBottomOr, joined_found, IsFields, joined_fields, IsValue, joined_values}
 use Rattle.composed_value.specs.declared.value.Value.{Value}
-use Rattle.composed_value.specs.declared.value.Value.TheVariants.{Max, Or, Set, Map, Last, Versions}
+use Rattle.composed_value.specs.declared.value.Value.TheVariants.{Max, Or, Set, Map, Last, Versions, Counter, OrSet}
 
 -- the values are of one kind, by cases
 abbrev pub SameKind : Value → Value → Type 0
@@ -31,6 +33,8 @@ SameKind (Set a) (Set b) = ⊤
 SameKind (Map a) (Map b) = ⊤
 SameKind (Last a) (Last b) = ⊤
 SameKind (Versions a) (Versions b) = ⊤
+SameKind (Counter a) (Counter b) = ⊤
+SameKind (OrSet a) (OrSet b) = ⊤
 SameKind _ _ = ⊥
 
 pub same_kind : (a b : Value) → kind_of_value a ≡ kind_of_value b → SameKind a b
@@ -40,6 +44,8 @@ same_kind (Set a) (Set b) h = tt
 same_kind (Map a) (Map b) h = tt
 same_kind (Last a) (Last b) h = tt
 same_kind (Versions a) (Versions b) h = tt
+same_kind (Counter a) (Counter b) h = tt
+same_kind (OrSet a) (OrSet b) h = tt
 same_kind _ _ h = absurd (cc)
 
 -- what may be nothing yet, as an option
@@ -99,6 +105,8 @@ value_closed (Set a) (Set b) h va vb = ((set_laws.closed a b va vb tt).0, refl)
 value_closed (Map a) (Map b) h va vb = ((fields_laws.closed a b va vb tt).0, refl)
 value_closed (Last a) (Last b) h va vb = ((last_laws.closed a b va vb tt).0, refl)
 value_closed (Versions a) (Versions b) h va vb = ((versions_laws.closed a b va vb tt).0, refl)
+value_closed (Counter a) (Counter b) h va vb = ((sums_laws.closed a b va vb tt).0, refl)
+value_closed (OrSet a) (OrSet b) h va vb = ((dot_set_laws.closed a b va vb tt).0, refl)
 value_closed _ _ h va vb = absurd h
 
 value_commutes : (a b : Value) → SameKind a b → IsValue a → IsValue b → joined_values a b ≡ joined_values b a
@@ -108,6 +116,8 @@ value_commutes (Set a) (Set b) h va vb = ap Set (set_laws.commutative a b va vb 
 value_commutes (Map a) (Map b) h va vb = ap Map (fields_laws.commutative a b va vb tt)
 value_commutes (Last a) (Last b) h va vb = ap Last (last_laws.commutative a b va vb tt)
 value_commutes (Versions a) (Versions b) h va vb = ap Versions (versions_laws.commutative a b va vb tt)
+value_commutes (Counter a) (Counter b) h va vb = ap Counter (sums_laws.commutative a b va vb tt)
+value_commutes (OrSet a) (OrSet b) h va vb = ap OrSet (dot_set_laws.commutative a b va vb tt)
 value_commutes _ _ h va vb = absurd h
 
 value_itself : (a : Value) → IsValue a → joined_values a a ≡ a
@@ -117,6 +127,8 @@ value_itself (Set a) va = ap Set (set_laws.idempotent a va)
 value_itself (Map a) va = ap Map (fields_laws.idempotent a va)
 value_itself (Last a) va = ap Last (last_laws.idempotent a va)
 value_itself (Versions a) va = ap Versions (versions_laws.idempotent a va)
+value_itself (Counter a) va = ap Counter (sums_laws.idempotent a va)
+value_itself (OrSet a) va = ap OrSet (dot_set_laws.idempotent a va)
 
 value_regrouped : (a b c : Value) → SameKind a b → SameKind b c → IsValue a → IsValue b → IsValue c → joined_values (joined_values a b) c ≡ joined_values a (joined_values b c)
 value_regrouped (Max a) (Max b) (Max c) h i va vb vc = ap Max (found_associative (max_laws (λ number. number < 2 ^ 64)) (λ _ _. tt) (max_associative (λ number. number < 2 ^ 64)) a b c va vb vc tt tt)
@@ -131,6 +143,10 @@ value_regrouped (Last a) (Last b) (Last c) h i va vb vc = ap Last (found_associa
 value_regrouped (Last a) (Last b) _ h i va vb vc = absurd i
 value_regrouped (Versions a) (Versions b) (Versions c) h i va vb vc = ap Versions (versions_associative a b c va vb vc tt tt)
 value_regrouped (Versions a) (Versions b) _ h i va vb vc = absurd i
+value_regrouped (Counter a) (Counter b) (Counter c) h i va vb vc = ap Counter (sums_associative a b c va vb vc tt tt)
+value_regrouped (Counter a) (Counter b) _ h i va vb vc = absurd i
+value_regrouped (OrSet a) (OrSet b) (OrSet c) h i va vb vc = ap OrSet (dot_set_associative a b c va vb vc tt tt)
+value_regrouped (OrSet a) (OrSet b) _ h i va vb vc = absurd i
 value_regrouped _ _ _ h i va vb vc = absurd h
 
 -- values of one kind keep the laws

@@ -15,4 +15,8 @@ pub enum Kind {
     Last,
     /// A register; every word is kept that no other has seen.
     Versions,
+    /// A counter; amounts are added and taken, each put once.
+    Counter,
+    /// Words; those are there that no remove had seen.
+    OrSet,
 }

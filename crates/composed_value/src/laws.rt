@@ -1,5 +1,5 @@
 //! What cells hold, as laws: each function does nothing and carries its law as a clause.
-ghost use Rattle.composed_value.specs.Laws.{CellsHoldTheirPuts, CellsAreByMembers, CellsAreJoined, ValuesAreSingle, CellsAreSingle, JoinsAreSound, NextPutsAreSound};
+ghost use Rattle.composed_value.specs.Laws.{CellsHoldTheirPuts, CellsAreByMembers, CellsAreJoined, ValuesAreSingle, CellsAreSingle, JoinsAreSound, NextPutsAreSound, CountersAreSums, InsertsStayUnseen};
 
 /// The cell of a list of puts of one kind, the join of their one-put cells, is what the whole list
 /// says: its value is the plain value of the puts, its clock has for each session the greatest
@@ -23,4 +23,12 @@ pub fn cells_are_single()
 pub fn sound_cells_stay_sound()
     ensures join { JoinsAreSound }
     ensures next { NextPutsAreSound }
+{}
+
+/// The counter of puts with different dots, of which gossip may repeat each as often as it will, has
+/// the sum of all that they add less the sum of all that they take. An insert is in the set of the puts
+/// exactly where no remove of its word among them had seen it.
+pub fn counters_and_sets_say_their_puts()
+    ensures sums { CountersAreSums }
+    ensures inserts { InsertsStayUnseen }
 {}

@@ -10,6 +10,7 @@
 //! another: `specs/PlainValue.antt` has the plain value of a list of puts, kind by kind, and
 //! `specs/Sound.antt` when a cell is sound for the puts that were accepted. [`cells_hold_their_puts`],
 //! [`cells_are_single`] and [`sound_cells_stay_sound`] carry the laws that the layers above stand on;
+//! [`counters_and_sets_say_their_puts`] says of two kinds what a user can count on;
 //! `specs/Cell.antt` has the one word, `cell_of`, for the join of the one-put cells of a list.
 #![tactic(auto)]
 
@@ -22,7 +23,10 @@ mod value;
 
 pub use cell::Cell;
 pub use kind::Kind;
-pub use laws::{cells_are_single, cells_hold_their_puts, sound_cells_stay_sound};
+pub use laws::{
+    cells_are_single, cells_hold_their_puts, counters_and_sets_say_their_puts,
+    sound_cells_stay_sound,
+};
 pub use payload::Payload;
 pub use put::Put;
 pub use value::Value;

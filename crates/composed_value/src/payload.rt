@@ -22,6 +22,12 @@ pub enum Payload {
     Last(Word),
     /// A word of a key of kind versions.
     Version(Word),
+    /// An amount that is added to a key of kind counter, or where `plus` is false taken from it.
+    Amount { plus: bool, amount: u32 },
+    /// A word that is put into a key of kind orset.
+    Insert(Word),
+    /// A word that is taken out of it, as far as the session has seen it put in.
+    Remove(Word),
 }
 
 impl Payload {
@@ -36,6 +42,8 @@ impl Payload {
             Payload::Field(_, _) => Kind::Map,
             Payload::Last(_) => Kind::Last,
             Payload::Version(_) => Kind::Versions,
+            Payload::Amount { .. } => Kind::Counter,
+            Payload::Insert(_) | Payload::Remove(_) => Kind::OrSet,
         }
     }
 
@@ -55,6 +63,11 @@ impl Payload {
             }
             Payload::Last(word) => word.attest(),
             Payload::Version(word) => word.attest(),
+            Payload::Amount { amount, .. } => {
+                let _amount = *amount;
+            }
+            Payload::Insert(word) => word.attest(),
+            Payload::Remove(word) => word.attest(),
         }
     }
 
@@ -69,6 +82,12 @@ impl Payload {
             Payload::Field(field, number) => Payload::Field(field.copy()?, *number),
             Payload::Last(word) => Payload::Last(word.copy()?),
             Payload::Version(word) => Payload::Version(word.copy()?),
+            Payload::Amount { plus, amount } => Payload::Amount {
+                plus: *plus,
+                amount: *amount,
+            },
+            Payload::Insert(word) => Payload::Insert(word.copy()?),
+            Payload::Remove(word) => Payload::Remove(word.copy()?),
         })
     }
 }

@@ -19,7 +19,7 @@ pub struct Put {
     /// Its place, from 0, among the puts of one commit, which share a Lamport number.
     pub place: u32,
     /// The clock of the version that it writes: what its session had seen of the key, the put itself
-    /// included. Used by kind versions alone.
+    /// included. Used by kinds versions and orset alone.
     pub seen: Clock,
     /// Its causal dependencies: what a causal session that is shown the put must be shown of these keys
     /// from then on. Other sessions are not bound by them.

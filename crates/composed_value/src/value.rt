@@ -1,11 +1,12 @@
 //! The value of a cell, by the kind of its key.
-ghost use Rattle.std.specs.Prelude.{◌≡◌, IfOk};
+ghost use Rattle.std.specs.Prelude.{◌≡◌, ◌<◌, IfOk};
 ghost use Rattle.composed_value.specs.Kind.{kind_of_value};
 ghost use Rattle.composed_value.specs.Put.{value_of_put};
 ghost use Rattle.composed_value.specs.Value.{empty_value};
 
 use crate::{Kind, Payload, Put};
 use basic_lattices::{FieldMax, Flag, MapOf, MaxNum, Stamped, TextSet};
+use dot_lattices::{DotSet, DotSums};
 use lattice_laws::{Lattice, MapKey, Maybe, NoMemory};
 use std::alloc::Global;
 use version_antichain::Versions;
@@ -25,6 +26,10 @@ pub enum Value {
     Last(Maybe<Stamped>),
     /// The words put that no other has seen.
     Versions(Versions),
+    /// What was added and taken, put by put.
+    Counter(DotSums),
+    /// The words put in that no remove had seen, and what the removes had seen.
+    OrSet(DotSet),
 }
 
 impl Value {
@@ -39,11 +44,14 @@ impl Value {
             Kind::Map => Value::Map(MapOf::new(alloc)),
             Kind::Last => Value::Last(Maybe::Bottom),
             Kind::Versions => Value::Versions(Versions::new(alloc)),
+            Kind::Counter => Value::Counter(DotSums::new(alloc)),
+            Kind::OrSet => Value::OrSet(DotSet::new(alloc)),
         }
     }
 
     /// The value of one put.
     pub fn of_put(alloc: Global, put: &Put) -> Result<Value, NoMemory>
+        requires { 0 < put.now.number }
         ensures { IfOk result (λ value. value ≡ value_of_put put.now) }
     {
         match &put.payload {
@@ -64,6 +72,18 @@ impl Value {
                 let version = Versions::one(alloc, put.seen.copy()?, word.copy()?)?;
                 Ok(Value::Versions(version))
             }
+            Payload::Amount { plus, amount } => {
+                let sums = DotSums::one(alloc, put.session, put.number, *plus, *amount)?;
+                Ok(Value::Counter(sums))
+            }
+            Payload::Insert(word) => {
+                let set = DotSet::insert(alloc, word.copy()?, put.session, put.number)?;
+                Ok(Value::OrSet(set))
+            }
+            Payload::Remove(word) => {
+                let set = DotSet::remove(alloc, word.copy()?, put.seen.copy()?)?;
+                Ok(Value::OrSet(set))
+            }
         }
     }
 
@@ -78,6 +98,8 @@ impl Value {
             Value::Map(_) => Kind::Map,
             Value::Last(_) => Kind::Last,
             Value::Versions(_) => Kind::Versions,
+            Value::Counter(_) => Kind::Counter,
+            Value::OrSet(_) => Kind::OrSet,
         }
     }
 }
@@ -107,6 +129,8 @@ impl Lattice for Value {
             Value::Map(fields) => fields.attest(),
             Value::Last(last) => last.attest(),
             Value::Versions(versions) => versions.attest(),
+            Value::Counter(sums) => sums.attest(),
+            Value::OrSet(set) => set.attest(),
         }
     }
 
@@ -118,6 +142,8 @@ impl Lattice for Value {
             (Value::Map(mine), Value::Map(theirs)) => mine.join(theirs),
             (Value::Last(mine), Value::Last(theirs)) => mine.join(theirs),
             (Value::Versions(mine), Value::Versions(theirs)) => mine.join(theirs),
+            (Value::Counter(mine), Value::Counter(theirs)) => mine.join(theirs),
+            (Value::OrSet(mine), Value::OrSet(theirs)) => mine.join(theirs),
             _ => unreachable!(),
         }
     }
@@ -130,6 +156,8 @@ impl Lattice for Value {
             Value::Map(fields) => Ok(Value::Map(fields.copy()?)),
             Value::Last(last) => Ok(Value::Last(last.copy()?)),
             Value::Versions(versions) => Ok(Value::Versions(versions.copy()?)),
+            Value::Counter(sums) => Ok(Value::Counter(sums.copy()?)),
+            Value::OrSet(set) => Ok(Value::OrSet(set.copy()?)),
         }
     }
 
@@ -141,6 +169,8 @@ impl Lattice for Value {
             (Value::Map(mine), Value::Map(theirs)) => mine.at_most(theirs),
             (Value::Last(mine), Value::Last(theirs)) => mine.at_most(theirs),
             (Value::Versions(mine), Value::Versions(theirs)) => mine.at_most(theirs),
+            (Value::Counter(mine), Value::Counter(theirs)) => mine.at_most(theirs),
+            (Value::OrSet(mine), Value::OrSet(theirs)) => mine.at_most(theirs),
             _ => unreachable!(),
         }
     }

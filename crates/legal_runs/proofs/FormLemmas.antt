@@ -3,7 +3,6 @@ use Rattle.std.specs.Prelude.{◌≡◌, ℕ, ◌+◌, ◌-◌, ◌<◌, ◌≤�
 use Rattle.std.specs.List.{AllZip}
 use Rattle.std.proofs.Common.{◌∙◌, sym, ap, subst, arith}
 use Rattle.std.proofs.lemmas.Bool.{false≢true}
-use Rattle.std.proofs.lemmas.List.{length_push}
 use Rattle.std.proofs.lemmas.List.Elements.{All-head, All-tail}
 use Rattle.std.proofs.lemmas.List.Sums.{get_or-le-sum_by}
 use Rattle.lattice_laws.proofs.ListLemmas.{All-back, All-front}
@@ -13,6 +12,7 @@ use Rattle.composed_value.specs.Keyed.{kind_at, puts_on}
 use Rattle.composed_value.specs.Put.{IsPut}
 use Rattle.composed_value.specs.declared.payload.Payload.{Payload}
 use Rattle.composed_value.specs.declared.put.Put.{Put}
+use Rattle.session_known.proofs.AcceptedLemmas.{line_accepts}
 use Rattle.session_known.specs.Accepted.{accepted}
 use Rattle.session_known.specs.Form.{Fits, IsAgainIn, IsFinalIn}
 use Rattle.session_known.specs.Lawful.{AreLawful, IsLawful, IsLawfulAgain, IsLawfulCommit, lamport_of_commit}
@@ -28,7 +28,7 @@ use Rattle.session_known.specs.declared.script.Script.{Script}
 use Rattle.run_ledger.specs.Came.{final_of}
 use Rattle.run_ledger.specs.Causality.{AreCausal}
 use Rattle.legal_runs.proofs.AcceptedLemmas.{IsPutIn}
-use Rattle.legal_runs.proofs.CellsInFormLemmas.{shown_in, sound_final_in}
+use Rattle.legal_runs.proofs.CellsInFormLemmas.{AreFewOfKinds, shown_in, sound_final_in}
 use Rattle.legal_runs.proofs.JoinedSoundLemmas.{IsSoundOf}
 use Rattle.legal_runs.proofs.MadePutsLemmas.{All-made_by, AreOfSessions, accepted_of_sessions}
 use Rattle.legal_runs.proofs.NamedSessionsLemmas.{accepted_clock_in}
@@ -60,18 +60,6 @@ commit_fits client state puts lamport lawful few all = (
   λ none. lawful.lamport_is ∙ ap (lamport_of_commit state.knows) none,
 )
 
--- after a line at most one more put is held
-held_most : (client : Client) (state : State) (line : Line) (answer : Answer) → length (held_puts (after client state line answer)) ≤ length (held_puts state) + 1
-held_most client state (lines.Put key payload) (answers.Put number lamport) = omega arith
-held_most client state (lines.Put key payload) answers.Held = omega (arith, length_push (held_puts state) (key, payload))
-held_most client state lines.Begin answers.Begun = omega arith
-held_most client state lines.Commit (answers.Committed committed lamport) = omega arith
-held_most client state lines.Commit answers.Worn = omega arith
-held_most client state lines.Abort (answers.Aborted aborted) = omega arith
-held_most client state (lines.Get key named) (answers.Got worker shown) = omega arith
-held_most client state (lines.Await key session count) (answers.Got worker shown) = omega arith
-held_most client state line answer = omega arith
-
 -- only a committed session has begun a transaction
 abbrev BeginsWhereCommitted : Client → State → Type 0
 BeginsWhereCommitted client state = IsSome state.held → client.level ≡ Committed
@@ -91,7 +79,7 @@ begins_after script table client state earlier (lines.Await key session count) (
 begins_after script table client state earlier line answer stands lawful begins = begins
 
 module _ (script : Script) (table : List (List ℕ)) (valid : IsValidScript script table) (puts : List (ℕ × Put)) (known : AreOfSessions script puts)
-    (seen : All (HasSeen script) puts) (causal : AreCausal puts) (client : Client) (some : 1 ≤ client.session)
+    (seen : All (HasSeen script) puts) (of_kinds : AreFewOfKinds script puts) (causal : AreCausal puts) (client : Client) (some : 1 ≤ client.session)
   where
     -- a lawful end of asking fits
     again_fits : (state : State) (earlier : List (Line × Answer)) (line : Line) (key asks worker : ℕ) (clock : List (ℕ × ℕ))
@@ -115,12 +103,12 @@ module _ (script : Script) (table : List (List ℕ)) (valid : IsValidScript scri
     line_fits state earlier (lines.Put key payload) answers.Worn lawful stands shows all begins few = tt
     line_fits state earlier (lines.Put key payload) answers.Held lawful stands shows all begins few = begins lawful
     line_fits state earlier (lines.Get key named) (answers.Got worker shown) lawful stands shows all begins few =
-        shown_in script puts known seen causal client.level key worker shown
+        shown_in script puts known seen of_kinds causal client.level key worker shown
         (replier_is_worker script table valid client.level client.session key named worker stands.0 some stands.1 lawful.worker_is) shows
     line_fits state earlier (lines.Get key named) (answers.Again asks worker clock) lawful stands shows all begins few =
         again_fits state earlier (lines.Get key named) key asks worker clock lawful stands.0 shows
     line_fits state earlier (lines.Await key session count) (answers.Got worker shown) lawful stands shows all begins few =
-        shown_in script puts known seen causal client.level key worker shown
+        shown_in script puts known seen of_kinds causal client.level key worker shown
         (replier_is_worker script table valid client.level client.session key None worker stands.0 some tt lawful.worker_is) shows
     line_fits state earlier (lines.Await key session count) (answers.Again asks worker clock) lawful stands shows all begins few =
         again_fits state earlier (lines.Await key session count) key asks worker clock lawful stands.0 shows
@@ -145,7 +133,7 @@ module _ (script : Script) (table : List (List ℕ)) (valid : IsValidScript scri
         let stands : MayStand script table client.level line = All-head may line lines stand in (
           line_fits state earlier line answer lawful.0 stands show.0 (All-front HoldsPut its later all) begins (omega (arith, few)),
           lines_fit reached (earlier ++ (line, answer) ∷ []) lines answers lawful.1 (All-tail may line lines stand) show.1 (All-back HoldsPut its later all)
-              (begins_after script table client state earlier line answer stands lawful.0 begins) (omega (arith, few, held_most client state line answer)),
+              (begins_after script table client state earlier line answer stands lawful.0 begins) (omega (arith, few, line_accepts client state line answer)),
         )
     lines_fit state earlier [] (answer ∷ answers) lawful stand show all begins few = absurd lawful
     lines_fit state earlier (line ∷ lines) [] lawful stand show all begins few = absurd lawful
@@ -157,23 +145,23 @@ known_of script table report are puts_in = λ k d low. ((puts_in k d low).0, acc
 
 -- The lawful answers of each session fit its lines.
 pub answers_fit : (script : Script) (table : List (List ℕ)) (report : Report) → IsValidScript script table → AreSessions script table report
-    → AllShowSound script report → All (IsPutIn script) (accepted script report) → AreCausal (accepted script report)
+    → AllShowSound script report → All (IsPutIn script) (accepted script report) → AreFewOfKinds script (accepted script report) → AreCausal (accepted script report)
     → (session : ℕ) → IsSession script session
     → AreLawful table (client_at script session) start [] (lines_at script session) (answers_at report session)
     → AllZip (Fits script (plan_at script session).level) (lines_at script session) (answers_at report session)
-answers_fit script table report valid are show puts_in causal session within lawful =
+answers_fit script table report valid are show puts_in of_kinds causal session within lawful =
     let all : List (ℕ × Put) = accepted script report in
     let known : AreOfSessions script all = known_of script table report are puts_in in
     let puts_are = All-made_by script table report are HoldsPut (λ k d low. (puts_in k d low).1.is_put) session within in
     let few = get_or-le-sum_by (λ plan. length plan.lines) script.sessions (session - 1) no_plan (omega (arith, within.0, within.1)) in
-    lines_fit script table valid all known (accepted_have_seen script table report are show known causal) causal (client_at script session) within.0
+    lines_fit script table valid all known (accepted_have_seen script table report are show known causal) of_kinds causal (client_at script session) within.0
     start [] (lines_at script session) (answers_at report session) lawful (session_is_valid script table session valid within).lines (show session within)
     puts_are (λ begun. absurd (false≢true begun)) (omega (arith, few, valid.few_lines))
 
 -- And final cells of sound cells are in form.
 pub final_fits : (script : Script) (table : List (List ℕ)) (report : Report) → AreSessions script table report → All (IsPutIn script) (accepted script report)
-    → AllShowSound script report → AreCausal (accepted script report) → (key worker : ℕ) (cells : KeyCells)
+    → AreFewOfKinds script (accepted script report) → AllShowSound script report → AreCausal (accepted script report) → (key worker : ℕ) (cells : KeyCells)
     → IsSoundOf (kind_at script.kinds key) (puts_on key (accepted script report)) cells.whole → IsFinalIn script (final_of key worker cells)
-final_fits script table report are puts_in show causal key worker cells sound =
+final_fits script table report are puts_in of_kinds show causal key worker cells sound =
     let known : AreOfSessions script (accepted script report) = known_of script table report are puts_in in
-    sound_final_in script (accepted script report) known (accepted_have_seen script table report are show known causal) key worker cells sound
+    sound_final_in script (accepted script report) known (accepted_have_seen script table report are show known causal) of_kinds key worker cells sound

@@ -5,6 +5,7 @@ use Rattle.std.proofs.Common.{subst, arith}
 use Rattle.std.proofs.lemmas.List.Elements.{All-weaker}
 use Rattle.composed_value.specs.Put.{IsPut}
 use Rattle.placement.specs.Config.{IsOneOf}
+use Rattle.session_known.proofs.AcceptedLemmas.{few_accepted}
 use Rattle.session_known.specs.Accepted.{accepted, client_of}
 use Rattle.session_known.specs.Form.{Fits, IsFinalIn}
 use Rattle.session_known.specs.Lawful.{AreLawful, IsTrueOf}
@@ -21,9 +22,10 @@ use Rattle.run_ledger.specs.Came.{Came, IsSettled}
 use Rattle.run_ledger.specs.Causality.{AreCausal}
 use Rattle.legal_runs.specs.Laws.{IsLegalAndCausal}
 use Rattle.run_ledger.specs.Ledger.{Ledger}
-use Rattle.legal_runs.proofs.AcceptedLemmas.{IsPutIn, are, puts_are_in}
+use Rattle.legal_runs.proofs.AcceptedLemmas.{IsPutIn, are, are_accepted, puts_are_in}
 use Rattle.legal_runs.proofs.CausalityLemmas.{are_causal}
 use Rattle.legal_runs.proofs.FinalsLemmas.{finals_lawful, finals_of_sound}
+use Rattle.legal_runs.proofs.CellsInFormLemmas.{AreFewOfKinds}
 use Rattle.legal_runs.proofs.FormLemmas.{answers_fit, final_fits}
 use Rattle.legal_runs.proofs.LawfulLemmas.{session_lawful, session_shows, session_true}
 use Rattle.legal_runs.proofs.SessionsLemmas.{AreSessions, IsSession, answers_at, as_many_answers, client_at, lines_at, no_plan, plan_at}
@@ -87,6 +89,9 @@ module _ (script : Script) (table : List (List ℕ)) (report : Report) (ledger :
   puts_in : All (IsPutIn script) (accepted script report)
   puts_in = puts_are_in script table report ledger valid came
 
+  of_kinds : AreFewOfKinds script (accepted script report)
+  of_kinds = record { of_kinds = λ key. (are_accepted script table report ledger valid came key).of_kind; few = few_accepted script table report valid }
+
   causal : AreCausal (accepted script report)
   causal = are_causal script table report valid sessions shows
       (All-weaker (IsPutIn script) (λ entry. IsOneOf (length script.config.keys) entry.0 × IsPut entry.1) (λ entry is. (is.0, is.1.is_put)) (accepted script report) puts_in)
@@ -97,9 +102,9 @@ module _ (script : Script) (table : List (List ℕ)) (report : Report) (ledger :
     legal = record {
       form = record {
         answers = each_session (λ level. Fits script level) (λ session within.
-            answers_fit script table report valid sessions shows puts_in causal session within (session_lawful script table report ledger valid came session within));
+            answers_fit script table report valid sessions shows puts_in of_kinds causal session within (session_lawful script table report ledger valid came session within));
         places = came.places;
-        finals = finals_of_sound script table report ledger valid came (IsFinalIn script) (final_fits script table report sessions puts_in shows causal);
+        finals = finals_of_sound script table report ledger valid came (IsFinalIn script) (final_fits script table report sessions puts_in of_kinds shows causal);
       };
       answers = all_lawful;
       true_of_puts = each_session (λ level. IsTrueOf script.kinds (accepted script report)) (λ session within. session_true script table report ledger valid came session within);

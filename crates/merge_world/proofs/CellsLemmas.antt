@@ -21,7 +21,7 @@ use Rattle.composed_value.proofs.CellOfLemmas.{cell_of_none, cell_of_one, empty_
 use Rattle.composed_value.proofs.PlainValueLemmas.{value_has_kind, value_is_single}
 use Rattle.composed_value.proofs.SoundLemmas.{sound_join, sound_next}
 use Rattle.composed_value.specs.declared.kind.Kind.{Kind}
-use Rattle.composed_value.specs.declared.kind.Kind.TheVariants.{Max, Or, Set, Map, Last, Versions}
+use Rattle.composed_value.specs.declared.kind.Kind.TheVariants.{Max, Or, Set, Map, Last, Versions, Counter, OrSet}
 use Rattle.composed_value.specs.declared.put.Put.{Put}
 use Rattle.merge_world.specs.Effects.{is_kind, merged}
 use Rattle.merge_world.proofs.AcceptedLemmas.{put_of_it, put_of_other}
@@ -43,6 +43,8 @@ kind_tells Set Set is = refl
 kind_tells Map Map is = refl
 kind_tells Last Last is = refl
 kind_tells Versions Versions is = refl
+kind_tells Counter Counter is = refl
+kind_tells OrSet OrSet is = refl
 kind_tells a b is = absurd (false≢true is)
 
 -- a kind is itself
@@ -53,6 +55,8 @@ kind_itself Set = refl
 kind_itself Map = refl
 kind_itself Last = refl
 kind_itself Versions = refl
+kind_itself Counter = refl
+kind_itself OrSet = refl
 
 -- a sound cell has the kind of its key
 pub kept_kind : (kind : Kind) (puts : List Put) (cell : PlainCell) → IsKept kind puts cell → kind_of_value cell.value ≡ kind

@@ -4,7 +4,7 @@ use Rattle.std.specs.List.{list_any}
 use Rattle.composed_value.specs.Cell.{PlainCell, empty_cell, joined_cells, one_put_cell}
 use Rattle.composed_value.specs.Kind.{kind_of_value}
 use Rattle.composed_value.specs.declared.kind.Kind.{Kind}
-use Rattle.composed_value.specs.declared.kind.Kind.TheVariants.{Max, Or, Set, Map, Last, Versions}
+use Rattle.composed_value.specs.declared.kind.Kind.TheVariants.{Max, Or, Set, Map, Last, Versions, Counter, OrSet}
 use Rattle.composed_value.specs.declared.put.Put.{Put}
 use Rattle.merge_world.specs.declared.private_map.KeyCells.{KeyCells}
 
@@ -16,6 +16,8 @@ is_kind Set Set = true
 is_kind Map Map = true
 is_kind Last Last = true
 is_kind Versions Versions = true
+is_kind Counter Counter = true
+is_kind OrSet OrSet = true
 is_kind _ _ = false
 
 -- the item of a number, counted from 1, changes

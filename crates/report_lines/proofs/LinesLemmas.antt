@@ -64,6 +64,8 @@ kind_passes kinds.Set = refl
 kind_passes kinds.Map = refl
 kind_passes kinds.Last = refl
 kind_passes kinds.Versions = refl
+kind_passes kinds.Counter = refl
+kind_passes kinds.OrSet = refl
 
 -- numbers are words
 numbers_pass : (numbers : List ℕ) → AreWords (map decimal numbers)

@@ -1,7 +1,7 @@
 -- Names and numbers are told from their text, and are made of the bytes that may stand in a name.
-use Rattle.std.specs.Prelude.{◌≡◌, ◌≢◌, ℕ, ◌-◌, ◌<◌, ◌≤◌, ◌/◌, ◌%◌, ◌==◌, true, false, List, [], ◌∷◌, map, length, slice_index_or, All, AllPairs}
+use Rattle.std.specs.Prelude.{◌≡◌, ◌≢◌, ℕ, ℤ, pos, negsuc, ◌-◌, ◌<◌, ◌≤◌, ◌/◌, ◌%◌, ◌==◌, true, false, List, [], ◌∷◌, map, length, slice_index_or, All, AllPairs}
 use Rattle.std.specs.Char.{is_ascii_digit}
-use Rattle.std.specs.Fmt.{decimal, digits, digits_onto, digit_glyph}
+use Rattle.std.specs.Fmt.{decimal, signed_decimal, digits, digits_onto, digit_glyph}
 use Rattle.std.specs.List.{list_all}
 use Rattle.std.proofs.Common.{zero, suc, refl, sym, ◌∙◌, inl, inr, arith}
 use Rattle.std.proofs.lemmas.Bool.{and_from, cases_order, cond_both, or_left}
@@ -10,6 +10,7 @@ use Rattle.std.proofs.lemmas.List.{get_or-map}
 use Rattle.std.proofs.lemmas.List.Elements.{All-head, All-tail}
 use Rattle.std.proofs.lemmas.List.Sums.{list_all-from_AllPass}
 use Rattle.lattice_laws.specs.Spelling.{is_spelling_byte}
+use Rattle.basic_lattices.specs.Word.{IsWord}
 use Rattle.placement.specs.Name.{IsName}
 use Rattle.placement.specs.Config.{IsOneOf}
 use Rattle.session_known.specs.Script.{IsValidScript, key_name, session_name}
@@ -23,6 +24,10 @@ Spelled text = Passes is_spelling_byte text
 -- they may stand in any word
 pub spelled_made : (marks text : List ℕ) → Spelled text → Passes (made_of marks) text
 spelled_made marks text spelled = passes_weaker is_spelling_byte (made_of marks) (λ b is. or_left (is_spelling_byte b) _ is) text spelled
+
+-- the bytes of a word may stand in a name
+pub word_spelled : (word : List ℕ) → IsWord word → Spelled word
+word_spelled word is = list_all-from_AllPass is_spelling_byte word is.allowed
 
 -- ---- numbers
 
@@ -49,6 +54,11 @@ digit_spells b is = grind (arith, nat_tests)
 -- so its bytes may stand in a name
 pub decimal_spelled : (n : ℕ) → Spelled (decimal n)
 decimal_spelled n = passes_weaker is_ascii_digit is_spelling_byte digit_spells (decimal n) (decimal_digits n)
+
+-- and so may those of a number that may be negative, since a minus may
+pub signed_spelled : (z : ℤ) → Spelled (signed_decimal z)
+signed_spelled (pos n) = decimal_spelled n
+signed_spelled (negsuc n) = decimal_spelled (suc n)
 
 -- ---- names
 

@@ -27,7 +27,7 @@ made_of marks b = is_spelling_byte b || list_any (λ mark. mark == b) marks
 
 -- the bytes that stand between names and numbers in words
 abbrev pub word_marks : List ℕ
-word_marks = codes ",:{}=/()|@"
+word_marks = codes ",:{}=/()|@+;"
 
 -- the bytes of words
 abbrev pub in_word : ℕ → Bool

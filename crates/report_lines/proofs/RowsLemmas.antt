@@ -1,5 +1,5 @@
 -- Items between commas, and items in braces, are told from their text.
-use Rattle.std.specs.Prelude.{◌≡◌, ℕ, true, List, [], ◌∷◌, ◌++◌, map, codes}
+use Rattle.std.specs.Prelude.{◌≡◌, ℕ, Bool, true, List, [], ◌∷◌, ◌++◌, map, codes}
 use Rattle.std.specs.List.{join_with_byte, list_all, AllByRecursion}
 use Rattle.std.proofs.Common.{refl, sym, ap, ◌∙◌}
 use Rattle.std.proofs.lemmas.Bool.{true≢false, false≢true, and_parts, and_from}
@@ -8,7 +8,7 @@ use Rattle.std.proofs.lemmas.List.Folds.{list_all-append}
 use Rattle.lattice_laws.specs.Spelling.{is_spelling_byte}
 use Rattle.report_lines.proofs.NamesLemmas.{Spelled}
 use Rattle.report_lines.proofs.RenderingLemmas.{Passes, Tells, made_of, both_pass, join_passes, join_tells}
-use Rattle.report_lines.specs.Text.{listed, braced}
+use Rattle.report_lines.specs.Text.{row_or, braced}
 
 -- what holds of each element holds of each image
 pub all_map : {X Y : Type 0} (P : X → Type 0) (Q : Y → Type 0) (f : X → Y) → ((x : X) → P x → Q (f x)) → (xs : List X) → AllByRecursion P xs → AllByRecursion Q (map f xs)
@@ -33,17 +33,25 @@ IsMarked {X} IsItem text = (x : X) → IsItem x → Spelled (text x) → ⊥
 pub row_marked : {X : Type 0} (IsItem : X → Type 0) (c : ℕ) (text : X → List ℕ) → IsMarked IsItem text → (x : X) (xs : List X) → IsItem x → Spelled (join_with_byte c (map text (x ∷ xs))) → ⊥
 row_marked IsItem c text marked x xs is all = marked x is (row_first c (text x) (map text xs) all)
 
--- the items of a list are told
-pub listed_tells : {X : Type 0} (IsItem : X → Type 0) (text : X → List ℕ) → Tells IsItem 44 text → IsMarked IsItem text → (a b : List X) → AllByRecursion IsItem a → AllByRecursion IsItem b → listed (map text a) ≡ listed (map text b) → a ≡ b
-listed_tells IsItem text tells marked [] [] all_a all_b same = refl
-listed_tells IsItem text tells marked [] (y ∷ ys) all_a all_b same = absurd (row_marked IsItem 44 text marked y ys all_b.0 (sym (ap (list_all is_spelling_byte) same)))
-listed_tells IsItem text tells marked (x ∷ xs) [] all_a all_b same = absurd (row_marked IsItem 44 text marked x xs all_a.0 (ap (list_all is_spelling_byte) same))
-listed_tells IsItem text tells marked (x ∷ xs) (y ∷ ys) all_a all_b same = join_tells IsItem 44 text tells x xs y ys all_a all_b same
+-- the items of a row are told, where what stands for none is spelled as a name
+pub row_tells : {X : Type 0} (IsItem : X → Type 0) (none : List ℕ) (c : ℕ) (text : X → List ℕ) → Spelled none → Tells IsItem c text → IsMarked IsItem text → (a b : List X) → AllByRecursion IsItem a → AllByRecursion IsItem b → row_or none c (map text a) ≡ row_or none c (map text b) → a ≡ b
+row_tells IsItem none c text spelled tells marked [] [] all_a all_b same = refl
+row_tells IsItem none c text spelled tells marked [] (y ∷ ys) all_a all_b same = absurd (row_marked IsItem c text marked y ys all_b.0 (sym (ap (list_all is_spelling_byte) same) ∙ spelled))
+row_tells IsItem none c text spelled tells marked (x ∷ xs) [] all_a all_b same = absurd (row_marked IsItem c text marked x xs all_a.0 (ap (list_all is_spelling_byte) same ∙ spelled))
+row_tells IsItem none c text spelled tells marked (x ∷ xs) (y ∷ ys) all_a all_b same = join_tells IsItem c text tells x xs y ys all_a all_b same
 
--- the bytes of a list
-pub listed_passes : (marks : List ℕ) → made_of marks 44 ≡ true → (items : List (List ℕ)) → AllByRecursion (Passes (made_of marks)) items → Passes (made_of marks) (listed items)
-listed_passes marks comma [] all = refl
-listed_passes marks comma (item ∷ items) all = join_passes (made_of marks) 44 comma (item ∷ items) all
+-- a row of which nothing stands for none
+row_is_join : (c : ℕ) (items : List (List ℕ)) → row_or [] c items ≡ join_with_byte c items
+row_is_join c [] = refl
+row_is_join c (item ∷ items) = refl
+
+pub joined_tells : {X : Type 0} (IsItem : X → Type 0) (c : ℕ) (text : X → List ℕ) → Tells IsItem c text → IsMarked IsItem text → (a b : List X) → AllByRecursion IsItem a → AllByRecursion IsItem b → join_with_byte c (map text a) ≡ join_with_byte c (map text b) → a ≡ b
+joined_tells IsItem c text tells marked a b all_a all_b same = row_tells IsItem [] c text refl tells marked a b all_a all_b (row_is_join c (map text a) ∙ same ∙ sym (row_is_join c (map text b)))
+
+-- the bytes of a row
+pub row_passes : (test : ℕ → Bool) (none : List ℕ) (c : ℕ) → test c ≡ true → Passes test none → (items : List (List ℕ)) → AllByRecursion (Passes test) items → Passes test (row_or none c items)
+row_passes test none c passes empty [] all = empty
+row_passes test none c passes empty (item ∷ items) all = join_passes test c passes (item ∷ items) all
 
 -- the items in braces are told
 pub braced_tells : {X : Type 0} (IsItem : X → Type 0) (text : X → List ℕ) → Tells IsItem 44 text → (a b : List X) → AllByRecursion IsItem a → AllByRecursion IsItem b → braced (map text a) ≡ braced (map text b) → a ≡ b

@@ -1,10 +1,14 @@
 -- The text of a report: lines, each a list of words, and one rendering of them to bytes.
 use Rattle.std.specs.Prelude.{◌≡◌, ℕ, ◌==◌, nat_le, if◌then◌else◌, List, [], ◌∷◌, ◌++◌, map, length, codes, Option, Some, None}
 use Rattle.std.specs.List.{join_with_byte, flat_map, range_with_len}
-use Rattle.std.specs.Fmt.{decimal}
+use Rattle.std.specs.Fmt.{decimal, signed_decimal}
 use Rattle.lattice_laws.specs.declared.maybe.Maybe.TheVariants.{Bottom, Is}
 use Rattle.basic_lattices.specs.declared.stamped.Stamped.{Stamped}
 use Rattle.version_antichain.specs.declared.version.Version.{Version}
+use Rattle.dot_lattices.specs.DotSums.{total_of}
+use Rattle.dot_lattices.specs.declared.amounts.Amounts.{Amounts}
+use Rattle.dot_lattices.specs.declared.dot.Dot.{Dot}
+use Rattle.dot_lattices.specs.declared.insert.Insert.{Insert}
 use Rattle.composed_value.specs.Keyed.{kind_at}
 use Rattle.composed_value.specs.declared.kind.Kind.{Kind}
 use Rattle.composed_value.specs.declared.kind.Kind.TheVariants as kinds
@@ -27,10 +31,14 @@ use Rattle.session_known.specs.declared.script.SessionPlan.{SessionPlan}
 
 -- ---- words
 
+-- items with a byte between each two, or another text where there is none
+abbrev pub row_or : List ℕ → ℕ → List (List ℕ) → List ℕ
+row_or none byte [] = none
+row_or none byte (item ∷ items) = join_with_byte byte (item ∷ items)
+
 -- a list between commas, or a dash where it is empty
 abbrev pub listed : List (List ℕ) → List ℕ
-listed [] = codes "-"
-listed (item ∷ items) = join_with_byte 44 (item ∷ items)
+listed items = row_or (codes "-") 44 items
 
 -- a list between commas in braces, or `none` where it is empty
 abbrev pub braced : List (List ℕ) → List ℕ
@@ -71,9 +79,13 @@ fields_text fields = join_with_byte 44 (map field_text fields)
 abbrev pub stamped_text : Script → Stamped → List ℕ
 stamped_text script stamped = stamped.word ++ (codes "/" ++ (decimal stamped.number ++ (codes "/" ++ (session_name script stamped.session ++ (codes "/" ++ decimal stamped.place)))))
 
+-- a word with a clock: `WORD(CLOCK)`
+abbrev pub clocked_text : Script → List ℕ → List (ℕ × ℕ) → List ℕ
+clocked_text script word clock = word ++ (codes "(" ++ (clock_word script clock ++ codes ")"))
+
 -- a version: `WORD(CLOCK)`
 abbrev pub version_text : Script → Version → List ℕ
-version_text script version = version.word ++ (codes "(" ++ (clock_word script version.clock ++ codes ")"))
+version_text script version = clocked_text script version.word version.clock
 
 -- versions between vertical bars
 abbrev pub each_version_text : Script → List Version → List ℕ
@@ -81,8 +93,41 @@ each_version_text script versions = join_with_byte 124 (map (version_text script
 
 -- the same, or `none` where there is none
 abbrev pub versions_word : Script → List Version → List ℕ
-versions_word script [] = codes "none"
-versions_word script (version ∷ versions) = each_version_text script (version ∷ versions)
+versions_word script versions = row_or (codes "none") 124 (map (version_text script) versions)
+
+-- a dot with what was added and taken there: `SESSION:NUMBER+ADDED-TAKEN`
+abbrev pub sum_text : Script → Dot × Amounts → List ℕ
+sum_text script entry = count_text script (entry.0.session, entry.0.number) ++ (codes "+" ++ (decimal entry.1.added ++ (codes "-" ++ decimal entry.1.taken)))
+
+-- the dots of a counter, between commas
+abbrev pub sums_text : Script → List (Dot × Amounts) → List ℕ
+sums_text script sums = join_with_byte 44 (map (sum_text script) sums)
+
+-- the total of a counter, and its dots in braces, or `none` where there is none
+abbrev pub counter_word : Script → List (Dot × Amounts) → List ℕ
+counter_word script [] = codes "none"
+counter_word script (entry ∷ sums) = signed_decimal (total_of (entry ∷ sums)) ++ braced (map (sum_text script) (entry ∷ sums))
+
+-- an insert: `WORD@SESSION:NUMBER`
+abbrev pub insert_text : Script → Insert → List ℕ
+insert_text script insert = insert.word ++ (codes "@" ++ count_text script (insert.dot.session, insert.dot.number))
+
+-- the inserts of a set, between commas
+abbrev pub inserts_text : Script → List Insert → List ℕ
+inserts_text script inserts = join_with_byte 44 (map (insert_text script) inserts)
+
+-- a removed word with what its removes had seen: `WORD(CLOCK)`
+abbrev pub removal_text : Script → List ℕ × List (ℕ × ℕ) → List ℕ
+removal_text script removal = clocked_text script removal.0 removal.1
+
+-- the removed words of a set, between commas
+abbrev pub removals_text : Script → List (List ℕ × List (ℕ × ℕ)) → List ℕ
+removals_text script removals = join_with_byte 44 (map (removal_text script) removals)
+
+-- the inserts and the removed words in braces, or `none` where there are neither
+abbrev pub or_set_word : Script → List Insert → List (List ℕ × List (ℕ × ℕ)) → List ℕ
+or_set_word script [] [] = codes "none"
+or_set_word script inserts removals = codes "{" ++ (inserts_text script inserts ++ (codes ";" ++ (removals_text script removals ++ codes "}")))
 
 abbrev pub value_word : Script → Value → List ℕ
 value_word script (values.Max Bottom) = codes "none"
@@ -93,6 +138,8 @@ value_word script (values.Map fields) = braced (map field_text fields)
 value_word script (values.Last Bottom) = codes "none"
 value_word script (values.Last (Is stamped)) = stamped_text script stamped
 value_word script (values.Versions versions) = versions_word script versions
+value_word script (values.Counter sums) = counter_word script sums
+value_word script (values.OrSet set) = or_set_word script set.inserts set.removals
 
 abbrev pub worker_word : ℕ → List ℕ
 worker_word worker = codes "@" ++ decimal worker
@@ -105,6 +152,8 @@ kind_word kinds.Set = codes "set"
 kind_word kinds.Map = codes "map"
 kind_word kinds.Last = codes "last"
 kind_word kinds.Versions = codes "versions"
+kind_word kinds.Counter = codes "counter"
+kind_word kinds.OrSet = codes "orset"
 
 abbrev pub level_word : Level → List ℕ
 level_word Eventual = codes "eventual"

@@ -15,5 +15,7 @@ pub fn kind_text(kind: Kind) -> &'static [u8]
         Kind::Map => b"map",
         Kind::Last => b"last",
         Kind::Versions => b"versions",
+        Kind::Counter => b"counter",
+        Kind::OrSet => b"orset",
     }
 }

@@ -9,7 +9,7 @@ use Rattle.composed_value.specs.Value.{empty_value}
 use Rattle.composed_value.specs.declared.kind.Kind.{Kind}
 use Rattle.composed_value.specs.declared.kind.Kind.TheVariants as kinds
 use Rattle.placement.specs.Name.{IsName}
-use Rattle.session_known.specs.Form.{IsClockIn, IsValueIn, ValueNamesSessions, NeedsFit, IsShownIn, Fits, IsFinalIn, HasForm, final_places}
+use Rattle.session_known.specs.Form.{IsClockIn, IsValueIn, HasFewDots, ValueNamesSessions, NeedsFit, IsShownIn, Fits, IsFinalIn, HasForm, final_places}
 use Rattle.composed_value.specs.Keyed.{kind_at}
 use Rattle.session_known.specs.declared.report.Answer.{Answer}
 use Rattle.session_known.specs.declared.report.Answer.TheVariants as answers
@@ -194,10 +194,17 @@ module _ (script : Script) where
   no_sessions kinds.Set = tt
   no_sessions kinds.Map = tt
   no_sessions kinds.Last = tt
+  no_sessions kinds.Counter = All-from_recursion _ [] tt
+  no_sessions kinds.OrSet = (All-from_recursion _ [] tt, All-from_recursion _ [] tt)
+
+  -- and no dots
+  no_dots : (kind : Kind) → HasFewDots (empty_value kind)
+  no_dots kinds.Counter = omega arith
+  no_dots kind = tt
 
   -- the value of no put
   no_value : (kind : Kind) → IsValueIn script kind (empty_value kind)
-  no_value kind = record { is_value = empty_is_value kind; of_kind = empty_has_kind kind; sessions = no_sessions kind }
+  no_value kind = record { is_value = empty_is_value kind; of_kind = empty_has_kind kind; sessions = no_sessions kind; few = no_dots kind }
 
   -- what a session of the level may be shown as needs
   abbrev no_needs : Level → Option (List (ℕ × List (ℕ × ℕ)))

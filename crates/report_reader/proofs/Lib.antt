@@ -6,6 +6,7 @@ pub mod ReadCellLemmas
 pub mod ReadCellLines
 pub mod ReadCellWords
 pub mod ReadClocks
+pub mod ReadDots
 pub mod ReadLineLemmas
 pub mod ReadPartLemmas
 pub mod ReadRows

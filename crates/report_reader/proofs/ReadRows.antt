@@ -1,21 +1,21 @@
 -- Rows of items with a byte between each two, read one item after another: what was read and what is left make up what is written.
 use Rattle.std.specs.Cmp.Derive.{both_true}
 use Rattle.std.specs.Prelude.{◌==◌, cond, not, IfOk, IsTrue}
-use Rattle.std.proofs.Common.{◌≡◌, ◌↔◌, ℕ, ◌+◌, ◌<◌, ◌≤◌, Bool, true, false, List, [], ◌∷◌, ◌++◌, map, drop, length, get_or, Option, None, Some, Result, Ok, Err, sym, ap, refl, subst, ◌∙◌, arith}
+use Rattle.std.proofs.Common.{◌≡◌, ◌↔◌, ℕ, ◌+◌, ◌-◌, ◌<◌, ◌≤◌, Bool, true, false, List, [], ◌∷◌, ◌++◌, map, take, drop, length, get_or, Option, None, Some, Result, Ok, Err, sym, ap, refl, subst, ◌∙◌, arith}
 use Rattle.std.specs.declared.cmp.Ordering.{Ordering}
 use Rattle.std.specs.FinMap.{is_sorted}
 use Rattle.std.specs.FinMap.Entries.{below_all}
 use Rattle.std.specs.List.{All, AllByRecursion, join_with_byte, list_all, list_any, onto_first, slice_split}
 use Rattle.std.proofs.lemmas.Bool.{both_ways, and_parts, and_from, or_parts, or_from}
 use Rattle.std.proofs.lemmas.Bool.Decides.{nat_tests}
-use Rattle.std.proofs.lemmas.List.{append-nil, append_assoc, drop_all, drop_more, get_or-map, length-append, length-map, map-append}
+use Rattle.std.proofs.lemmas.List.{append-nil, append_assoc, drop_all, drop_more, get_or-map, length-append, length-map, map-append, take_rest}
 use Rattle.std.proofs.lemmas.List.Elements.{All-from_recursion}
 use Rattle.std.proofs.lemmas.List.Splits.{join_with_byte-slice_split, length-slice_split}
 use Rattle.lattice_laws.specs.Entries.{IsEntry, IsMap, IsPushed}
 use Rattle.report_reader.specs.ReadRows.{IsRow}
 use Rattle.report_reader.specs.Reads.{Reads}
 use Rattle.lattice_laws.proofs.ListLemmas.{All-front}
-use Rattle.report_lines.proofs.RenderingLemmas.{Passes, Stops, Tells, cut_at, cut_once, not_passes}
+use Rattle.report_lines.proofs.RenderingLemmas.{Passes, Stops, Tells, cut_at, cut_once, join_tells, not_passes}
 use Rattle.report_lines.proofs.RowsLemmas.{both_all}
 
 -- ---- texts cut at a byte
@@ -83,7 +83,7 @@ row_begins c text [] = ([], tt, sym (append-nil text))
 row_begins c text (next ∷ texts) = (c ∷ join_with_byte c (next ∷ texts), refl, refl)
 
 -- a list in form that has an item is a row
-row_of : {X : Type 0} (InForm : List X → Type 0) (items : List X) → 0 < length items → InForm items → IsRow InForm items
+pub row_of : {X : Type 0} (InForm : List X → Type 0) (items : List X) → 0 < length items → InForm items → IsRow InForm items
 row_of InForm [] some is = absurd (omega arith)
 row_of InForm (item ∷ items) some is = is
 
@@ -98,6 +98,12 @@ pub record RowLaws {X : Type 0} (InForm : List X → Type 0) (IsItem : X → Typ
   pub items : (xs : List X) → InForm xs → AllByRecursion IsItem xs
   pub front : (xs ys : List X) → InForm (xs ++ ys) → InForm xs
   pub tells : Tells IsItem c text
+
+-- a row is told from its text
+pub row_told : {X : Type 0} {InForm : List X → Type 0} {IsItem : X → Type 0} {c : ℕ} {text : X → List ℕ} → RowLaws InForm IsItem c text → (a b : List X) → IsRow InForm a → IsRow InForm b → join_with_byte c (map text a) ≡ join_with_byte c (map text b) → a ≡ b
+row_told laws [] b is_a is_b same = absurd is_a
+row_told laws (x ∷ xs) [] is_a is_b same = absurd is_b
+row_told {IsItem = IsItem} {c = c} {text = text} laws (x ∷ xs) (y ∷ ys) is_a is_b same = join_tells IsItem c text laws.tells x xs y ys (laws.items (x ∷ xs) is_a) (laws.items (y ∷ ys) is_b) same
 
 -- The bytes are the texts of the items and what is left, in one text or more, with the byte between each two.
 pub record AreRead {X : Type 0} (IsItem : X → Type 0) (c : ℕ) (text : X → List ℕ) (bytes : List ℕ) (items : List X) (left : List (List ℕ)) : Type 0 where
@@ -172,6 +178,56 @@ module _ {X : Type 0} {IsItem : X → Type 0} {c : ℕ} {text : X → List ℕ} 
         let here : x ≡ item = sym (told item x is_item is_x (sym is ∙ next x later is_x stops same)) in
         fails.1 (weaker (items ++ item ∷ []) (subst (λ x. InForm (items ++ x ∷ [])) here form)))
 
+-- ---- rows whose items end with a byte of their own
+
+-- What such an item is: its text is what stands before the byte, in which that does not stand, and the byte.
+pub record ClosedLaws {X : Type 0} (IsItem : X → Type 0) (last : ℕ) (text opened : X → List ℕ) : Type 0 where
+  pub closed : (x : X) (later : List ℕ) → text x ++ later ≡ opened x ++ last ∷ later
+  pub lacks : (x : X) → IsItem x → Lacks last (opened x)
+
+module _ {X : Type 0} {InForm : List X → Type 0} {IsItem : X → Type 0} {c last : ℕ} {text opened : X → List ℕ} (laws : RowLaws InForm IsItem c text) (ends : ClosedLaws IsItem last text opened) where
+  -- an item is cut at the byte that ends it
+  close_cut : (x : X) (whole front rest later : List ℕ) → IsItem x → IsCut last whole front rest → whole ≡ text x ++ later → (front ≡ opened x) × (rest ≡ later)
+  close_cut x whole front rest later is cut same = same_cut last whole front rest (opened x) later cut (ends.lacks x is) (same ∙ ends.closed x later)
+
+  -- what is left begins with the item that ends with the first such byte
+  pub next_closed : (whole front rest : List ℕ) → IsCut last whole front rest → IsNext IsItem c text (whole ∷ []) opened front
+  next_closed whole front rest cut x later is stops same = (close_cut x whole front rest later is cut same).0
+
+  -- an item is told from what stands before the byte
+  pub opened_told : (a b : X) → IsItem a → IsItem b → opened a ≡ opened b → a ≡ b
+  opened_told a b is_a is_b same = (laws.tells a b [] [] is_a is_b tt tt (ends.closed a [] ∙ ap (λ text. text ++ last ∷ []) same ∙ sym (ends.closed b []))).0
+
+  module _ {bytes whole : List ℕ} {items : List X} (read : AreRead IsItem c text bytes items (whole ∷ [])) where
+    -- where no such byte is left, the bytes are those of no row
+    pub none_closed : Lacks last whole → IsNoRow InForm c text bytes
+    none_closed lacks = no_row laws read (λ x later form is stops same. no_cut last whole (opened x) later lacks (same ∙ ends.closed x later))
+
+    -- nor where something else stands after an item than what parts it from the next
+    pub none_parted : (front rest : List ℕ) → IsCut last whole front rest → (Stops c rest → ⊥) → IsNoRow InForm c text bytes
+    none_parted front rest cut other = no_row laws read (λ x later form is stops same. other (subst (Stops c) (sym (close_cut x whole front rest later is cut same).1) stops))
+
+    -- one item more was read, and this is left
+    pub closed_read : {new : List X} (front rest : List ℕ) (x : X) (left : List (List ℕ)) → IsCut last whole front rest → IsItem x × (front ≡ opened x) → join_with_byte c (text x ∷ left) ≡ text x ++ rest → new ≡ items ++ x ∷ [] → AreRead IsItem c text bytes new left
+    closed_read front rest x left cut is same pushed =
+        let all : whole ≡ text x ++ rest = cut.0 ∙ ap (λ front. front ++ last ∷ rest) is.1 ∙ sym (ends.closed x rest) in
+        one_read x left (left_again whole (text x) [] left read (all ∙ sym same)) is.0 pushed
+
+-- what stands after an item: nothing
+pub empty_below : (rest : List ℕ) → length rest < 1 → rest ≡ []
+empty_below [] short = refl
+empty_below (b ∷ rest) short = absurd (omega arith)
+
+-- this byte
+pub byte_first : (c : ℕ) (rest : List ℕ) → 1 ≤ length rest → get_or rest 0 0 ≡ c → rest ≡ c ∷ take (length rest - 1) (drop 1 rest)
+byte_first c [] some is = absurd (omega arith)
+byte_first c (b ∷ rest) some is = ap (λ b. b ∷ rest) is ∙ ap (λ rest. c ∷ rest) (sym (take_rest (b ∷ rest) 1))
+
+-- or another
+pub other_first : (c : ℕ) (rest : List ℕ) → 1 ≤ length rest → (get_or rest 0 0 ≡ c → ⊥) → Stops c rest → ⊥
+other_first c [] some other stops = absurd (omega arith)
+other_first c (b ∷ rest) some other stops = other stops
+
 -- ---- rows read by the pieces between the places of the byte
 
 -- a byte before pieces in which another does not stand
@@ -193,7 +249,7 @@ pub record PieceLaws {X : Type 0} (InForm : List X → Type 0) (IsItem : X → T
   pub told : (x y : X) → IsItem x → IsItem y → text x ≡ text y → x ≡ y
 
 -- such a row is read as any
-row_laws : {X : Type 0} {InForm : List X → Type 0} {IsItem : X → Type 0} {c : ℕ} {text : X → List ℕ} → PieceLaws InForm IsItem c text → RowLaws InForm IsItem c text
+pub row_laws : {X : Type 0} {InForm : List X → Type 0} {IsItem : X → Type 0} {c : ℕ} {text : X → List ℕ} → PieceLaws InForm IsItem c text → RowLaws InForm IsItem c text
 row_laws {c = c} {text = text} laws = record {
   items = laws.items;
   front = laws.front;

@@ -8,7 +8,6 @@ use Rattle.std.proofs.lemmas.Fmt.{decimal_injective}
 use Rattle.std.proofs.lemmas.List.{map-append}
 use Rattle.std.proofs.lemmas.List.Elements.{All-weaker, recursion_from_All}
 use Rattle.std.proofs.lemmas.List.Folds.{list_any-append}
-use Rattle.std.proofs.lemmas.List.Sums.{list_all-from_AllPass}
 use Rattle.lattice_laws.specs.Sets.{as_map, IsSet}
 use Rattle.lattice_laws.specs.Spelling.{is_spelling_byte}
 use Rattle.lattice_laws.proofs.ListLemmas.{All-front}
@@ -19,28 +18,19 @@ use Rattle.session_known.specs.Form.{NamesSessions}
 use Rattle.session_known.specs.declared.script.Script.{Script}
 use Rattle.version_antichain.specs.Antichain.{IsAntichain}
 use Rattle.version_antichain.specs.declared.version.Version.{Version}
-use Rattle.report_lines.specs.Parts.{IsCounted}
-use Rattle.report_lines.proofs.ClocksLemmas.{clock_counted, clock_passes, clock_told}
-use Rattle.report_lines.proofs.NamesLemmas.{Spelled, TellsNames, spelled_made, decimal_spelled}
+use Rattle.report_lines.specs.Parts.{IsClockedIn}
+use Rattle.report_lines.proofs.ClocksLemmas.{clocked_passes, clocked_told}
+use Rattle.report_lines.proofs.NamesLemmas.{TellsNames, spelled_made, word_spelled, decimal_spelled}
 use Rattle.report_reader.specs.ReadValues.{IsField, IsVersionIn, AreVersionsIn}
 use Rattle.report_lines.proofs.RenderingLemmas.{Passes, made_of, both_pass, cut_once}
-use Rattle.report_lines.specs.Text.{clock_word, field_text, version_text}
-use Rattle.report_reader.proofs.ReadRows.{Lacks, PieceLaws, lacks_failing, map_front, sorted_front}
-
--- ---- words
-
--- the bytes of a word may stand in a name
-word_spelled : (word : List ℕ) → IsWord word → Spelled word
-word_spelled word is = list_all-from_AllPass is_spelling_byte word is.allowed
-
--- and so another byte does not stand in it
-pub word_lacks : (c : ℕ) → is_spelling_byte c ≡ false → (word : List ℕ) → IsWord word → Lacks c word
-word_lacks c fails word is = lacks_failing is_spelling_byte c fails word (word_spelled word is)
+use Rattle.report_lines.specs.Text.{field_text, version_text}
+use Rattle.report_reader.proofs.ReadClocks.{word_lacks}
+use Rattle.report_reader.proofs.ReadRows.{PieceLaws, lacks_failing, map_front, sorted_front}
 
 -- ---- what comes first
 
 -- a set's first members are a set
-set_front : {K : Type 0} (cmp : K → K → Ordering) (is_member : K → Type 0) (xs ys : List K) → IsSet cmp is_member (xs ++ ys) → IsSet cmp is_member xs
+pub set_front : {K : Type 0} (cmp : K → K → Ordering) (is_member : K → Type 0) (xs ys : List K) → IsSet cmp is_member (xs ++ ys) → IsSet cmp is_member xs
 set_front {K} cmp is_member xs ys is = record {
   ascending = sorted_front cmp (as_map xs) (as_map ys) (ap (is_sorted cmp) (sym (map-append (λ (member : K). (member, tt)) xs ys)) ∙ is.ascending);
   are_members = All-front is_member xs ys is.are_members;
@@ -90,27 +80,16 @@ fields_row = record {
 
 -- ---- versions
 
+-- a version is a word with a clock
+pub version_clocked : (script : Script) (version : Version) → IsVersionIn script version → IsClockedIn script (version.word, version.clock)
+version_clocked script version is = (is.0.is_word, record { is_clock = is.0.is_clock; sessions = is.1 })
+
 module _ (script : Script) (names : TellsNames script) where
-  -- the entries of a version's clock
-  version_counted : (version : Version) → IsVersionIn script version → AllByRecursion (IsCounted script) version.clock
-  version_counted version is = clock_counted script version.clock (record { is_clock = is.0.is_clock; sessions = is.1 })
-
-  -- the bytes of a version
-  version_passes : (version : Version) → IsVersionIn script version → Passes (made_of (codes "(:,)")) (version_text script version)
-  version_passes version is =
-      let clock = clock_passes script names (codes "(:,)") refl refl version.clock (version_counted version is) in
-      both_pass (made_of (codes "(:,)")) version.word (codes "(" ++ (clock_word script version.clock ++ codes ")")) (spelled_made (codes "(:,)") version.word (word_spelled version.word is.0.is_word))
-      (both_pass (made_of (codes "(:,)")) (clock_word script version.clock) (codes ")") clock refl)
-
   -- a version is told from its text
   version_told : (a b : Version) → IsVersionIn script a → IsVersionIn script b → version_text script a ≡ version_text script b → a ≡ b
   version_told a b is_a is_b same =
-      let counted_a = version_counted a is_a in
-      let counted_b = version_counted b is_b in
-      let cut = cut_once is_spelling_byte 40 refl a.word b.word (clock_word script a.clock ++ codes ")") (clock_word script b.clock ++ codes ")") (word_spelled a.word is_a.0.is_word) (word_spelled b.word is_b.0.is_word) same in
-      let inner = cut_once (made_of (codes ":,")) 41 refl (clock_word script a.clock) (clock_word script b.clock) [] [] (clock_passes script names (codes ":,") refl refl a.clock counted_a) (clock_passes script names (codes ":,") refl refl b.clock counted_b) cut.1 in
-      let clock = clock_told script names a.clock b.clock counted_a counted_b inner.0 in
-      λ i. record { word = cut.0 i; clock = clock i }
+      let told = (clocked_told script names (a.word, a.clock) (b.word, b.clock) [] [] (version_clocked script a is_a) (version_clocked script b is_b) (ap (λ text. text ++ []) same)).0 in
+      λ i. record { word = (told i).0; clock = (told i).1 }
 
   -- each version in form is one
   versions_are : (versions : List Version) → AreVersionsIn script versions → AllByRecursion (IsVersionIn script) versions
@@ -120,7 +99,7 @@ module _ (script : Script) (names : TellsNames script) where
   pub versions_row : PieceLaws (AreVersionsIn script) (IsVersionIn script) 124 (version_text script)
   versions_row = record {
     items = versions_are;
-    whole = λ version is. lacks_failing (made_of (codes "(:,)")) 124 refl (version_text script version) (version_passes version is);
+    whole = λ version is. lacks_failing (made_of (codes "(:,)")) 124 refl (version_text script version) (clocked_passes script names (codes "(:,)") refl refl refl refl (version.word, version.clock) (version_clocked script version is));
     told = version_told;
     front = λ xs ys are. (antichain_front _ _ _ xs ys are.0, All-front (λ version. NamesSessions script version.clock) xs ys are.1);
   }

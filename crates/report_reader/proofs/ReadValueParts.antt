@@ -7,15 +7,13 @@ use Rattle.lattice_laws.specs.Entries.{IsPushed, plain_entries}
 use Rattle.lattice_laws.proofs.EntriesLemmas.{plain_itself}
 use Rattle.lattice_laws.specs.Spelling.{is_spelling_byte}
 use Rattle.basic_lattices.specs.declared.stamped.Stamped.{Stamped}
-use Rattle.session_known.specs.Form.{IsClockIn}
 use Rattle.session_known.specs.declared.script.Script.{Script}
-use Rattle.version_antichain.specs.declared.version.Version.{Version}
 use Rattle.report_lines.proofs.NamesLemmas.{TellsNames, decimal_spelled, session_spelled}
-use Rattle.report_reader.specs.ReadValues.{IsField, IsStampIn, stamp_text, IsStampedIn, IsVersionIn}
+use Rattle.report_reader.specs.ReadValues.{IsField, IsStampIn, stamp_text, IsStampedIn}
 use Rattle.session_known.specs.Script.{session_name}
-use Rattle.report_lines.specs.Text.{clock_word, field_text, stamped_text, version_text}
+use Rattle.report_lines.specs.Text.{field_text, stamped_text}
 use Rattle.report_reader.proofs.ReadRows.{IsCut, lacks_failing, same_cut}
-use Rattle.report_reader.proofs.ReadValueForms.{word_lacks}
+use Rattle.report_reader.proofs.ReadClocks.{word_lacks}
 
 -- what a test that fails says
 pub not_said : (P : Type 0) (test : Bool) → (IsTrue test ↔ P) → test ≡ false → P → ⊥
@@ -51,18 +49,6 @@ stamp_parts script text front rest stamp cut same = same_cut 47 text front rest 
 pub stamp_ends : (script : Script) → TellsNames script → (text front rest session place : List ℕ) (stamp : ℕ × ℕ × ℕ) → IsCut 47 text front rest → IsCut 47 rest session place → text ≡ stamp_text script stamp → (session ≡ session_name script stamp.1) × (place ≡ decimal stamp.2)
 stamp_ends script names text front rest session place stamp cut again same =
     same_cut 47 rest session place (session_name script stamp.1) (decimal stamp.2) again (lacks_failing _ 47 refl (session_name script stamp.1) (session_spelled script names stamp.1)) (stamp_parts script text front rest stamp cut same).1
-
--- ---- versions
-
--- the parts of a version
-pub version_parts : (script : Script) (text front rest : List ℕ) (version : Version) → IsCut 40 text front rest → IsVersionIn script version → text ≡ version_text script version → (front ≡ version.word) × (rest ≡ clock_word script version.clock ++ codes ")")
-version_parts script text front rest version cut is same = same_cut 40 text front rest version.word _ cut (word_lacks 40 refl version.word is.0.is_word) same
-
--- where what is before the parenthesis is no clock, the text is no version
-pub no_clock : (script : Script) (text front rest clock : List ℕ) → IsCut 40 text front rest → rest ≡ clock ++ codes ")" → ((x : List (ℕ × ℕ)) → IsClockIn script x → clock ≡ clock_word script x → ⊥) → (version : Version) → IsVersionIn script version → text ≡ version_text script version → ⊥
-no_clock script text front rest clock cut closed none version is same =
-    none version.clock (record { is_clock = is.0.is_clock; sessions = is.1 })
-    (append_cancel_right clock (clock_word script version.clock) (codes ")") (sym closed ∙ (version_parts script text front rest version cut is same).1))
 
 -- ---- items in braces
 

@@ -21,7 +21,10 @@ FindsPart written text found = MatchOption found ((part : List ℕ) → text ≡
 abbrev pub with_braces : List ℕ → List ℕ
 with_braces inner = codes "{" ++ (inner ++ codes "}")
 
--- a text before a closing parenthesis
+-- a text before a closing brace, and before a closing parenthesis
+abbrev pub with_brace : List ℕ → List ℕ
+with_brace inner = inner ++ codes "}"
+
 abbrev pub with_parenthesis : List ℕ → List ℕ
 with_parenthesis inner = inner ++ codes ")"
 

@@ -1,9 +1,10 @@
-pub use Rattle.report_lines.specs.Text
 pub mod Cuts
 pub mod ReadAnswers
 pub mod ReadCells
+pub mod ReadClocks
+pub mod ReadDots
 pub mod ReadLines
-pub mod ReadNeeds
 pub mod ReadRows
 pub mod ReadValues
 pub mod Reads
+pub use Rattle.report_lines.specs.Text

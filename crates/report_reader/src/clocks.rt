@@ -2,13 +2,14 @@
 ghost use Rattle.std.specs.Prelude.{IfOk};
 ghost use Rattle.session_known.specs.Form.{IsClockIn, AreNeedsIn};
 ghost use Rattle.session_known.specs.Script.{IsValid};
-ghost use Rattle.report_lines.specs.Parts.{IsCounted};
-ghost use Rattle.report_reader.specs.ReadNeeds.{IsNeedIn, open_text};
+ghost use Rattle.report_lines.specs.Parts.{IsClockedIn, IsCounted};
+ghost use Rattle.report_reader.specs.ReadClocks.{open_clocked, IsNeedIn, open_need};
 ghost use Rattle.report_reader.specs.ReadRows.{IsRow};
 ghost use Rattle.report_reader.specs.Reads.{Reads};
 ghost use Rattle.report_lines.specs.Text.{count_text, counts_text, clock_word, each_need_text, needs_word};
 
-use crate::words::{cut_at, pieces_of, read_key, read_number, read_session};
+use crate::words::{cut_at, pieces_of, read_key, read_number, read_session, read_word};
+use basic_lattices::Word;
 use clock_lattice::{Clock, Needs};
 use lattice_laws::{Lattice, NoMemory};
 use session_known::Script;
@@ -52,7 +53,7 @@ fn read_counts(alloc: Global, script: &Script, text: &[u8]) -> Result<Option<Clo
 }
 
 /// Reads a session with a count.
-fn read_count(script: &Script, text: &[u8]) -> Option<(u16, u64)>
+pub(crate) fn read_count(script: &Script, text: &[u8]) -> Option<(u16, u64)>
     requires { IsValid script.now }
     ensures { Reads (IsCounted script.now) (count_text script.now) text.now result }
 {
@@ -60,6 +61,27 @@ fn read_count(script: &Script, text: &[u8]) -> Option<(u16, u64)>
     let session = read_session(script, name)?;
     let count = read_number(digits)?;
     Some((session, count))
+}
+
+/// Reads a word with a clock, without the closing parenthesis, `WORD(CLOCK`.
+pub(crate) fn read_clocked(
+    alloc: Global,
+    script: &Script,
+    text: &[u8],
+) -> Result<Option<(Word, Clock)>, NoMemory>
+    requires { IsValid script.now }
+    ensures { IfOk result (Reads (IsClockedIn script.now) (open_clocked script.now) text.now) }
+{
+    let Some((word, clock)) = cut_at(text, b'(') else {
+        return Ok(None);
+    };
+    let Some(word) = read_word(word) else {
+        return Ok(None);
+    };
+    let Some(clock) = read_clock(alloc, script, clock)? else {
+        return Ok(None);
+    };
+    Ok(Some((word, clock)))
 }
 
 // ---- needs
@@ -109,7 +131,7 @@ fn read_each_need(alloc: Global, script: &Script, text: &[u8]) -> Result<Option<
 /// Reads a key with a clock, without the closing brace.
 fn read_open(alloc: Global, script: &Script, text: &[u8]) -> Result<Option<(u16, Clock)>, NoMemory>
     requires { IsValid script.now }
-    ensures { IfOk result (Reads (IsNeedIn script.now) (open_text script.now) text.now) }
+    ensures { IfOk result (Reads (IsNeedIn script.now) (open_need script.now) text.now) }
 {
     let Some((name, word)) = cut_at(text, b'{') else {
         return Ok(None);

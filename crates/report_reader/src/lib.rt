@@ -16,6 +16,7 @@ mod answers;
 mod asked;
 mod cells;
 mod clocks;
+mod dots;
 mod lines;
 mod values;
 mod words;

@@ -233,3 +233,79 @@ fn lines_may_not_be_missing_nor_more(rt: HostRuntime) -> Result<(), Fail> {
     assert_eq!(rt; line_out_of_form(rt.alloc(), ALL, &more)?, 28);
     Ok(())
 }
+
+/// A script with a counter and a set with removal, each of which is read once.
+const DOTS: &str =
+    "anna 2\nworkers 1\nkey c counter\nkey w orset\nsession A eventual\nget c\nget w\nsession B eventual\nend\n";
+
+/// Values of the counter and of the set, and whether each is in form.
+const DOT_VALUES: [(&str, &str, bool); 44] = [
+    ("c", "none", true),
+    ("c", "0{A:1+0-0}", true),
+    ("c", "2{A:1+5-0,A:2+0-3}", true),
+    ("c", "-3{A:2+0-5,B:1+2-0}", true),
+    ("c", "4294967290{A:1+4294967295-5}", true),
+    ("c", "3{A:1+5-0,A:2+0-3}", false),
+    ("c", "+2{A:1+5-0,A:2+0-3}", false),
+    ("c", "02{A:1+5-0,A:2+0-3}", false),
+    ("c", "-0{A:1+0-0}", false),
+    ("c", "2{A:2+0-3,A:1+5-0}", false),
+    ("c", "2{B:1+5-0,A:1+0-3}", false),
+    ("c", "10{A:1+5-0,A:1+5-0}", false),
+    ("c", "5{C:1+5-0}", false),
+    ("c", "5{A:01+5-0}", false),
+    ("c", "5{A:18446744073709551616+5-0}", false),
+    ("c", "4294967296{A:1+4294967296-0}", false),
+    ("c", "5{A:1+5}", false),
+    ("c", "5{A:1+5-0,}", false),
+    ("c", "5{A:1+5-0", false),
+    ("c", "{A:1+5-0}", false),
+    ("c", "0{}", false),
+    ("c", "0", false),
+    ("c", "", false),
+    ("w", "none", true),
+    ("w", "{milk@A:1;}", true),
+    ("w", "{;milk(A:1)}", true),
+    ("w", "{milk@A:2,milk@B:1,tea@A:1;milk(A:1)}", true),
+    ("w", "{tea@A:1;milk(A:1,B:3),rice(B:1)}", true),
+    ("w", "{;}", false),
+    ("w", "{milk@A:1}", false),
+    ("w", "{milk@A:1;milk(A:1)}", false),
+    ("w", "{milk@A:1;milk(A:2)}", false),
+    ("w", "{milk@A:1;milk(-)}", false),
+    ("w", "{milk@A:1;milk()}", false),
+    ("w", "{milk@A:1;milk(A:0)}", false),
+    ("w", "{milk@A:1;milk(C:1)}", false),
+    ("w", "{milk@C:1;}", false),
+    ("w", "{tea@A:1,milk@A:2;}", false),
+    ("w", "{milk@A:1,milk@A:1;}", false),
+    ("w", "{;rice(A:1),milk(A:1)}", false),
+    ("w", "{;milk(A:1)rice(A:1)}", false),
+    ("w", "{;milk(A:1),}", false),
+    ("w", "{milk@A:1;;}", false),
+    ("w", "milk@A:1;", false),
+];
+
+#[test]
+fn counters_and_sets_with_removal_are_read(rt: HostRuntime) -> Result<(), Fail> {
+    for (key, value, is_in_form) in DOT_VALUES {
+        let (c, w) = if key == "c" {
+            (value, "none")
+        } else {
+            ("none", value)
+        };
+        let text = format!(in rt.alloc();
+            "anna report 2\nkey c counter on 1\nkey w orset on 1\nsession A eventual\nget c @1 clock - top 0 value {c}\nget w @1 clock - top 0 value {w}\nsession B eventual\nfinal\nc @1 clock - top 0 value none\nw @1 clock - top 0 value none\nend\n"
+        )?;
+        let out = if is_in_form {
+            0
+        } else if key == "c" {
+            5
+        } else {
+            6
+        };
+        let line = line_out_of_form(rt.alloc(), DOTS, text.as_bytes())?;
+        assert_eq!(rt; line, out, "{value:?}");
+    }
+    Ok(())
+}

@@ -1,19 +1,21 @@
 //! Values, read.
-ghost use Rattle.std.specs.Prelude.{◌≡◌, ◌↔◌, ◌<◌, ◌^◌, ⊤, IfOk, IsTrue, codes, map};
+ghost use Rattle.std.specs.Prelude.{◌<◌, ◌^◌, ⊤, IfOk, map};
 ghost use Rattle.std.specs.List.{join_with_byte};
 ghost use Rattle.basic_lattices.specs.TextSet.{IsTextSet};
-ghost use Rattle.basic_lattices.specs.Word.{IsWord};
 ghost use Rattle.composed_value.specs.Value.{IsFields, IsBottomOr};
 ghost use Rattle.session_known.specs.Form.{IsValueIn};
 ghost use Rattle.session_known.specs.Script.{IsValid};
-ghost use Rattle.report_reader.specs.Cuts.{FindsPart, with_braces, with_parenthesis};
 ghost use Rattle.report_reader.specs.ReadRows.{IsRow};
 ghost use Rattle.report_reader.specs.ReadValues.{greatest_word, flag_word, IsField, IsStampIn, stamp_text, IsStampedIn, last_word, IsVersionIn, AreVersionsIn};
 ghost use Rattle.report_reader.specs.Reads.{Reads};
 ghost use Rattle.report_lines.specs.Text.{braced, field_text, fields_text, stamped_text, version_text, each_version_text, versions_word, value_word};
 
-use crate::clocks::read_clock;
-use crate::words::{cut_at, pieces_of, read_number, read_session, read_small_number};
+use crate::clocks::read_clocked;
+use crate::dots::{read_counter, read_or_set};
+use crate::words::{
+    before_parenthesis, cut_at, in_braces, is_none, pieces_of, read_number, read_session,
+    read_small_number, read_word,
+};
 use basic_lattices::{FieldMax, Flag, MapOf, MaxNum, Stamped, TextSet, Word};
 use composed_value::{Kind, Value};
 use lattice_laws::{Lattice, Maybe, NoMemory};
@@ -38,43 +40,9 @@ pub(crate) fn read_value(
         Kind::Map => Ok(read_map(alloc, text)?.map(Value::Map)),
         Kind::Last => Ok(read_last(alloc, script, text)?.map(Value::Last)),
         Kind::Versions => Ok(read_versions(alloc, script, text)?.map(Value::Versions)),
+        Kind::Counter => Ok(read_counter(alloc, script, text)?.map(Value::Counter)),
+        Kind::OrSet => Ok(read_or_set(alloc, script, text)?.map(Value::OrSet)),
     }
-}
-
-// ---- words
-
-/// Whether a text says that there is nothing.
-fn is_none(text: &[u8]) -> bool
-    ensures { IsTrue result ↔ (text.now ≡ codes "none") }
-{
-    text == b"none".as_slice()
-}
-
-/// Reads a word.
-fn read_word(text: &[u8]) -> Option<Word>
-    ensures { Reads IsWord (λ word. word) text.now result }
-{
-    Word::of(text).ok()
-}
-
-/// What stands between the braces around it.
-fn in_braces(text: &[u8]) -> Option<&[u8]>
-    ensures { FindsPart with_braces text.now result }
-{
-    let [b'{', inner @ .., b'}'] = text else {
-        return None;
-    };
-    Some(inner)
-}
-
-/// What stands before the parenthesis at the end.
-fn before_parenthesis(text: &[u8]) -> Option<&[u8]>
-    ensures { FindsPart with_parenthesis text.now result }
-{
-    let [inner @ .., b')'] = text else {
-        return None;
-    };
-    Some(inner)
 }
 
 // ---- numbers and flags
@@ -277,16 +245,10 @@ fn read_version(alloc: Global, script: &Script, text: &[u8]) -> Result<Option<Ve
     requires { IsValid script.now }
     ensures { IfOk result (Reads (IsVersionIn script.now) (version_text script.now) text.now) }
 {
-    let Some((word, later)) = cut_at(text, b'(') else {
+    let Some(opened) = before_parenthesis(text) else {
         return Ok(None);
     };
-    let Some(clock) = before_parenthesis(later) else {
-        return Ok(None);
-    };
-    let Some(clock) = read_clock(alloc, script, clock)? else {
-        return Ok(None);
-    };
-    let Some(word) = read_word(word) else {
+    let Some((word, clock)) = read_clocked(alloc, script, opened)? else {
         return Ok(None);
     };
     Ok(Some(Version { clock, word }))

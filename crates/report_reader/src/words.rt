@@ -1,14 +1,16 @@
 //! Words of a report, read: numbers, names and workers, and texts cut at a byte.
-ghost use Rattle.std.specs.Prelude.{◌≡◌, ◌↔◌, ◌<◌, ◌^◌, ◌==◌, length, decimal, IfOk, IsTrue};
+ghost use Rattle.std.specs.Prelude.{◌≡◌, ◌↔◌, ◌<◌, ◌^◌, ◌==◌, length, codes, decimal, IfOk, IsTrue};
 ghost use Rattle.std.specs.List.{slice_split};
+ghost use Rattle.basic_lattices.specs.Word.{IsWord};
 ghost use Rattle.placement.specs.Config.{IsOneOf};
 ghost use Rattle.session_known.specs.Script.{IsValid, key_name, session_name};
 ghost use Rattle.script_reader.specs.Words.{texts};
-ghost use Rattle.report_reader.specs.Cuts.{CutsAt};
+ghost use Rattle.report_reader.specs.Cuts.{CutsAt, FindsPart, with_braces, with_brace, with_parenthesis};
 ghost use Rattle.report_reader.specs.Reads.{Reads};
 ghost use Rattle.report_lines.specs.Text.{worker_word};
 
-use itoa::Buffer;
+use basic_lattices::Word;
+use itoa::{Buffer, Integer};
 use lattice_laws::NoMemory;
 use session_known::Script;
 use std::alloc::Global;
@@ -28,6 +30,52 @@ pub(crate) fn pieces_of(alloc: Global, text: &[u8], byte: u8) -> Result<Vec<&[u8
     ensures { IfOk result (λ pieces. texts pieces.items ≡ slice_split (λ b. b == byte) text.now) }
 {
     Ok(text.split(|b| *b == byte).collect(alloc)?)
+}
+
+/// Whether a text says that there is nothing.
+pub(crate) fn is_none(text: &[u8]) -> bool
+    ensures { IsTrue result ↔ (text.now ≡ codes "none") }
+{
+    text == b"none".as_slice()
+}
+
+/// What stands between the braces around it.
+pub(crate) fn in_braces(text: &[u8]) -> Option<&[u8]>
+    ensures { FindsPart with_braces text.now result }
+{
+    let [b'{', inner @ .., b'}'] = text else {
+        return None;
+    };
+    Some(inner)
+}
+
+/// What stands before the parenthesis at the end.
+pub(crate) fn before_parenthesis(text: &[u8]) -> Option<&[u8]>
+    ensures { FindsPart with_parenthesis text.now result }
+{
+    let [inner @ .., b')'] = text else {
+        return None;
+    };
+    Some(inner)
+}
+
+/// What stands before the brace at the end.
+pub(crate) fn before_brace(text: &[u8]) -> Option<&[u8]>
+    ensures { FindsPart with_brace text.now result }
+{
+    let [inner @ .., b'}'] = text else {
+        return None;
+    };
+    Some(inner)
+}
+
+// ---- words
+
+/// Reads a word.
+pub(crate) fn read_word(text: &[u8]) -> Option<Word>
+    ensures { Reads IsWord (λ word. word) text.now result }
+{
+    Word::of(text).ok()
 }
 
 // ---- numbers
@@ -60,8 +108,8 @@ pub(crate) fn read_small_number(text: &[u8]) -> Option<u32>
 }
 
 /// Whether a number is written as the text.
-fn is_written(number: u64, text: &[u8]) -> bool
-    ensures { IsTrue result ↔ (text.now ≡ decimal number) }
+pub(crate) fn is_written<N: Integer>(number: N, text: &[u8]) -> bool
+    ensures { IsTrue result ↔ (text.now ≡ N.text number) }
 {
     let mut buffer = Buffer::new();
     buffer.format(number).as_bytes() == text

@@ -1,21 +1,24 @@
 -- The texts of a report's parts, and what a report in form names.
-use Rattle.std.proofs.Common.{◌≡◌, ◌≢◌, ℕ, ◌<◌, min, List, [], ◌∷◌, ◌++◌, map, take, length, get_or, Some, codes, sym, ap, refl, ◌∙◌, append_assoc, arith}
+use Rattle.std.proofs.Common.{◌≡◌, ◌≢◌, ℕ, ◌<◌, min, List, [], ◌∷◌, ◌++◌, map, take, length, get_or, Some, codes, sym, ap, refl, subst, ◌∙◌, append_assoc, arith}
 use Rattle.std.proofs.lemmas.List.{take_all}
 use Rattle.std.proofs.lemmas.List.Concat.{flat_map-append}
-use Rattle.std.proofs.lemmas.List.Elements.{All-nil, All-cons, All-head, All-tail}
+use Rattle.std.proofs.lemmas.List.Elements.{All-nil, All-cons, All-head, All-tail, All-weaker}
 use Rattle.std.proofs.lemmas.Bool.{ne_eqb}
 use Rattle.std.specs.Fmt.{decimal}
 use Rattle.std.proofs.lemmas.Option.{slice_get-get_or}
 use Rattle.std.proofs.lemmas.Slice.Zip.{length-zip, get_or-zip}
 use Rattle.std.specs.List.{All, AllZip, flat_map, slice_get, zip}
 use Rattle.placement.proofs.ConfigLemmas.{placement_is}
-use Rattle.session_known.specs.Form.{Fits, HasForm, final_places}
+use Rattle.session_known.specs.Form.{Fits, HasFewDots, HasForm, IsFinalIn, final_places}
 use Rattle.session_known.specs.Script.{IsValidScript, IsValidSession, MayStand}
 use Rattle.session_known.specs.declared.report.Answer.{Answer}
+use Rattle.session_known.specs.declared.report.Answer.TheVariants as answers
 use Rattle.session_known.specs.declared.report.FinalCell.{FinalCell}
 use Rattle.session_known.specs.declared.report.Report.{Report}
+use Rattle.session_known.specs.declared.report.Shown.{Shown}
 use Rattle.session_known.specs.declared.script.Level.{Level}
 use Rattle.session_known.specs.declared.script.Line.{Line}
+use Rattle.session_known.specs.declared.script.Line.TheVariants as lines
 use Rattle.session_known.specs.declared.script.Script.{Script}
 use Rattle.session_known.specs.declared.script.SessionPlan.{SessionPlan}
 use Rattle.report_lines.specs.Text.{head_lines, number_at, commit_words, session_words, answer_words, answers_lines, sessions_lines, final_words, line_text, text_of}
@@ -113,3 +116,16 @@ report_may script table report valid form = sessions_may script table script.ses
 -- Its final cells stand where those of the script do.
 pub report_places : (script : Script) (table : List (List ℕ)) (report : Report) → IsValidScript script table → HasForm script table report → AreAtPlaces script report.finals
 report_places script table report valid form = form.places ∙ ap (final_places script) (placement_is script.config table valid.placed)
+
+-- what such an answer shows has few dots
+pub got_few : (script : Script) (line : Line) (answer : Answer) (worker : ℕ) (shown : Shown) → MayAnswer script line answer → answer ≡ answers.Got worker shown → HasFewDots shown.value
+got_few script line answer worker shown may is = of_line line (subst (Fits script may.1 line) is may.3)
+  where
+    of_line : (line : Line) → Fits script may.1 line (answers.Got worker shown) → HasFewDots shown.value
+    of_line (lines.Get key named) fit = fit.value_is.few
+    of_line (lines.Await key session count) fit = fit.value_is.few
+    of_line line fit = absurd fit
+
+-- and so have its final cells
+pub finals_few : (script : Script) (table : List (List ℕ)) (report : Report) → HasForm script table report → All (λ cell. HasFewDots cell.value) report.finals
+finals_few script table report form = All-weaker (IsFinalIn script) (λ cell. HasFewDots cell.value) (λ cell is. is.value_is.few) report.finals form.finals

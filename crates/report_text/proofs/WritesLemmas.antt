@@ -1,17 +1,23 @@
 -- What is written in pieces, put together.
-use Rattle.std.proofs.Common.{◌≡◌, ℕ, ◌+◌, ◌<◌, List, [], ◌∷◌, ◌++◌, map, take, length, Option, Some, sym, ap, refl, subst, ◌∙◌, codes, append_assoc, arith}
+use Rattle.std.proofs.Common.{◌≡◌, ℕ, ◌+◌, ◌<◌, List, [], ◌∷◌, ◌++◌, map, take, length, Option, None, Some, sym, ap, refl, subst, ◌∙◌, codes, append_assoc, arith}
 use Rattle.std.proofs.lemmas.List.{append-nil, length-map, length-take-le, map-append, take_more}
-use Rattle.std.proofs.lemmas.Option.{slice_get_within, get_or_from_slice_get}
+use Rattle.std.proofs.lemmas.Option.{same_Some, slice_get_within, get_or_from_slice_get}
+use Rattle.std.specs.Fmt.{signed_decimal}
+use Rattle.std.specs.Option.{option_map}
 use Rattle.std.specs.Prelude.{Bool, false, IsTrue, ◌↔◌}
 use Rattle.std.specs.List.{All, flat_map, join_with_byte, slice_get}
 use Rattle.std.proofs.lemmas.Bool.{false≢true}
 use Rattle.std.proofs.lemmas.List.Concat.{flat_map-append}
+use Rattle.dot_lattices.specs.DotSums.{sum_told, total_of}
+use Rattle.dot_lattices.specs.declared.amounts.Amounts.{Amounts}
+use Rattle.dot_lattices.specs.declared.dot.Dot.{Dot}
 use Rattle.outside.proofs.GatheringLemmas.{Adds-then, Adds-as, Adds-byte}
 use Rattle.outside.specs.Gathering.{Adds}
 use Rattle.outside.specs.declared.gathering.Out.{Out}
 use Rattle.report_lines.proofs.RenderingLemmas.{spaced-append, bare_is}
-use Rattle.report_lines.specs.Text.{listed, braced, line_text, spaced}
+use Rattle.report_lines.specs.Text.{row_or, braced, sums_text, counter_word, line_text, spaced}
 use Rattle.report_text.specs.Writes.{between}
+use Rattle.session_known.specs.declared.script.Script.{Script}
 
 -- what holds of each item holds of the one at a place
 pub All-at : {A : Type 0} (P : A → Type 0) (items : List A) (i : ℕ) (item : A) → slice_get items i ≡ Some item → All P items → P item
@@ -24,10 +30,10 @@ pub has_items : {A : Type 0} (items : List A) (empty : Bool) → (IsTrue empty �
 has_items [] empty tells is = absurd (false≢true (sym is ∙ tells.1 refl))
 has_items (item ∷ items) empty tells is = omega arith
 
--- texts between commas, where there is one
-pub listed_some : {A : Type 0} (text : A → List ℕ) (items : List A) → 0 < length items → listed (map text items) ≡ join_with_byte 44 (map text items)
-listed_some text [] some = absurd (omega arith)
-listed_some text (item ∷ items) some = refl
+-- a row, where there is an item
+pub row_some : {A : Type 0} (none : List ℕ) (c : ℕ) (text : A → List ℕ) (items : List A) → 0 < length items → row_or none c (map text items) ≡ join_with_byte c (map text items)
+row_some none c text [] some = absurd (omega arith)
+row_some none c text (item ∷ items) some = refl
 
 -- words in braces, where there is one
 pub braced_some : (items : List (List ℕ)) → 0 < length items → braced items ≡ codes "{" ++ (join_with_byte 44 items ++ codes "}")
@@ -106,3 +112,20 @@ pub Adds-next : {K A : Type 0} {written : K → Option (List ℕ)} {faults : K �
     → slice_get items i ≡ Some item → Adds written faults a b (flat_map text (take i items)) → Adds written faults b d (text item)
     → Adds written faults a d (flat_map text (take (i + 1) items))
 Adds-next text items i item got before here = Adds-as (sym (flat_map_one_more text items i item got)) (Adds-then before here)
+
+-- ---- counters
+
+-- a counter that has dots
+pub counter_some : (script : Script) (sums : List (Dot × Amounts)) → 0 < length sums → counter_word script sums ≡ signed_decimal (total_of sums) ++ (codes "{" ++ (sums_text script sums ++ codes "}"))
+counter_some script [] some = absurd (omega arith)
+counter_some script (entry ∷ sums) some = refl
+
+-- the entry at a place of which the numbers are told
+pub sum_at : (sums : List (Dot × Amounts)) (i session number added taken : ℕ) → Some (session, number, added, taken) ≡ option_map sum_told (slice_get sums i) → slice_get sums i ≡ Some (record { session = session; number = number }, record { added = added; taken = taken })
+sum_at sums i session number added taken told = of_found (slice_get sums i) told
+  where
+    of_found : (found : Option (Dot × Amounts)) → Some (session, number, added, taken) ≡ option_map sum_told found → found ≡ Some (record { session = session; number = number }, record { added = added; taken = taken })
+    of_found None told = absurd cc
+    of_found (Some entry) told =
+        let it : sum_told entry ≡ (session, number, added, taken) = sym (same_Some (session, number, added, taken) (sum_told entry) told) in
+        λ j. Some (record { session = (it j).0; number = (it j).1 }, record { added = (it j).2; taken = (it j).3 })

@@ -1,13 +1,12 @@
 //! Lines of answers, written to a text.
 ghost use Rattle.std.specs.Prelude.{[], ◌∷◌, codes, decimal};
+ghost use Rattle.session_known.specs.Form.{HasFewDots};
 ghost use Rattle.session_known.specs.Script.{key_name};
 ghost use Rattle.report_lines.specs.Text.{shown_words, needs_words, again_words, gave_up_words, put_words, awaited_words, number_at, commit_words, answer_words};
 ghost use Rattle.report_text.specs.Writes.{MayAnswer, AddsWords, AddsLine};
 
-use crate::cells::{
-    write_cell, write_clock_words, write_needs, write_spaced_key, write_spaced_session,
-    write_spaced_worker,
-};
+use crate::cells::{write_cell, write_clock_words};
+use crate::clocks::{write_needs, write_spaced_key, write_spaced_session, write_spaced_worker};
 use crate::pieces::{write_spaced, write_spaced_number};
 use clock_lattice::Clock;
 use itoa::Integer;
@@ -30,6 +29,7 @@ fn write_shown_needs<K: Sink>(out: &mut Out<'_, K>, script: &Script, shown: &Sho
 
 /// Writes what a worker showed.
 fn write_shown<K: Sink>(out: &mut Out<'_, K>, script: &Script, worker: u16, shown: &Shown)
+    requires { HasFewDots shown.now.value }
     ensures { AddsWords K.Sink out.old out.new (shown_words script.now worker shown.now) }
 {
     write_spaced_worker(out, worker);
@@ -91,6 +91,7 @@ fn write_other_put<K: Sink>(out: &mut Out<'_, K>, script: &Script, key: u16, wor
 
 /// Writes the line of a get that was shown a cell.
 fn write_got<K: Sink>(out: &mut Out<'_, K>, script: &Script, key: u16, worker: u16, shown: &Shown)
+    requires { HasFewDots shown.now.value }
     ensures { AddsLine K.Sink out.old out.new (codes "get" ∷ key_name script.now key
         ∷ shown_words script.now worker shown.now) }
 {

@@ -1,12 +1,12 @@
 //! Writes the lines of keys.
-ghost use Rattle.std.specs.Prelude.{◌≡◌, map, length, decimal};
+ghost use Rattle.std.specs.Prelude.{map, length, decimal};
 ghost use Rattle.std.specs.List.{range_with_len};
 ghost use Rattle.placement.specs.Config.{IsOneOf};
 ghost use Rattle.report_lines.specs.Text.{head_lines, key_words, placed_words};
 ghost use Rattle.session_known.specs.Script.{IsValid};
 ghost use Rattle.report_text.specs.Writes.{AddsLine, AddsLines, AddsWords, AreAtPlaces};
 
-use crate::cells::write_spaced_key;
+use crate::clocks::write_spaced_key;
 use crate::pieces::{write_spaced, write_spaced_number};
 use report_lines::kind_text;
 use script_reader::outside::{Out, Sink};

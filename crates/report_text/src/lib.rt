@@ -7,9 +7,11 @@
 
 mod answers;
 mod cells;
+mod clocks;
 mod keys;
 mod pieces;
 mod report;
+mod values;
 
 pub use report::{write_final, write_report, write_short};
 pub use report_lines::texts_tell_reports_apart;

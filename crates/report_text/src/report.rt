@@ -1,15 +1,14 @@
 //! Writes reports.
-ghost use Rattle.std.specs.List.{AllZip, flat_map};
-ghost use Rattle.session_known.specs.Form.{HasFormSomewhere};
+ghost use Rattle.std.specs.List.{All, AllZip, flat_map};
+ghost use Rattle.session_known.specs.Form.{HasFewDots, HasFormSomewhere};
 ghost use Rattle.outside.specs.Gathering.{Adds, Wrote};
 ghost use Rattle.outside.specs.Outside.{HasCause};
 ghost use Rattle.report_lines.specs.Text.{level_word, session_words, answers_lines, sessions_lines, text_of, line_text, final_words, short_words};
 ghost use Rattle.report_text.specs.Writes.{MayAnswer, MayAnswerAll, AddsLine, AddsLines, session_text};
 
 use crate::answers::write_answer;
-use crate::cells::{
-    write_cell, write_clock_words, write_key, write_name, write_spaced_worker, write_value_words,
-};
+use crate::cells::{write_cell, write_clock_words, write_value_words};
+use crate::clocks::{write_key, write_name, write_spaced_worker};
 use crate::keys::write_head;
 use lattice_laws::Items;
 use report_lines::level_text;
@@ -34,8 +33,10 @@ pub fn write_report<K: Sink>(script: &Script, report: &Report, sink: &mut K) -> 
 }
 
 /// Writes the line of a final cell, `K @W CELL` and a line feed, with the names that the script gives
-/// its keys and sessions. `Failed` as for [`write_report`]. Takes no memory.
+/// its keys and sessions, where a counter has at most 4,096 dots. `Failed` as for [`write_report`].
+/// Takes no memory.
 pub fn write_final<K: Sink>(script: &Script, cell: &FinalCell, sink: &mut K) -> Result<(), Failed>
+    requires few { HasFewDots cell.now.value }
     ensures wrote { Wrote (K.written sink.old) (K.written sink.new)
         (line_text (final_words script.now cell.now)) result }
     ensures cause { HasCause (K.faults sink.old) (K.faults sink.new) result }
@@ -46,8 +47,10 @@ pub fn write_final<K: Sink>(script: &Script, cell: &FinalCell, sink: &mut K) -> 
 }
 
 /// Writes the short line of a cell, `K clock CLOCK value VALUE` and a line feed, for a summary, with the
-/// names that the script gives its keys and sessions. `Failed` as for [`write_report`]. Takes no memory.
+/// names that the script gives its keys and sessions, where a counter has at most 4,096 dots. `Failed` as
+/// for [`write_report`]. Takes no memory.
 pub fn write_short<K: Sink>(script: &Script, cell: &FinalCell, sink: &mut K) -> Result<(), Failed>
+    requires few { HasFewDots cell.now.value }
     ensures wrote { Wrote (K.written sink.old) (K.written sink.new)
         (line_text (short_words script.now cell.now)) result }
     ensures cause { HasCause (K.faults sink.old) (K.faults sink.new) result }
@@ -118,6 +121,7 @@ fn write_sessions<K: Sink>(out: &mut Out<'_, K>, script: &Script, answers: &[Ite
 
 /// Writes the line of a final cell.
 fn write_final_line<K: Sink>(out: &mut Out<'_, K>, script: &Script, cell: &FinalCell)
+    requires { HasFewDots cell.now.value }
     ensures { AddsLine K.Sink out.old out.new (final_words script.now cell.now) }
 {
     write_key(out, script, cell.key);
@@ -128,6 +132,7 @@ fn write_final_line<K: Sink>(out: &mut Out<'_, K>, script: &Script, cell: &Final
 
 /// Writes the short line of a cell.
 fn write_short_line<K: Sink>(out: &mut Out<'_, K>, script: &Script, cell: &FinalCell)
+    requires { HasFewDots cell.now.value }
     ensures { AddsLine K.Sink out.old out.new (short_words script.now cell.now) }
 {
     write_key(out, script, cell.key);
@@ -138,6 +143,7 @@ fn write_short_line<K: Sink>(out: &mut Out<'_, K>, script: &Script, cell: &Final
 
 /// Writes the lines of the final cells.
 fn write_finals<K: Sink>(out: &mut Out<'_, K>, script: &Script, finals: &[FinalCell])
+    requires { All (λ cell. HasFewDots cell.value) finals.now }
     ensures { Adds K.written K.faults out.old out.new
         (flat_map (λ cell. line_text (final_words script.now cell)) finals.now) }
 {

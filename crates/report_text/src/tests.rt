@@ -19,7 +19,7 @@ fn write_back<K: Sink>(
 }
 
 /// Scripts, each with a report of its form.
-const WORKED: [(&str, &str); 9] = [
+const WORKED: [(&str, &str); 11] = [
     (
         "anna 1\nworkers 1\nkey a max\nsession s eventual\nput a 5\nput a 3\nget a\nend\n",
         "anna report 1\nsession s eventual\nput a 1 at 1\nput a 2 at 2\nget a @1 clock s:2 top 2 value 5\nfinal\na @1 clock s:2 top 2 value 5\nend\n",
@@ -31,6 +31,14 @@ const WORKED: [(&str, &str); 9] = [
     (
         "anna 2\nworkers 3\nfactor 3\nkey a versions\nkey b set at 3 1\nkey c or factor 3\nkey d last at 2\nsession s eventual\nend\n",
         "anna report 2\nkey a versions on 1 2 3\nkey b set on 1 3\nkey c or on 1 2 3\nkey d last on 2\nsession s eventual\nfinal\na @1 clock - top 0 value none\na @2 clock - top 0 value none\na @3 clock - top 0 value none\nb @1 clock - top 0 value none\nb @3 clock - top 0 value none\nc @1 clock - top 0 value none\nc @2 clock - top 0 value none\nc @3 clock - top 0 value none\nd @2 clock - top 0 value none\nend\n",
+    ),
+    (
+        "anna 2\nworkers 1\nkey c counter\nkey w orset\nsession s eventual\nput c add 5\nput c sub 3\nget c\nput w insert milk\nput w remove milk\nput w insert milk\nget w\nend\n",
+        "anna report 2\nkey c counter on 1\nkey w orset on 1\nsession s eventual\nput c 1 at 1\nput c 2 at 2\nget c @1 clock s:2 top 2 value 2{s:1+5-0,s:2+0-3}\nput w 1 at 3\nput w 2 at 4\nput w 3 at 5\nget w @1 clock s:3 top 5 value {milk@s:3;milk(s:2)}\nfinal\nc @1 clock s:2 top 2 value 2{s:1+5-0,s:2+0-3}\nw @1 clock s:3 top 5 value {milk@s:3;milk(s:2)}\nend\n",
+    ),
+    (
+        "anna 2\nworkers 1\nkey c counter\nkey d counter\nkey v orset\nkey w orset\nsession s eventual\nput c sub 4294967295\nsession t eventual\nput c sub 2\nget d\nget w\nput v insert x-1\nput v insert y\nput w remove y\nput w remove x-1\nend\n",
+        "anna report 2\nkey c counter on 1\nkey d counter on 1\nkey v orset on 1\nkey w orset on 1\nsession s eventual\nput c 1 at 1\nsession t eventual\nput c 1 at 1\nget d @1 clock - top 0 value none\nget w @1 clock - top 0 value none\nput v 1 at 2\nput v 2 at 3\nput w 1 at 4\nput w 2 at 5\nfinal\nc @1 clock s:1,t:1 top 1 value -4294967297{s:1+0-4294967295,t:1+0-2}\nd @1 clock - top 0 value none\nv @1 clock t:2 top 3 value {x-1@t:1,y@t:2;}\nw @1 clock t:2 top 5 value {;x-1(s:1,t:1),y(t:1)}\nend\n",
     ),
     (
         "anna 1\nworkers 1\nkey a max\nsession s eventual\nget a\nend\n",

@@ -1,9 +1,10 @@
 -- What reading a line needs: the last session, where a command stands, what it adds, why it is at fault, and where a line may stand.
-use Rattle.std.proofs.Common.{◌≡◌, ◌≢◌, ◌⊎◌, ℕ, ◌+◌, ◌<◌, ◌≤◌, ◌==◌, Bool, true, false, not, ◌&&◌, ◌||◌, nat_lt, nat_le, List, [], ◌∷◌, ◌++◌, map, length, Option, None, Some, is_some, unwrap_or, cond, codes, slice_get, slice_index_or, get_or, Result, Ok, Err, MatchResult, MatchOption, refl, sym, ap, ◌∙◌, subst, inl, inr, arith, sum_by}
+use Rattle.std.proofs.Common.{◌≡◌, ◌≢◌, ◌⊎◌, ℕ, ◌+◌, ◌^◌, ◌<◌, ◌≤◌, ◌==◌, Bool, true, false, not, ◌&&◌, ◌||◌, nat_lt, nat_le, List, [], ◌∷◌, ◌++◌, map, length, Option, None, Some, is_some, unwrap_or, cond, codes, slice_get, slice_index_or, get_or, Result, Ok, Err, MatchResult, MatchOption, refl, sym, ap, ◌∙◌, subst, inl, inr, arith, sum_by}
 use Rattle.std.specs.List.{All, list_any, flat_map, range_with_len}
-use Rattle.std.specs.Option.{option_map_or, option_and_then}
+use Rattle.std.specs.Option.{option_map, option_map_or, option_and_then}
 use Rattle.std.specs.Str.{bytes_eq}
 use Rattle.std.proofs.lemmas.Bool.{eqb-true, not-false}
+use Rattle.std.proofs.lemmas.Bool.Decides.{nat_tests}
 use Rattle.std.proofs.lemmas.List.{length-map, length-append, get_or-map}
 use Rattle.std.proofs.lemmas.List.Concat.{flat_map-cons}
 use Rattle.std.proofs.lemmas.List.Elements.{All-nil, All-cons, All-head, All-tail, All-append, All-map, All-take, All-filter, All-get_or, All-same}
@@ -13,7 +14,9 @@ use Rattle.std.proofs.lemmas.List.Sorted.{All-permutation}
 use Rattle.std.proofs.lemmas.List.Sums.{sum_by_push}
 use Rattle.std.proofs.lemmas.Slice.Eq.{bytes_eq-Decides}
 use Rattle.composed_value.specs.declared.kind.Kind.{Kind}
+use Rattle.composed_value.specs.declared.kind.Kind.TheVariants as kinds
 use Rattle.composed_value.specs.declared.payload.Payload.{Payload}
+use Rattle.composed_value.specs.declared.payload.Payload.TheVariants as payloads
 use Rattle.placement.specs.Config.{IsOneOf, ArePins, IsValidConfig, IsRing, factor_of, pinned_or, replicas_on, placed}
 use Rattle.placement.proofs.ConfigLemmas.{is_placement}
 use Rattle.placement.specs.Hash.{hash_of}
@@ -24,13 +27,14 @@ use Rattle.placement.specs.declared.ring.Point.{Point}
 use Rattle.session_known.specs.declared.script.Line.{Line}
 use Rattle.session_known.specs.declared.script.SessionPlan.{SessionPlan}
 use Rattle.script_reader.specs.Entries.{Shows}
-use Rattle.script_reader.specs.Faults.{Context, code_of, keys_of, level_of, last_level, commands_of, is_committed, is_declared, is_replica, is_version, is_in_version, kind_of_key, may_follow, may_have, suits, lacks_word, lacks_number, lacks_name, repeats, is_unknown, misfits, passes_limit, breaks_transaction}
-use Rattle.script_reader.proofs.FaultsLaws.{code_limit, code_transaction, code_none}
+use Rattle.script_reader.specs.Faults.{Context, code_of, keys_of, level_of, last_level, commands_of, is_committed, is_declared, is_replica, is_version, is_in_version, kind_of_key, has_great_amount, may_follow, may_have, suits, lacks_word, lacks_number, lacks_name, repeats, is_unknown, misfits, passes_limit, breaks_transaction}
+use Rattle.script_reader.proofs.FaultsLaws.{code_kind, code_limit, code_transaction, code_none}
 use Rattle.script_reader.specs.Keywords.{is_factor, is_round}
 use Rattle.script_reader.specs.Reader.{so_far, plans_of, begun_of, with_added, begun_after_line, AreKept, IsKept, SuitsPlace, IsFaultOf, HasRead, HasAdded, Reads, IsKeyAt, MayBound, IsBoundFault}
 use Rattle.script_reader.specs.Said.{place_of, number_in, payload_for, line_said}
 use Rattle.script_reader.specs.Steps.{next_context, with_line, with_sessions, with_version, with_command, script_after, begun_after}
-use Rattle.script_reader.specs.Words.{is_payload_too_great, number_of, number_said, payload_said}
+use Rattle.script_reader.specs.Words.{is_amount_too_great, is_name, is_payload_too_great, number_of, number_said, payload_said, sign_said}
+use Rattle.script_reader.specs.declared.code.Code.{Code}
 use Rattle.script_reader.specs.declared.code.Code.TheVariants as codes_of
 use Rattle.script_reader.specs.declared.entry.Entry.{Entry}
 use Rattle.script_reader.specs.declared.keyword.Keyword.{Keyword}
@@ -201,6 +205,11 @@ pub too_much_is : (context : Context) (key : List ℕ) (words : List (List ℕ))
 too_much_is context key words None none = sym (ap (λ p. option_map_or (λ kind. is_payload_too_great kind words) (option_and_then (λ p. slice_get context.script.kinds p) p) false) none)
 too_much_is context key words (Some found) is = sym (ap (λ kind. option_map_or (λ kind. is_payload_too_great kind words) kind false) (found_kind context key found.0 found.1 is))
 
+-- so where that does not, the put lacks none
+pub not_too_much : (context : Context) (key : List ℕ) (words : List (List ℕ)) (found : Option (ℕ × Kind)) (says : Bool) → MatchOption found (place_of (keys_of context) key ≡ None) (λ found. IsKeyAt context key found.0 found.1) → says ≡ option_map_or (λ found. is_payload_too_great found.1 words) found false → says ≡ false
+    → lacks_number context keywords.Put (key ∷ words) ≡ false
+not_too_much context key words found says is said fails = sym (too_much_is context key words found is) ∙ sym said ∙ fails
+
 -- whether a get that names a worker names a replica of a key that is there
 pub unknown_worker : (context : Context) (key word : List ℕ) (place worker : ℕ) (kind : Kind) (has : Bool) → IsKeyAt context key place kind → Some worker ≡ number_said word
     → list_any (λ replica. replica == worker) (slice_index_or (placed context.script.config) place []) ≡ has → not (is_declared context key && is_replica context key (number_of word)) ≡ not has
@@ -215,6 +224,47 @@ both_spelled key session spells says = λ i. not (sym spells i && sym says i)
 -- the payload that a put says for its key
 pub put_payload : (context : Context) (key : List ℕ) (words : List (List ℕ)) (place : ℕ) (kind : Kind) (said : Option Payload) → IsKeyAt context key place kind → said ≡ payload_said kind words → payload_for (keys_of context) context.script.kinds key words ≡ said
 put_payload context key words place kind said found says = found_payload context key words place kind found ∙ sym says
+
+-- whether its amount is too great
+great_amount : (context : Context) (key : List ℕ) (words : List (List ℕ)) (place : ℕ) (kind : Kind) → IsKeyAt context key place kind → has_great_amount context key words ≡ is_amount_too_great kind words
+great_amount context key words place kind found = ap (λ kind. option_map_or (λ kind. is_amount_too_great kind words) kind false) (found_kind context key place kind found)
+
+-- an amount that is said is not
+amount_fits : (sign : Option Bool) (number : Option ℕ) (payload : Payload) → option_and_then (λ plus. option_map (payloads.Amount plus) (option_and_then (λ number. cond (nat_lt number (2 ^ 32)) (Some number) None) number)) sign ≡ Some payload → (is_some sign && option_map_or (λ number. nat_le (2 ^ 32) number) number false) ≡ false
+amount_fits None number payload is = refl
+amount_fits (Some plus) None payload is = refl
+amount_fits (Some plus) (Some number) payload is = of_test (nat_lt number (2 ^ 32)) refl is
+  where
+    of_test : (fits : Bool) → nat_lt number (2 ^ 32) ≡ fits → option_map (payloads.Amount plus) (cond fits (Some number) None) ≡ Some payload → nat_le (2 ^ 32) number ≡ false
+    of_test true fits is = grind (arith, nat_tests)
+    of_test false fits is = absurd cc
+
+said_fits : (kind : Kind) (words : List (List ℕ)) (payload : Payload) → payload_said kind words ≡ Some payload → is_amount_too_great kind words ≡ false
+said_fits kinds.Counter [] payload is = refl
+said_fits kinds.Counter (sign ∷ []) payload is = refl
+said_fits kinds.Counter (sign ∷ amount ∷ []) payload is = amount_fits (sign_said sign) (number_said amount) payload is
+said_fits kinds.Counter (sign ∷ amount ∷ other ∷ words) payload is = refl
+said_fits kind words payload is = refl
+
+-- so the amount of a put that says a payload for its key is not too great
+pub payload_fits : (context : Context) (key : List ℕ) (words : List (List ℕ)) (place : ℕ) (kind : Kind) (payload : Payload) → IsKeyAt context key place kind → Some payload ≡ payload_said kind words → has_great_amount context key words ≡ false
+payload_fits context key words place kind payload found says = great_amount context key words place kind found ∙ said_fits kind words payload (sym says)
+
+-- why a put says no payload for its key
+pub no_payload : (context : Context) (key : List ℕ) (words : List (List ℕ)) (place : ℕ) (kind : Kind) (why : Code) → SuitsPlace context keywords.Put (key ∷ words) → lacks_number context keywords.Put (key ∷ words) ≡ false → is_name key ≡ true → IsKeyAt context key place kind → None ≡ payload_said kind words → why ≡ cond (is_amount_too_great kind words) codes_of.Limit codes_of.Kind
+    → code_of context keywords.Put (key ∷ words) ≡ Some why
+no_payload context key words place kind why stands number named found none is = of_great (is_amount_too_great kind words) refl ∙ ap Some (sym is)
+  where
+    misfit : not (is_some (payload_for (keys_of context) context.script.kinds key words)) ≡ true
+    misfit = ap (λ payload. not (is_some payload)) (put_payload context key words place kind None found none)
+
+    of_great : (great : Bool) → is_amount_too_great kind words ≡ great → code_of context keywords.Put (key ∷ words) ≡ Some (cond great codes_of.Limit codes_of.Kind)
+    of_great true is =
+        let great = great_amount context key words place kind found ∙ is in
+        code_limit _ _ _ stands.header stands.word number (ap not named) refl (ap not (found_declared context key place kind found)) (λ i. misfit i && not (great i)) (ap (λ great. great || nat_le 4096 (commands_of context)) great)
+    of_great false is =
+        let great = great_amount context key words place kind found ∙ is in
+        code_kind _ _ _ stands.header stands.word number (ap not named) refl (ap not (found_declared context key place kind found)) (λ i. misfit i && not (great i))
 
 -- ---- transactions
 

@@ -1,5 +1,5 @@
 -- A line that is not at fault leaves a valid context.
-use Rattle.std.specs.Prelude.{◌≡◌, ℕ, ◌<◌, ◌≤◌, Bool, true, false, IsTrue, IsFalse, ◌&&◌, not, nat_lt, nat_le, List, [], ◌∷◌, ◌++◌, map, length, Some, None, Contains}
+use Rattle.std.specs.Prelude.{◌≡◌, ℕ, ◌<◌, ◌≤◌, Bool, true, false, IsTrue, IsFalse, ◌&&◌, ◌||◌, not, nat_lt, nat_le, List, [], ◌∷◌, ◌++◌, map, length, Some, None, Contains}
 use Rattle.std.specs.List.{list_any}
 use Rattle.std.specs.Str.{bytes_eq}
 use Rattle.std.proofs.Common.{refl, sym, ap, subst, ◌∙◌, arith}
@@ -212,16 +212,23 @@ takes_line context after line valid some room stands leads = sessions_line _ _ _
 key_within : (context : Context) (key : List ℕ) → is_declared context key ≡ true → IsOneOf (length context.script.config.keys) (number_in (keys_of context) key)
 key_within context key declared = subst (λ n. IsOneOf n (number_in (keys_of context) key)) (length-map context.script.config.keys (λ (key : KeyPlace). key.name)) (number_within (keys_of context) key declared)
 
+-- where a payload is said or an amount is too great, and none is too great, a payload is said
+payload_said_within : (said great full : Bool) → (not said && not great) ≡ false → (great || full) ≡ false → (said ≡ true) × (full ≡ false)
+payload_said_within true great full fits within = (refl, (or_parts great full within).1)
+payload_said_within false true full fits within = absurd cc
+payload_said_within false false full fits within = absurd cc
+
 -- a put
 step_put : (context : Context) (words : List (List ℕ)) → IsValidContext context → IsFaultless context Put words → IsValidContext (next_context context Put words)
 step_put context [] valid fine = absurd (false≢true fine.has)
 step_put context (key ∷ words) valid fine =
     let follows = command_follows context fine.follows in
     let within = key_within context key (not-false _ fine.unknown) in
-    let payload = payload_is (keys_of context) context.script.kinds key words (not-false _ fine.kind) in
-    let kind = payload_kind (keys_of context) context.script.kinds key words (not-false _ fine.kind) in
+    let said = payload_said_within _ _ _ fine.kind fine.limit in
+    let payload = payload_is (keys_of context) context.script.kinds key words said.0 in
+    let kind = payload_kind (keys_of context) context.script.kinds key words said.0 in
     after_workers context Put (key ∷ words) valid valid.version follows.0 (valid.workers follows.0) valid.round valid.keys
-    (takes_line context context.begun (line_said (keys_of context) context.script.kinds context.named Put (key ∷ words)) valid follows.1 fine.limit (within, payload, kind) refl)
+    (takes_line context context.begun (line_said (keys_of context) context.script.kinds context.named Put (key ∷ words)) valid follows.1 said.1 (within, payload, kind) refl)
 
 -- a session that is not causal may name a replica
 may_name : (level : Level) (replicas : List ℕ) (worker : ℕ) → not (is_causal level) ≡ true → Contains replicas worker → MayName level replicas (Some worker)

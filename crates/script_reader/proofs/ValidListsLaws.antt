@@ -27,7 +27,7 @@ use Rattle.placement.specs.Name.{IsName}
 use Rattle.script_reader.specs.Faults.{has_repeat, is_version, is_within}
 use Rattle.script_reader.specs.Said.{place_of, number_in, session_number, payload_for, pins_by, factor_by}
 use Rattle.script_reader.proofs.ValidContext.{AreApart}
-use Rattle.script_reader.specs.Words.{is_spelled, is_value_word, is_numeral, number_of, number_said, word_said, payload_said}
+use Rattle.script_reader.specs.Words.{is_spelled, is_value_word, is_numeral, number_of, number_said, word_said, sign_said, amount_said, payload_said}
 use Rattle.composed_value.specs.Keyed.{kind_at}
 use Rattle.placement.specs.Asked.{replicas_of}
 
@@ -124,10 +124,16 @@ made_kind : {A : Type 0} (make : A → Payload) (kind : Kind) (said : Option A) 
 made_kind make kind None payload each is = absurd cc
 made_kind make kind (Some a) payload each is = sym (ap kind_of (same_Some (make a) payload is)) ∙ each a
 
--- the same of a payload of a field and its number
-field_kind : (field : Option (List ℕ)) (number : Option ℕ) (payload : Payload) → option_and_then (λ name. option_map (payloads.Field name) number) field ≡ Some payload → kind_of payload ≡ kinds.Map
-field_kind None number payload is = absurd cc
-field_kind (Some name) number payload is = made_kind (payloads.Field name) kinds.Map number payload (λ a. refl) is
+-- the same of a payload made of what two words say
+pair_kind : {A B : Type 0} (make : A → B → Payload) (kind : Kind) (first : Option A) (second : Option B) (payload : Payload) → ((a : A) (b : B) → kind_of (make a b) ≡ kind) → option_and_then (λ a. option_map (make a) second) first ≡ Some payload → kind_of payload ≡ kind
+pair_kind make kind None second payload each is = absurd cc
+pair_kind make kind (Some a) second payload each is = made_kind (make a) kind second payload (each a) is
+
+-- and of an insert or a remove of the word that is said
+change_kind : (inserts removes : Bool) (word : Option (List ℕ)) (payload : Payload) → cond inserts (option_map payloads.Insert word) (cond removes (option_map payloads.Remove word) None) ≡ Some payload → kind_of payload ≡ kinds.OrSet
+change_kind true removes word payload is = made_kind payloads.Insert kinds.OrSet word payload (λ a. refl) is
+change_kind false true word payload is = made_kind payloads.Remove kinds.OrSet word payload (λ a. refl) is
+change_kind false false word payload is = absurd cc
 
 -- a payload that words say for a kind is of that kind
 pub said_kind : (kind : Kind) (words : List (List ℕ)) (payload : Payload) → payload_said kind words ≡ Some payload → kind_of payload ≡ kind
@@ -142,7 +148,7 @@ said_kind kinds.Set (value ∷ []) payload is = made_kind payloads.Add kinds.Set
 said_kind kinds.Set (value ∷ other ∷ words) payload is = absurd cc
 said_kind kinds.Map [] payload is = absurd cc
 said_kind kinds.Map (field ∷ []) payload is = absurd cc
-said_kind kinds.Map (field ∷ value ∷ []) payload is = field_kind (word_said field) (number_said value) payload is
+said_kind kinds.Map (field ∷ value ∷ []) payload is = pair_kind payloads.Field kinds.Map (word_said field) (number_said value) payload (λ a b. refl) is
 said_kind kinds.Map (field ∷ value ∷ other ∷ words) payload is = absurd cc
 said_kind kinds.Last [] payload is = absurd cc
 said_kind kinds.Last (value ∷ []) payload is = made_kind payloads.Last kinds.Last (word_said value) payload (λ a. refl) is
@@ -150,6 +156,14 @@ said_kind kinds.Last (value ∷ other ∷ words) payload is = absurd cc
 said_kind kinds.Versions [] payload is = absurd cc
 said_kind kinds.Versions (value ∷ []) payload is = made_kind payloads.Version kinds.Versions (word_said value) payload (λ a. refl) is
 said_kind kinds.Versions (value ∷ other ∷ words) payload is = absurd cc
+said_kind kinds.Counter [] payload is = absurd cc
+said_kind kinds.Counter (sign ∷ []) payload is = absurd cc
+said_kind kinds.Counter (sign ∷ amount ∷ []) payload is = pair_kind payloads.Amount kinds.Counter (sign_said sign) (amount_said amount) payload (λ a b. refl) is
+said_kind kinds.Counter (sign ∷ amount ∷ other ∷ words) payload is = absurd cc
+said_kind kinds.OrSet [] payload is = absurd cc
+said_kind kinds.OrSet (change ∷ []) payload is = absurd cc
+said_kind kinds.OrSet (change ∷ value ∷ []) payload is = change_kind (bytes_eq change (codes "insert")) (bytes_eq change (codes "remove")) (word_said value) payload is
+said_kind kinds.OrSet (change ∷ value ∷ other ∷ words) payload is = absurd cc
 
 -- where words say a payload, it is of the kind
 fits_kind : (kind : Kind) (words : List (List ℕ)) (said : Option Payload) → payload_said kind words ≡ said → is_some said ≡ true → kind_of (unwrap_or said payloads.On) ≡ kind
@@ -189,19 +203,37 @@ said_word word said is =
     let some = cond_some (is_value_word word) word said is in
     subst IsWord some.1 (is_spelling 64 word some.0)
 
--- the payload of a field and its number
-field_payload : (field : Option (List ℕ)) (number : Option ℕ) (payload : Payload) → ((name : List ℕ) → field ≡ Some name → IsWord name) → ((n : ℕ) → number ≡ Some n → n < 2 ^ 64) → option_and_then (λ name. option_map (payloads.Field name) number) field ≡ Some payload → IsPayload payload
-field_payload None number payload is_word is_number is = absurd cc
-field_payload (Some name) number payload is_word is_number is = made_payload (payloads.Field name) number payload (λ n said. (is_word name refl, is_number n said)) is
+-- an amount that a word says has 32 bits
+said_amount : (word : List ℕ) (n : ℕ) → amount_said word ≡ Some n → n < 2 ^ 32
+said_amount word n is = of_number (number_said word) is
+  where
+    of_number : (number : Option ℕ) → option_and_then (λ number. cond (nat_lt number (2 ^ 32)) (Some number) None) number ≡ Some n → n < 2 ^ 32
+    of_number None is = absurd cc
+    of_number (Some number) is =
+        let some = cond_some (nat_lt number (2 ^ 32)) number n is in
+        subst (λ number. number < 2 ^ 32) some.1 (ltb-true _ _ some.0)
+
+-- the payload that two words say
+pair_payload : {A B : Type 0} (make : A → B → Payload) (first : Option A) (second : Option B) (payload : Payload) → ((a : A) (b : B) → first ≡ Some a → second ≡ Some b → IsPayload (make a b)) → option_and_then (λ a. option_map (make a) second) first ≡ Some payload → IsPayload payload
+pair_payload make None second payload each is = absurd cc
+pair_payload make (Some a) second payload each is = made_payload (make a) second payload (λ b said. each a b refl said) is
+
+-- an insert or a remove of the word that is said
+change_payload : (inserts removes : Bool) (word : Option (List ℕ)) (payload : Payload) → ((said : List ℕ) → word ≡ Some said → IsWord said) → cond inserts (option_map payloads.Insert word) (cond removes (option_map payloads.Remove word) None) ≡ Some payload → IsPayload payload
+change_payload true removes word payload is_word is = made_payload payloads.Insert word payload is_word is
+change_payload false true word payload is_word is = made_payload payloads.Remove word payload is_word is
+change_payload false false word payload is_word is = absurd cc
 
 -- a payload that words say is one
 pub said_payload : (kind : Kind) (words : List (List ℕ)) (payload : Payload) → payload_said kind words ≡ Some payload → IsPayload payload
 said_payload kinds.Max (value ∷ []) payload is = made_payload payloads.Max (number_said value) payload (said_number value) is
 said_payload kinds.Or (value ∷ []) payload is = subst IsPayload (cond_some (bytes_eq value (codes "on")) payloads.On payload is).1 tt
 said_payload kinds.Set (value ∷ []) payload is = made_payload payloads.Add (word_said value) payload (said_word value) is
-said_payload kinds.Map (field ∷ value ∷ []) payload is = field_payload (word_said field) (number_said value) payload (said_word field) (said_number value) is
+said_payload kinds.Map (field ∷ value ∷ []) payload is = pair_payload payloads.Field (word_said field) (number_said value) payload (λ name number says writes. (said_word field name says, said_number value number writes)) is
 said_payload kinds.Last (value ∷ []) payload is = made_payload payloads.Last (word_said value) payload (said_word value) is
 said_payload kinds.Versions (value ∷ []) payload is = made_payload payloads.Version (word_said value) payload (said_word value) is
+said_payload kinds.Counter (sign ∷ amount ∷ []) payload is = pair_payload payloads.Amount (sign_said sign) (amount_said amount) payload (λ plus number says writes. said_amount amount number writes) is
+said_payload kinds.OrSet (change ∷ value ∷ []) payload is = change_payload (bytes_eq change (codes "insert")) (bytes_eq change (codes "remove")) (word_said value) payload (said_word value) is
 said_payload kind words payload is = absurd cc
 
 -- where words say a payload, it is one

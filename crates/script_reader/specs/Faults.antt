@@ -13,7 +13,7 @@ use Rattle.session_known.specs.declared.script.SessionPlan.{SessionPlan}
 use Rattle.script_reader.specs.Keywords.{is_factor, is_round, is_command, is_begin, is_boundary}
 use Rattle.script_reader.specs.Lines.{Statement, those, statement_of, statements_of, has_end}
 use Rattle.script_reader.specs.Said.{place_of, is_by_factor, pins_said, factor_said, payload_for, script_said}
-use Rattle.script_reader.specs.Words.{is_name, is_number, has_non_number, number_of, kind_said, level_said, is_payload_too_great}
+use Rattle.script_reader.specs.Words.{is_name, is_number, has_non_number, number_of, kind_said, level_said, says_later_kind, is_payload_too_great, is_amount_too_great}
 use Rattle.script_reader.specs.declared.code.Code.{Code}
 use Rattle.script_reader.specs.declared.code.Code.TheVariants as codes_of
 use Rattle.script_reader.specs.declared.keyword.Keyword.{Keyword}
@@ -147,9 +147,10 @@ suits level Await words = is_causal level
 suits level Get (key ∷ worker ∷ words) = not (is_causal level)
 suits level keyword words = true
 
--- a key has a replication factor of its own from version 2 on: so no such line is one of version 1
+-- From version 2 on a key may have a replication factor of its own, and a kind that version 1 has not: so no such line is one of
+-- version 1.
 abbrev pub is_in_version : ℕ → Keyword → List (List ℕ) → Bool
-is_in_version version Key words = not (is_by_factor words) || nat_le 2 version
+is_in_version version Key words = not (is_by_factor words || says_later_kind (slice_index_or words 1 [])) || nat_le 2 version
 is_in_version version keyword words = true
 
 abbrev pub lacks_word : Context → Keyword → List (List ℕ) → Bool
@@ -201,10 +202,14 @@ is_unknown context Get (key ∷ worker ∷ words) = not (is_declared context key
 is_unknown context Await (key ∷ session ∷ words) = not (is_declared context key && is_some (place_of context.named session))
 is_unknown context keyword words = false
 
+-- the payload is an amount that fits the key's kind, and says too much
+abbrev pub has_great_amount : Context → List ℕ → List (List ℕ) → Bool
+has_great_amount context key words = option_map_or (λ kind. is_amount_too_great kind words) (kind_of_key context key) false
+
 -- ---- kind: the payload does not fit the key's kind
 
 abbrev pub misfits : Context → Keyword → List (List ℕ) → Bool
-misfits context Put (key ∷ words) = not (is_some (payload_for (keys_of context) context.script.kinds key words))
+misfits context Put (key ∷ words) = not (is_some (payload_for (keys_of context) context.script.kinds key words)) && not (has_great_amount context key words)
 misfits context keyword words = false
 
 -- ---- limit: a number out of its range, or a line too many
@@ -214,6 +219,7 @@ passes_limit context Workers (number ∷ words) = not (is_within 1 8 (number_of 
 passes_limit context Factor (number ∷ words) = not (is_within 1 context.script.config.workers (number_of number))
 passes_limit context Round (number ∷ words) = not (is_within 1 64 (number_of number))
 passes_limit context Key words = nat_le 128 (length context.script.config.keys) || option_map_or (λ factor. not (is_within 1 context.script.config.workers factor)) (factor_said words) false
+passes_limit context Put (key ∷ words) = has_great_amount context key words || nat_le 4096 (commands_of context)
 passes_limit context Session words = nat_le 16 (length context.script.sessions)
 passes_limit context keyword words = is_command keyword && nat_le 4096 (commands_of context)
 

@@ -1,8 +1,8 @@
 -- What a word of a line can be: a name, a number, a word of a value, a kind, a level.
-use Rattle.std.specs.Prelude.{◌≡◌, ℕ, ◌^◌, Bool, false, ◌&&◌, not, nat_lt, nat_le, if◌then◌else◌, List, [], ◌∷◌, map, length, codes, Option, Some, None, is_some, unwrap_or}
+use Rattle.std.specs.Prelude.{◌≡◌, ℕ, ◌^◌, Bool, true, false, ◌&&◌, not, nat_lt, nat_le, if◌then◌else◌, List, [], ◌∷◌, map, length, codes, Option, Some, None, is_some, unwrap_or}
 use Rattle.std.specs.List.{list_all, list_any}
 use denote.Ref.{Bor}
-use Rattle.std.specs.Option.{option_map, option_and_then}
+use Rattle.std.specs.Option.{option_map, option_map_or, option_and_then}
 use Rattle.std.specs.Str.{bytes_eq, all_ascii_digits}
 use Rattle.std.specs.Str.Parse.{digits_value}
 use Rattle.lattice_laws.specs.Spelling.{is_spelling_byte}
@@ -62,7 +62,18 @@ kind_said word =
     (if bytes_eq word (codes "set") then Some kinds.Set else
     (if bytes_eq word (codes "map") then Some kinds.Map else
     (if bytes_eq word (codes "last") then Some kinds.Last else
-    (if bytes_eq word (codes "versions") then Some kinds.Versions else None)))))
+    (if bytes_eq word (codes "versions") then Some kinds.Versions else
+    (if bytes_eq word (codes "counter") then Some kinds.Counter else
+    (if bytes_eq word (codes "orset") then Some kinds.OrSet else None)))))))
+
+-- the kinds that there are from version 2 on
+abbrev pub is_later_kind : Kind → Bool
+is_later_kind kinds.Counter = true
+is_later_kind kinds.OrSet = true
+is_later_kind kind = false
+
+abbrev pub says_later_kind : List ℕ → Bool
+says_later_kind word = option_map_or is_later_kind (kind_said word) false
 
 abbrev pub level_said : List ℕ → Option Level
 level_said word =
@@ -74,6 +85,20 @@ level_said word =
 abbrev pub word_said : List ℕ → Option (List ℕ)
 word_said word = if is_value_word word then Some word else None
 
+-- whether a word adds an amount or takes it
+abbrev pub sign_said : List ℕ → Option Bool
+sign_said word = if bytes_eq word (codes "add") then Some true else (if bytes_eq word (codes "sub") then Some false else None)
+
+-- the amount that a word writes: a number of at most 4294967295
+abbrev pub amount_said : List ℕ → Option ℕ
+amount_said word = option_and_then (λ number. if nat_lt number (2 ^ 32) then Some number else None) (number_said word)
+
+-- whether a word puts another into a set or takes it out, and what is put then
+abbrev pub change_said : List ℕ → List ℕ → Option Payload
+change_said change value =
+    if bytes_eq change (codes "insert") then option_map payloads.Insert (word_said value) else
+    (if bytes_eq change (codes "remove") then option_map payloads.Remove (word_said value) else None)
+
 -- the payload that the words after `put KEY` say, where they fit the key's kind
 abbrev pub payload_said : Kind → List (List ℕ) → Option Payload
 payload_said kinds.Max (value ∷ []) = option_map payloads.Max (number_said value)
@@ -82,10 +107,18 @@ payload_said kinds.Set (value ∷ []) = option_map payloads.Add (word_said value
 payload_said kinds.Map (field ∷ value ∷ []) = option_and_then (λ name. option_map (payloads.Field name) (number_said value)) (word_said field)
 payload_said kinds.Last (value ∷ []) = option_map payloads.Last (word_said value)
 payload_said kinds.Versions (value ∷ []) = option_map payloads.Version (word_said value)
+payload_said kinds.Counter (sign ∷ amount ∷ []) = option_and_then (λ plus. option_map (payloads.Amount plus) (amount_said amount)) (sign_said sign)
+payload_said kinds.OrSet (change ∷ value ∷ []) = change_said change value
 payload_said kind words = None
 
 -- the number of the payload says more than a number may
 abbrev pub is_payload_too_great : Kind → List (List ℕ) → Bool
 is_payload_too_great kinds.Max (value ∷ []) = is_too_great value
 is_payload_too_great kinds.Map (field ∷ value ∷ []) = is_too_great value
+is_payload_too_great kinds.Counter (sign ∷ amount ∷ []) = is_some (sign_said sign) && is_too_great amount
 is_payload_too_great kind words = false
+
+-- the amount that is added or taken is a number, and says more than an amount may
+abbrev pub is_amount_too_great : Kind → List (List ℕ) → Bool
+is_amount_too_great kinds.Counter (sign ∷ amount ∷ []) = is_some (sign_said sign) && option_map_or (λ number. nat_le (2 ^ 32) number) (number_said amount) false
+is_amount_too_great kind words = false

@@ -12,6 +12,7 @@ use crate::code::Code;
 use crate::entry::{Bare, Entry, tell_apart};
 use crate::keyword::Keyword;
 use crate::names::Names;
+use crate::words::is_later_kind;
 use composed_value::Kind;
 use lattice_laws::{Items, NoMemory};
 use placement::{Config, Placement};
@@ -259,7 +260,10 @@ fn is_in_version(version: u16, keyword: Keyword, words: &[&[u8]]) -> bool
     ensures { result ≡ in_version version keyword (texts words.now) }
 {
     match (keyword, words) {
-        (Keyword::Key, [_, _, by, ..]) => *by != b"factor".as_slice() || version >= 2,
+        (Keyword::Key, [_, kind, by, ..]) => {
+            version >= 2 || !is_later_kind(kind) && *by != b"factor".as_slice()
+        }
+        (Keyword::Key, [_, kind]) => version >= 2 || !is_later_kind(kind),
         _ => true,
     }
 }

@@ -1,7 +1,7 @@
 //! What a word of a line can be.
-ghost use Rattle.std.specs.Prelude.{◌≡◌, ◌++◌, IfOk};
+ghost use Rattle.std.specs.Prelude.{◌≡◌, IfOk};
 ghost use Rattle.script_reader.specs.Lines.{words_of as all_words};
-ghost use Rattle.script_reader.specs.Words.{is_spelled, is_numeral as digits_alone, number_said, is_too_great as says_too_much, kind_said, level_said, texts};
+ghost use Rattle.script_reader.specs.Words.{is_spelled, is_numeral as digits_alone, number_said, is_too_great as says_too_much, kind_said, says_later_kind, level_said, texts};
 
 use composed_value::Kind;
 use lattice_laws::{NoMemory, test_spelling};
@@ -63,8 +63,17 @@ pub(crate) fn kind(word: &[u8]) -> Option<Kind>
         b"map" => Some(Kind::Map),
         b"last" => Some(Kind::Last),
         b"versions" => Some(Kind::Versions),
+        b"counter" => Some(Kind::Counter),
+        b"orset" => Some(Kind::OrSet),
         _ => None,
     }
+}
+
+/// Whether a word names a kind that there is from version 2 on.
+pub(crate) fn is_later_kind(word: &[u8]) -> bool
+    ensures { result ≡ says_later_kind word.now }
+{
+    matches!(kind(word), Some(Kind::Counter | Kind::OrSet))
 }
 
 /// The level that a word names.

@@ -1,3 +1,4 @@
+pub mod AcceptedLemmas
 pub mod CoversLemmas
 pub mod FormLemmas
 pub mod KnownLemmas

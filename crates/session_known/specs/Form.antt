@@ -1,6 +1,6 @@
 -- When a report has a script's form: it could be the answer to this script, whether or not it is lawful. Numbers of puts, Lamport
 -- numbers and counts have 64 bits, numbers of held puts and of asks 32.
-use Rattle.std.specs.Prelude.{◌≡◌, ℕ, ◌<◌, ◌^◌, ◌==◌, List, length, map, filter, flat_map, Option, Some, None, All, ⊤}
+use Rattle.std.specs.Prelude.{◌≡◌, ℕ, ◌<◌, ◌≤◌, ◌^◌, ◌==◌, List, length, map, filter, flat_map, Option, Some, None, All, ⊤}
 use Rattle.std.specs.List.{AllZip, list_any, range_with_len}
 use Rattle.lattice_laws.specs.declared.maybe.Maybe.TheVariants.{Is}
 use Rattle.clock_lattice.specs.Clock.{IsClock}
@@ -38,13 +38,21 @@ pub record IsClockIn (script : Script) (clock : List (ℕ × ℕ)) : Type 0 wher
 abbrev pub ValueNamesSessions : Script → Value → Type 0
 ValueNamesSessions script (values.Last (Is stamped)) = IsOneOf (length script.sessions) stamped.session
 ValueNamesSessions script (values.Versions versions) = All (λ version. NamesSessions script version.clock) versions
+ValueNamesSessions script (values.Counter sums) = All (λ entry. IsOneOf (length script.sessions) entry.0.session) sums
+ValueNamesSessions script (values.OrSet set) = All (λ insert. IsOneOf (length script.sessions) insert.dot.session) set.inserts × All (λ removal. NamesSessions script removal.1) set.removals
 ValueNamesSessions script value = ⊤
+
+-- a counter has no more dots than a script has commands
+abbrev pub HasFewDots : Value → Type 0
+HasFewDots (values.Counter sums) = length sums ≤ 4096
+HasFewDots value = ⊤
 
 -- a value in form
 pub record IsValueIn (script : Script) (kind : Kind) (value : Value) : Type 0 where
   pub is_value : IsValue value
   pub of_kind : kind_of_value value ≡ kind
   pub sessions : ValueNamesSessions script value
+  pub few : HasFewDots value
 
 -- needs in form
 pub record AreNeedsIn (script : Script) (needs : List (ℕ × List (ℕ × ℕ))) : Type 0 where

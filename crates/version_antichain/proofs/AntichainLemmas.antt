@@ -10,9 +10,9 @@ use Rattle.std.specs.Ordering.{is_eq}
 use Rattle.std.specs.Cmp.{IsTotalOrder, Equal-is}
 use Rattle.std.specs.FinMap.{IsAntisymmetric}
 use Rattle.lattice_laws.specs.Sets.{has, united}
-use Rattle.lattice_laws.specs.SetsLaws.{united_is_set, has-united, same_sets}
+use Rattle.lattice_laws.specs.SetsLaws.{united_is_set, has-united, same_sets, has-filter, has_cases, has_first, has_later, list_any-from_has, has-from_list_any, list_any-united}
 use Rattle.version_antichain.specs.Antichain.{IsStrictOrder, maximal, IsAntichain, joined_antichains}
-use Rattle.version_antichain.specs.AntichainLaws.{has_cases, has_first, has_later, has-filter, list_any-from_has, has-from_list_any, list_any-united, is_maximal, below_some_maximal, maximal_is_set}
+use Rattle.version_antichain.specs.AntichainLaws.{is_maximal, below_some_maximal, maximal_is_set}
 
 -- a member of the first is in the second or below one of its members
 abbrev pub is_within : {E : Type 0} → (E → E → Ordering) → (E → E → Bool) → List E → E → Bool

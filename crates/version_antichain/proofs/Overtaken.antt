@@ -8,9 +8,8 @@ use Rattle.std.specs.declared.cmp.Ordering.{Ordering}
 use Rattle.std.specs.FinMap.{is_sorted}
 use Rattle.lattice_laws.specs.Entries.{plain_entries, joined_maps}
 use Rattle.lattice_laws.specs.Sets.{as_map, keys_of, has, united}
-use Rattle.lattice_laws.specs.SetsLaws.{keys_of-as_map}
+use Rattle.lattice_laws.specs.SetsLaws.{keys_of-as_map, has-cons}
 use Rattle.version_antichain.specs.Antichain.{IsStrictOrder, maximal, joined_antichains}
-use Rattle.version_antichain.specs.AntichainLaws.{has-cons}
 use Rattle.version_antichain.proofs.AntichainLemmas.{is_within}
 
 -- the keys of entries

@@ -94,7 +94,7 @@ apart_is_legal = record {
         (
           (lit< tt, lit< tt),
           (
-            record { worker_is = (lit≤ tt, lit≤ tt); clock_is = apart_clock_one; top_fits = lit< tt; value_is = record { is_value = lit< tt; of_kind = refl; sessions = tt }; needs_are = apart_needs },
+            record { worker_is = (lit≤ tt, lit≤ tt); clock_is = apart_clock_one; top_fits = lit< tt; value_is = record { is_value = lit< tt; of_kind = refl; sessions = tt; few = tt }; needs_are = apart_needs },
             (apart_again_a, (apart_again_a, tt)),
           ),
         ),
@@ -103,11 +103,11 @@ apart_is_legal = record {
     );
     places = refl;
     finals = All-from_recursion (IsFinalIn apart_script) apart_report.finals (
-      record { clock_is = apart_clock_both; top_fits = lit< tt; value_is = record { is_value = lit< tt; of_kind = refl; sessions = tt } },
+      record { clock_is = apart_clock_both; top_fits = lit< tt; value_is = record { is_value = lit< tt; of_kind = refl; sessions = tt; few = tt } },
       (
-        record { clock_is = apart_clock_both; top_fits = lit< tt; value_is = record { is_value = lit< tt; of_kind = refl; sessions = tt } },
+        record { clock_is = apart_clock_both; top_fits = lit< tt; value_is = record { is_value = lit< tt; of_kind = refl; sessions = tt; few = tt } },
         (
-          record { clock_is = apart_clock_one; top_fits = lit< tt; value_is = record { is_value = lit< tt; of_kind = refl; sessions = tt } },
+          record { clock_is = apart_clock_one; top_fits = lit< tt; value_is = record { is_value = lit< tt; of_kind = refl; sessions = tt; few = tt } },
           tt,
         ),
       ),

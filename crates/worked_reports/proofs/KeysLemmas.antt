@@ -52,9 +52,9 @@ keys_is_legal = record {
       (
         (lit< tt, lit< tt),
         (
-          record { worker_is = (lit≤ tt, lit≤ tt); clock_is = keys_clock_a; top_fits = lit< tt; value_is = record { is_value = lit< tt; of_kind = refl; sessions = tt }; needs_are = tt },
+          record { worker_is = (lit≤ tt, lit≤ tt); clock_is = keys_clock_a; top_fits = lit< tt; value_is = record { is_value = lit< tt; of_kind = refl; sessions = tt; few = tt }; needs_are = tt },
           (
-            record { worker_is = (lit≤ tt, lit≤ tt); clock_is = keys_clock_l; top_fits = lit< tt; value_is = record { is_value = tt; of_kind = refl; sessions = tt }; needs_are = tt },
+            record { worker_is = (lit≤ tt, lit≤ tt); clock_is = keys_clock_l; top_fits = lit< tt; value_is = record { is_value = tt; of_kind = refl; sessions = tt; few = tt }; needs_are = tt },
             (tt, ((lit< tt, lit< tt, λ none. refl), tt)),
           ),
         ),
@@ -63,9 +63,9 @@ keys_is_legal = record {
     );
     places = refl;
     finals = All-from_recursion (IsFinalIn keys_script) keys_report.finals (
-      record { clock_is = keys_clock_a; top_fits = lit< tt; value_is = record { is_value = lit< tt; of_kind = refl; sessions = tt } },
+      record { clock_is = keys_clock_a; top_fits = lit< tt; value_is = record { is_value = lit< tt; of_kind = refl; sessions = tt; few = tt } },
       (
-        record { clock_is = keys_clock_l; top_fits = lit< tt; value_is = record { is_value = tt; of_kind = refl; sessions = tt } },
+        record { clock_is = keys_clock_l; top_fits = lit< tt; value_is = record { is_value = tt; of_kind = refl; sessions = tt; few = tt } },
         tt,
       ),
     );

@@ -135,9 +135,9 @@ first_sound = sound_by_cell kinds.Max (puts_on 1 (accepted first_script first_re
 pub first_is_legal : IsLegalAt first_table first_script first_report
 first_is_legal = record {
   form = record {
-    answers = (((lit< tt, lit< tt), ((lit< tt, lit< tt), (record { worker_is = (lit≤ tt, lit≤ tt); clock_is = first_clock; top_fits = lit< tt; value_is = record { is_value = lit< tt; of_kind = refl; sessions = tt }; needs_are = tt }, tt))), tt);
+    answers = (((lit< tt, lit< tt), ((lit< tt, lit< tt), (record { worker_is = (lit≤ tt, lit≤ tt); clock_is = first_clock; top_fits = lit< tt; value_is = record { is_value = lit< tt; of_kind = refl; sessions = tt; few = tt }; needs_are = tt }, tt))), tt);
     places = refl;
-    finals = All-from_recursion (IsFinalIn first_script) first_report.finals (record { clock_is = first_clock; top_fits = lit< tt; value_is = record { is_value = lit< tt; of_kind = refl; sessions = tt } }, tt);
+    finals = All-from_recursion (IsFinalIn first_script) first_report.finals (record { clock_is = first_clock; top_fits = lit< tt; value_is = record { is_value = lit< tt; of_kind = refl; sessions = tt; few = tt } }, tt);
   };
   answers = (
     (
@@ -220,11 +220,11 @@ home_is_legal = record {
       (
         (lit< tt, lit< tt),
         (
-          record { worker_is = (lit≤ tt, lit≤ tt); clock_is = home_clock_one; top_fits = lit< tt; value_is = record { is_value = home_set_one; of_kind = refl; sessions = tt }; needs_are = tt },
+          record { worker_is = (lit≤ tt, lit≤ tt); clock_is = home_clock_one; top_fits = lit< tt; value_is = record { is_value = home_set_one; of_kind = refl; sessions = tt; few = tt }; needs_are = tt },
           (
             (lit< tt, lit< tt),
             (
-              record { worker_is = (lit≤ tt, lit≤ tt); clock_is = home_clock_both; top_fits = lit< tt; value_is = record { is_value = home_set_both; of_kind = refl; sessions = tt }; needs_are = tt },
+              record { worker_is = (lit≤ tt, lit≤ tt); clock_is = home_clock_both; top_fits = lit< tt; value_is = record { is_value = home_set_both; of_kind = refl; sessions = tt; few = tt }; needs_are = tt },
               tt,
             ),
           ),
@@ -234,9 +234,9 @@ home_is_legal = record {
     );
     places = refl;
     finals = All-from_recursion (IsFinalIn home_script) home_report.finals (
-      record { clock_is = home_clock_both; top_fits = lit< tt; value_is = record { is_value = home_set_both; of_kind = refl; sessions = tt } },
+      record { clock_is = home_clock_both; top_fits = lit< tt; value_is = record { is_value = home_set_both; of_kind = refl; sessions = tt; few = tt } },
       (
-        record { clock_is = home_clock_both; top_fits = lit< tt; value_is = record { is_value = home_set_both; of_kind = refl; sessions = tt } },
+        record { clock_is = home_clock_both; top_fits = lit< tt; value_is = record { is_value = home_set_both; of_kind = refl; sessions = tt; few = tt } },
         tt,
       ),
     );
@@ -321,7 +321,7 @@ commit_is_legal = record {
                     (
                       (lit< tt, lit< tt, λ none. absurd (omega (arith, none))),
                       (
-                        record { worker_is = (lit≤ tt, lit≤ tt); clock_is = commit_clock; top_fits = lit< tt; value_is = record { is_value = red_is_stamped; of_kind = refl; sessions = (lit≤ tt, lit≤ tt) }; needs_are = tt },
+                        record { worker_is = (lit≤ tt, lit≤ tt); clock_is = commit_clock; top_fits = lit< tt; value_is = record { is_value = red_is_stamped; of_kind = refl; sessions = (lit≤ tt, lit≤ tt); few = tt }; needs_are = tt },
                         tt,
                       ),
                     ),
@@ -336,9 +336,9 @@ commit_is_legal = record {
     );
     places = refl;
     finals = All-from_recursion (IsFinalIn commit_script) commit_report.finals (
-      record { clock_is = commit_clock; top_fits = lit< tt; value_is = record { is_value = lit< tt; of_kind = refl; sessions = tt } },
+      record { clock_is = commit_clock; top_fits = lit< tt; value_is = record { is_value = lit< tt; of_kind = refl; sessions = tt; few = tt } },
       (
-        record { clock_is = commit_clock; top_fits = lit< tt; value_is = record { is_value = red_is_stamped; of_kind = refl; sessions = (lit≤ tt, lit≤ tt) } },
+        record { clock_is = commit_clock; top_fits = lit< tt; value_is = record { is_value = red_is_stamped; of_kind = refl; sessions = (lit≤ tt, lit≤ tt); few = tt } },
         tt,
       ),
     );
@@ -455,13 +455,13 @@ causal_is_legal = record {
       (
         (lit< tt, lit< tt),
         (
-          record { worker_is = (lit≤ tt, lit≤ tt); clock_is = causal_clock_b; top_fits = lit< tt; value_is = record { is_value = lit< tt; of_kind = refl; sessions = tt }; needs_are = causal_needs_b },
+          record { worker_is = (lit≤ tt, lit≤ tt); clock_is = causal_clock_b; top_fits = lit< tt; value_is = record { is_value = lit< tt; of_kind = refl; sessions = tt; few = tt }; needs_are = causal_needs_b },
           ((lit< tt, lit< tt), tt),
         ),
       ),
       (
         (
-          record { worker_is = (lit≤ tt, lit≤ tt); clock_is = causal_clock_a; top_fits = lit< tt; value_is = record { is_value = lit< tt; of_kind = refl; sessions = tt }; needs_are = causal_needs_a },
+          record { worker_is = (lit≤ tt, lit≤ tt); clock_is = causal_clock_a; top_fits = lit< tt; value_is = record { is_value = lit< tt; of_kind = refl; sessions = tt; few = tt }; needs_are = causal_needs_a },
           ((lit< tt, lit< tt), tt),
         ),
         tt,
@@ -469,9 +469,9 @@ causal_is_legal = record {
     );
     places = refl;
     finals = All-from_recursion (IsFinalIn causal_script) causal_report.finals (
-      record { clock_is = causal_clock_a_both; top_fits = lit< tt; value_is = record { is_value = lit< tt; of_kind = refl; sessions = tt } },
+      record { clock_is = causal_clock_a_both; top_fits = lit< tt; value_is = record { is_value = lit< tt; of_kind = refl; sessions = tt; few = tt } },
       (
-        record { clock_is = causal_clock_b; top_fits = lit< tt; value_is = record { is_value = lit< tt; of_kind = refl; sessions = tt } },
+        record { clock_is = causal_clock_b; top_fits = lit< tt; value_is = record { is_value = lit< tt; of_kind = refl; sessions = tt; few = tt } },
         tt,
       ),
     );

@@ -83,7 +83,7 @@ versions_is_legal = record {
       ((lit< tt, lit< tt), tt),
       (
         (
-          record { worker_is = (lit≤ tt, lit≤ tt); clock_is = versions_clock_x; top_fits = lit< tt; value_is = record { is_value = versions_x; of_kind = refl; sessions = All-from_recursion (λ (version : Version). NamesSessions versions_script version.clock) (version_x ∷ []) (versions_clock_x.sessions, tt) }; needs_are = tt },
+          record { worker_is = (lit≤ tt, lit≤ tt); clock_is = versions_clock_x; top_fits = lit< tt; value_is = record { is_value = versions_x; of_kind = refl; sessions = All-from_recursion (λ (version : Version). NamesSessions versions_script version.clock) (version_x ∷ []) (versions_clock_x.sessions, tt); few = tt }; needs_are = tt },
           ((lit< tt, lit< tt), tt),
         ),
         tt,
@@ -91,7 +91,7 @@ versions_is_legal = record {
     );
     places = refl;
     finals = All-from_recursion (IsFinalIn versions_script) versions_report.finals (
-      record { clock_is = versions_clock_y; top_fits = lit< tt; value_is = record { is_value = versions_y; of_kind = refl; sessions = All-from_recursion (λ (version : Version). NamesSessions versions_script version.clock) (version_y ∷ []) (versions_clock_y.sessions, tt) } },
+      record { clock_is = versions_clock_y; top_fits = lit< tt; value_is = record { is_value = versions_y; of_kind = refl; sessions = All-from_recursion (λ (version : Version). NamesSessions versions_script version.clock) (version_y ∷ []) (versions_clock_y.sessions, tt); few = tt } },
       tt,
     );
   };

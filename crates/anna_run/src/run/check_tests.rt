@@ -1,5 +1,5 @@
 //! Reports that are checked, over memory.
-use super::tests::CONVERGED;
+use super::tests::{CONVERGED, COUNTED};
 use super::*;
 use outside::{MemSink, MemSource, SureSink, SureSource};
 use party_run::FreeGate;
@@ -21,6 +21,13 @@ const HELD: Worked = (
 const STALE: Worked = (
     tests::STALE,
     "anna report 1\nsession s eventual\nput a 1 at 1\nget a @2 clock - top 0 value none\nfinal\na @1 clock s:1 top 1 value 5\na @2 clock s:1 top 1 value 5\nend\n",
+);
+
+/// A word is removed by one session while another inserts it again: the remove had seen the first insert
+/// alone.
+const REMOVED: Worked = (
+    "anna 2\nworkers 2\nkey w orset at 1 2\nsession s eventual\nput w insert milk\nput w insert milk\nsession t eventual\nget w\nput w remove milk\nend\n",
+    "anna report 2\nkey w orset on 1 2\nsession s eventual\nput w 1 at 1\nput w 2 at 2\nsession t eventual\nget w @2 clock s:1 top 1 value {milk@s:1;}\nput w 1 at 2\nfinal\nw @1 clock s:2,t:1 top 2 value {milk@s:2;milk(s:1,t:1)}\nw @2 clock s:2,t:1 top 2 value {milk@s:2;milk(s:1,t:1)}\nend\n",
 );
 
 /// Runs `check` on an input, and says how it ended and what was written.
@@ -97,6 +104,42 @@ fn the_first_unlawful_final_cell_is_told(rt: HostRuntime) -> Result<(), Fail> {
     let lesser = (9, "a @2 clock s:1,t:2 top 2 value 4");
     let want = "unlawful final a @2\n";
     assert!(rt; is_judged(&rt, alloc, CONVERGED, &[lesser], want)?);
+    Ok(())
+}
+
+#[test]
+fn counters_and_sets_with_removal_are_judged(rt: HostRuntime) -> Result<(), Fail> {
+    let alloc = rt.alloc();
+    assert!(rt; is_judged(&rt, alloc, COUNTED, &[], "legal\n")?);
+    // The same total of other amounts.
+    let other = (7, "get c @1 clock s:2 top 2 value 2{s:1+3-0,s:2+0-1}");
+    let want = "unlawful session s command 3\n";
+    assert!(rt; is_judged(&rt, alloc, COUNTED, &[other], want)?);
+    // An insert that the remove had seen.
+    let back = (
+        14,
+        "w @1 clock s:3 top 5 value {milk@s:1,milk@s:3;milk(s:2)}",
+    );
+    let (status, _) = check_on(&rt, alloc, input_of(alloc, COUNTED, &[back])?)?;
+    assert_eq!(rt; status, Status::Refused);
+    // No trace of the remove.
+    let forgotten = (14, "w @1 clock s:3 top 5 value {milk@s:1,milk@s:3;}");
+    let want = "unlawful final w @1\n";
+    assert!(rt; is_judged(&rt, alloc, COUNTED, &[forgotten], want)?);
+
+    assert!(rt; is_judged(&rt, alloc, REMOVED, &[], "legal\n")?);
+    // The remove had not seen the second insert, whose session has put it before: it is there.
+    let gone = (10, "w @1 clock s:2,t:1 top 2 value {;milk(s:1,t:1)}");
+    let want = "unlawful final w @1\n";
+    assert!(rt; is_judged(&rt, alloc, REMOVED, &[gone], want)?);
+    // It may have seen both.
+    let seen = [
+        (7, "get w @2 clock s:2 top 2 value {milk@s:1,milk@s:2;}"),
+        (8, "put w 1 at 3"),
+        (10, "w @1 clock s:2,t:1 top 3 value {;milk(s:2,t:1)}"),
+        (11, "w @2 clock s:2,t:1 top 3 value {;milk(s:2,t:1)}"),
+    ];
+    assert!(rt; is_judged(&rt, alloc, REMOVED, &seen, "legal\n")?);
     Ok(())
 }
 

@@ -125,14 +125,22 @@ pub(super) const CONVERGED: (&str, &str) = (
     "anna report 1\nsession s eventual\nput a 1 at 1\nsession t eventual\nput a 1 at 1\nput a 2 at 2\nfinal\na @1 clock s:1,t:2 top 2 value 9\na @2 clock s:1,t:2 top 2 value 9\nend\n",
 );
 
+/// A counter, and a set that a word is removed from.
+pub(super) const COUNTED: (&str, &str) = (
+    "anna 2\nworkers 1\nkey c counter\nkey w orset\nsession s eventual\nput c add 5\nput c sub 3\nget c\nput w insert milk\nput w remove milk\nput w insert milk\nget w\nend\n",
+    "anna report 2\nkey c counter on 1\nkey w orset on 1\nsession s eventual\nput c 1 at 1\nput c 2 at 2\nget c @1 clock s:2 top 2 value 2{s:1+5-0,s:2+0-3}\nput w 1 at 3\nput w 2 at 4\nput w 3 at 5\nget w @1 clock s:3 top 5 value {milk@s:3;milk(s:2)}\nfinal\nc @1 clock s:2 top 2 value 2{s:1+5-0,s:2+0-3}\nw @1 clock s:3 top 5 value {milk@s:3;milk(s:2)}\nend\n",
+);
+
 /// Scripts whose reports are the same on every schedule, and those reports.
-const SETTLED: [(&str, &str); 7] = [
+const SETTLED: [(&str, &str); 8] = [
     CONVERGED,
     // A key has a factor of its own.
     (
         "anna 2\nworkers 2\nfactor 1\nkey a max factor 2\nkey b max at 2\nsession s eventual\nput a 5\nput b 6\nend\n",
         "anna report 2\nkey a max on 1 2\nkey b max on 2\nsession s eventual\nput a 1 at 1\nput b 1 at 2\nfinal\na @1 clock s:1 top 1 value 5\na @2 clock s:1 top 1 value 5\nb @2 clock s:1 top 2 value 6\nend\n",
     ),
+    // A counter has the sum of what was added and taken, and a remove takes away what it had seen.
+    COUNTED,
     // A session is shown by its home what it put there before, and nothing that it puts later.
     (
         "anna 1\nworkers 2\nkey a set at 2 1\nsession s eventual\nput a x\nget a\nput a y\nget a\nend\n",

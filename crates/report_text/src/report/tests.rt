@@ -1,4 +1,6 @@
 //! Lines of cells as they are written.
+ghost use Rattle.std.specs.Prelude.{IfOk};
+ghost use Rattle.session_known.specs.Form.{HasFewDots};
 
 use super::*;
 use basic_lattices::Word;
@@ -12,7 +14,9 @@ use std::test::Fail;
 use version_antichain::Versions;
 
 /// A cell of versions: one of two puts of the first session, and one of a put of the second.
-fn versions_cell(alloc: Global) -> Result<FinalCell, Fail> {
+fn versions_cell(alloc: Global) -> Result<FinalCell, Fail>
+    ensures { IfOk result (λ cell. HasFewDots cell.value) }
+{
     let mut one_put = Clock::new(alloc);
     one_put.raise(2, 1)?;
     let mut two_puts = Clock::new(alloc);

@@ -169,6 +169,106 @@ fn refuses_factors_of_keys(rt: HostRuntime) -> Result<(), Fail> {
 }
 
 #[test]
+fn refuses_kinds_of_version_2_in_version_1(rt: HostRuntime) -> Result<(), Fail> {
+    // The third line of a script of two workers, and its code in versions 1 and 2.
+    let cases = [
+        ("key a counter", Some(2), None),
+        ("key a orset at 2", Some(2), None),
+        ("key a+ counter at x", Some(2), Some(3)),
+        ("key a orset factor 3", Some(2), Some(8)),
+        ("key a Counter", Some(2), Some(2)),
+        ("key a max", None, None),
+    ];
+    for (line, first, second) in cases {
+        for (version, code) in [(1, first), (2, second)] {
+            let text = format!(in rt.alloc(); "anna {version}\nworkers 2\n{line}\nend\n")?;
+            let fault = read_script(rt.alloc(), text.as_bytes()).err();
+            assert_eq!(rt; fault, code.and_then(|code| refusal(3, code)), "{line:?}");
+        }
+    }
+    Ok(())
+}
+
+#[test]
+fn refuses_puts_on_counters_and_sets_with_removal(rt: HostRuntime) -> Result<(), Fail> {
+    // The sixth line of a script of a counter and a set with removal, and its code.
+    let cases = [
+        ("put c add 18446744073709551616", 3),
+        ("put c sub 099999999999999999999", 3),
+        ("put c by 18446744073709551616", 7),
+        ("put c 18446744073709551616", 7),
+        ("put c add x", 7),
+        ("put c add -1", 7),
+        ("put c Add 1", 7),
+        ("put c 5", 7),
+        ("put c add 4294967296", 8),
+        ("put c sub 18446744073709551615", 8),
+        ("put d sub 18446744073709551615", 6),
+        ("put w insert a+", 7),
+        ("put w insert 18446744073709551616", 0),
+        ("put w delete a", 7),
+        ("put w a", 7),
+        ("put w insert a b", 2),
+    ];
+    for (line, code) in cases {
+        let text = format!(in rt.alloc();
+            "anna 2\nworkers 1\nkey c counter\nkey w orset\nsession s eventual\n{line}\nend\n"
+        )?;
+        let want = if code == 0 { None } else { refusal(6, code) };
+        assert_eq!(rt;
+            read_script(rt.alloc(), text.as_bytes()).err(),
+            want,
+            "{line:?}"
+        );
+    }
+    Ok(())
+}
+
+#[test]
+fn reads_puts_on_counters_and_sets_with_removal(rt: HostRuntime) -> Result<(), Fail> {
+    let text =
+        "anna 2\nworkers 1\nkey c counter\nkey w orset\nsession s eventual\nput c add 4294967295\nput c sub 0003\nput w insert add\nput w remove 7\nend\n";
+    let script = read_script(rt.alloc(), text.as_bytes())?;
+    assert_eq!(rt;
+        script.kinds.as_slice(),
+        [Kind::Counter, Kind::OrSet].as_slice()
+    );
+    let [session] = script.sessions.as_slice() else {
+        return Err("one session".into());
+    };
+    let [added, taken, inserted, removed] = session.lines.as_slice() else {
+        return Err("four puts".into());
+    };
+    for (line, adds, by) in [(added, true, u32::MAX), (taken, false, 3)] {
+        let Line::Put {
+            key: 1,
+            payload: Payload::Amount { plus, amount },
+        } = line
+        else {
+            return Err("a put on the counter".into());
+        };
+        assert_eq!(rt; (*plus, *amount), (adds, by));
+    }
+    let Line::Put {
+        key: 2,
+        payload: Payload::Insert(word),
+    } = inserted
+    else {
+        return Err("an insert".into());
+    };
+    assert_eq!(rt; word.as_bytes(), b"add".as_slice());
+    let Line::Put {
+        key: 2,
+        payload: Payload::Remove(word),
+    } = removed
+    else {
+        return Err("a remove".into());
+    };
+    assert_eq!(rt; word.as_bytes(), b"7".as_slice());
+    Ok(())
+}
+
+#[test]
 fn reads_factors_of_keys(rt: HostRuntime) -> Result<(), Fail> {
     let text =
         "anna 2\nworkers 3\nfactor 2\nkey a max factor 03\nkey b set\nkey c or at 3 1\nend\n";

@@ -1,16 +1,17 @@
 //! Reads the commands of sessions.
-ghost use Rattle.std.specs.Prelude.{◌≡◌, ◌≤◌, ◌<◌, ◌==◌, ◌∷◌, [], None, false, not, nat_le, length, slice_index_or, MatchOption, MatchResult, OnOk};
+ghost use Rattle.std.specs.Prelude.{◌≡◌, ◌≤◌, ◌<◌, ◌==◌, ◌∷◌, [], if◌then◌else◌, None, false, not, nat_le, length, slice_index_or, MatchOption, MatchResult, OnOk};
 ghost use Rattle.std.specs.List.{list_any};
 ghost use Rattle.std.specs.Option.{option_map_or};
 ghost use Rattle.placement.specs.Config.{placed};
 ghost use Rattle.script_reader.specs.Faults.{keys_of, commands_of};
 ghost use Rattle.script_reader.specs.Reader.{so_far, with_added, IsKept, IsKeyAt, SuitsPlace, Reads, HasRoom, HasAdded, MayBound, IsBoundFault};
 ghost use Rattle.script_reader.specs.Said.{place_of};
-ghost use Rattle.script_reader.specs.Words.{is_payload_too_great as is_too_much, texts};
+ghost use Rattle.script_reader.specs.Words.{is_payload_too_great as is_too_much, is_amount_too_great as is_great_amount, texts};
+ghost use Rattle.script_reader.specs.declared.code.Code.TheVariants as codes_of;
 ghost use Rattle.script_reader.specs.declared.keyword.Keyword.TheVariants as keywords;
 
 use crate::code::Code;
-use crate::payload::{is_payload_too_great, payload};
+use crate::payload::{is_amount_too_great, is_payload_too_great, payload};
 use crate::reader::{LineFault, Reader, Sessions};
 use crate::words::{is_spelling, number};
 use composed_value::Kind;
@@ -106,7 +107,7 @@ impl<'a> Reader<'a> {
             return Err(LineFault::Code(Code::Unknown));
         };
         let Some(payload) = payload(kind, words) else {
-            return Err(LineFault::Code(Code::Kind));
+            return Err(LineFault::Code(why_no_payload(kind, words)));
         };
         if !self.has_room() {
             return Err(LineFault::Code(Code::Limit));
@@ -265,5 +266,17 @@ fn says_too_much(found: Option<(usize, Kind)>, words: &[&[u8]]) -> bool
     match found {
         Some((_, kind)) => is_payload_too_great(kind, words),
         None => false,
+    }
+}
+
+/// Why words say no payload for a kind: the amount is too great, or else they do not fit.
+fn why_no_payload(kind: Kind, words: &[&[u8]]) -> Code
+    ensures { result ≡ (if is_great_amount kind (texts words.now)
+        then codes_of.Limit else codes_of.Kind) }
+{
+    if is_amount_too_great(kind, words) {
+        Code::Limit
+    } else {
+        Code::Kind
     }
 }

@@ -1,9 +1,17 @@
-use Rattle.std.proofs.Common.{List, ℕ, sym, ◌∙◌, arith}
+use Rattle.std.proofs.Common.{List, ℕ, length, refl, sym, ◌∙◌, arith}
+use Rattle.std.proofs.lemmas.Option.{slice_get_read}
 use Rattle.report_lines.specs.Text.{line_text, short_words}
+use Rattle.report_text.proofs.WritesLemmas.{All-at}
+use Rattle.session_known.specs.Form.{HasFewDots}
 use Rattle.session_known.specs.declared.report.FinalCell.{FinalCell}
 use Rattle.big_work.proofs.CellsLemmas.{written_passed, written_picked, written_cut, all_written}
 use Rattle.big_work.proofs.WroteLemmas.{wrote_failed}
 use Rattle.big_work.proofs.summary.write_cells.Goals as goal
+
+pub write_short-requires : goal.write_short-requires
+write_short-requires g c =
+    let got = slice_get_read c.args.finals.now (length c.args.finals.now) c.loop-cell.cell-index c.cell-item.result refl (omega arith) c.cell-item.is in
+    record { few = All-at (λ (cell : FinalCell). HasFewDots cell.value) c.args.finals.now c.loop-cell.cell-index c.cell-item.result got c.requires.few }
 
 pub loop-cell-preserved-then-eq : goal.loop-cell-preserved-then-eq
 loop-cell-preserved-then-eq g c =

@@ -1,7 +1,9 @@
-use Rattle.std.proofs.Common.{◌++◌, None, codes, refl, subst, arith}
-use Rattle.std.specs.List.{flat_map}
+use Rattle.std.proofs.Common.{◌++◌, None, codes, refl, sym, subst, arith}
+use Rattle.std.specs.List.{All, flat_map}
 use Rattle.outside.specs.Gathering.{Wrote}
 use Rattle.outside.specs.Outside.{GrewByFront}
+use Rattle.report_text.proofs.ReportLemmas.{finals_few}
+use Rattle.session_known.specs.Form.{HasFewDots}
 use Rattle.big_work.specs.Parts.{first_cells, head_text}
 use Rattle.big_work.proofs.TextLemmas.{few_puts, summary_is, short_line}
 use Rattle.big_work.proofs.WroteLemmas.{front_of_more, front_then, wrote_failed, wrote_then}
@@ -11,6 +13,11 @@ pub count_puts-puts-requires : goal.count_puts-puts-requires
 count_puts-puts-requires g c =
     let legal = c.requires.legal in
     omega (arith, few_puts c.args.script.now c.args.report.now legal.table legal.legal c.as_slice.result.now c.as_slice.ensures, c.count_commands-commands.ensures)
+
+pub write_cells-requires : goal.write_cells-requires
+write_cells-requires g c =
+    let legal = c.requires.legal in
+    record { few = subst (All (λ cell. HasFewDots cell.value)) (sym c.as_slice-2.ensures) (finals_few c.args.script.now legal.table c.args.report.now legal.legal.form) }
 
 pub returns-in_err-write_head-clause-wrote : goal.returns-in_err-write_head-clause-wrote
 returns-in_err-write_head-clause-wrote g c =

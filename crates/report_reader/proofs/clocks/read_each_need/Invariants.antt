@@ -1,5 +1,5 @@
 use Rattle.std.proofs.Common.{length, [], ◌∷◌}
-use Rattle.report_reader.specs.ReadNeeds.{IsNeedIn}
+use Rattle.report_reader.specs.ReadClocks.{IsNeedIn}
 use Rattle.report_lines.specs.Text.{need_text}
 use Rattle.report_reader.proofs.ReadRows.{AreRead}
 use Rattle.report_reader.proofs.clocks.read_each_need.Given as goal

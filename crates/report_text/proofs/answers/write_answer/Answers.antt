@@ -1,9 +1,15 @@
 use Rattle.std.proofs.Common.{[]}
 use Rattle.outside.proofs.GatheringLemmas.{Adds-as}
 use Rattle.report_lines.specs.Text.{awaited_words}
-use Rattle.report_text.proofs.ReportLemmas.{answer_line}
+use Rattle.report_text.proofs.ReportLemmas.{answer_line, got_few}
 use Rattle.report_text.proofs.WritesLemmas.{Adds-line, Adds-words}
 use Rattle.report_text.proofs.answers.write_answer.Goals as goal
+
+pub write_got-requires : goal.write_got-requires
+write_got-requires g c = got_few c.args.script.now c.args.line.now c.args.answer.now _ _ c.requires c.in-Get-Got.is-1
+
+pub write_shown-requires : goal.write_shown-requires
+write_shown-requires g c = got_few c.args.script.now c.args.line.now c.args.answer.now _ _ c.requires c.in-Await-Got.is-1
 
 pub returns-in-Put-Put : goal.returns-in-Put-Put
 returns-in-Put-Put g c =

@@ -1,9 +1,10 @@
 use Rattle.std.proofs.Common.{ap, sym, subst, rules}
-use Rattle.std.specs.List.{AllZip, flat_map}
+use Rattle.std.specs.List.{All, AllZip, flat_map}
 use Rattle.outside.proofs.GatheringLemmas.{Adds-as, Adds-then, Adds-wrote, Adds-cause}
 use Rattle.report_lines.specs.Text.{sessions_lines, line_text, final_words}
 use Rattle.report_text.specs.Writes.{AreAtPlaces, MayAnswer}
-use Rattle.report_text.proofs.ReportLemmas.{report_text, report_may, report_places}
+use Rattle.report_text.proofs.ReportLemmas.{finals_few, report_text, report_may, report_places}
+use Rattle.session_known.specs.Form.{HasFewDots}
 use Rattle.report_text.proofs.report.write_report.Goals as goal
 
 pub write_head-requires-clause-valid : goal.write_head-requires-clause-valid
@@ -17,6 +18,10 @@ pub write_sessions-requires : goal.write_sessions-requires
 write_sessions-requires g c =
     let script = c.args.script.now in
     subst (AllZip (λ plan answers. AllZip (MayAnswer script) plan.lines answers) script.sessions) (sym c.as_slice-2.ensures) (report_may script c.requires.valid.0 c.args.report.now c.requires.valid.1 c.requires.valid.2)
+
+pub write_finals-requires : goal.write_finals-requires
+write_finals-requires g c =
+    subst (All (λ cell. HasFewDots cell.value)) (sym c.as_slice-3.ensures) (finals_few c.args.script.now c.requires.valid.0 c.args.report.now c.requires.valid.2)
 
 pub returns-clause-wrote : goal.returns-clause-wrote
 returns-clause-wrote g c =

@@ -1,0 +1,2 @@
+pub mod DotSetLemmas
+mod DotSumsLemmas

@@ -1,0 +1,10 @@
+pub mod Amounts
+pub mod AmountsLaws
+pub mod Dot
+pub mod DotLaws
+pub mod DotSet
+pub mod DotSetLaws
+pub mod DotSums
+pub mod DotSumsLaws
+pub mod Insert
+pub mod InsertLaws

@@ -1,0 +1,13 @@
+use Rattle.std.proofs.Common.{map, length, ◌==◌, ap, ◌∙◌}
+use Rattle.std.proofs.lemmas.Bool.{both_ways}
+use Rattle.std.specs.List.{join_with_byte}
+use Rattle.report_lines.specs.Text.{removal_text, removals_text}
+use Rattle.report_reader.specs.ReadDots.{AreRemovalsIn}
+use Rattle.report_reader.proofs.ReadRows.{row_or_none}
+use Rattle.report_reader.proofs.dots.read_removals.Goals as goal
+
+pub returns : goal.returns
+returns c =
+    let script = c.args.script.now in
+    row_or_none (AreRemovalsIn script) (λ removals. join_with_byte 44 (map (removal_text script) removals)) (removals_text script) c.args.text.now c.args.text.now c.read_each_removal.result (λ none. both_ways c.is_empty.result c.if-is_empty.false (c.is_empty.ensures ∙ ap (λ text. length text == 0) none))
+    (λ _ _. (λ same. same, λ same. same)) c.read_each_removal.ensures

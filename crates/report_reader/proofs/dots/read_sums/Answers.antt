@@ -1,0 +1,24 @@
+use Rattle.dot_lattices.specs.DotSums.{IsDotSums}
+use Rattle.std.proofs.Common.{refl}
+use Rattle.report_lines.proofs.NamesLemmas.{tells_names}
+use Rattle.report_reader.specs.ReadDots.{AreSumsIn}
+use Rattle.report_reader.proofs.ReadDots.{sums_named, sums_row}
+use Rattle.report_reader.proofs.ReadRows.{all_pieces_read, no_piece, no_piece_place, no_piece_read, piece_read}
+use Rattle.report_reader.proofs.dots.read_sums.Goals as goal
+
+pub loop-piece-init : goal.loop-piece-init
+loop-piece-init c = no_piece_read (rw c.deref-piece-items.ensures.value c.in_ok-pieces.ensures) c.new-sums.ensures
+
+pub returns-in_default : goal.returns-in_default
+returns-in_default c = no_piece _ c.loop-piece.invariant c.loop-piece-test.true c.in_default.ensures (sums_row c.args.script.now (tells_names _ _ c.requires.1)) refl
+
+pub returns-then-not-branch : goal.returns-then-not-branch
+returns-then-not-branch c =
+    no_piece_place _ c.loop-piece.invariant c.loop-piece-test.true c.in-Some.ensures IsDotSums _ _ (sums_row c.args.script.now (tells_names _ _ c.requires.1)) (λ sums are. are.0) refl c.in_ok-push.ensures.pushed c.if-not-branch.true
+
+pub loop-piece-preserved : goal.loop-piece-preserved
+loop-piece-preserved c = piece_read _ c.loop-piece.invariant c.loop-piece-test.true c.in-Some.ensures IsDotSums _ refl c.in_ok-push.ensures.pushed c.if-not-branch.false
+
+pub returns : goal.returns
+returns c =
+    all_pieces_read (AreSumsIn c.args.script.now) c.loop-piece.invariant c.loop-piece-test.false (c.attest.ensures, sums_named c.args.script.now c.loop-piece.sums c.loop-piece.invariant.are_read.are_items)

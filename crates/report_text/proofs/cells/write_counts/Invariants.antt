@@ -1,9 +1,0 @@
-use Rattle.std.proofs.Common.{map, take}
-use Rattle.std.specs.List.{join_with_byte}
-use Rattle.report_lines.specs.Text.{count_text}
-use Rattle.outside.specs.Gathering.{Adds}
-use Rattle.report_text.proofs.cells.write_counts.Given as goal
-
--- the counts that are written
-abbrev pub invariant-loop-i : goal.invariant-loop-i
-invariant-loop-i g l = Adds g.K.Sink.written g.K.Sink.faults l.fn.out l.out (join_with_byte 44 (map (count_text l.script) (take l.i l.clock)))

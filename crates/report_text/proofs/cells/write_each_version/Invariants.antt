@@ -1,9 +1,0 @@
-use Rattle.std.proofs.Common.{map, take}
-use Rattle.std.specs.List.{join_with_byte}
-use Rattle.report_lines.specs.Text.{version_text}
-use Rattle.outside.specs.Gathering.{Adds}
-use Rattle.report_text.proofs.cells.write_each_version.Given as goal
-
--- the versions that are written
-abbrev pub invariant-loop-i : goal.invariant-loop-i
-invariant-loop-i g l = Adds g.K.Sink.written g.K.Sink.faults l.fn.out l.out (join_with_byte 124 (map (version_text l.script) (take l.i l.versions)))

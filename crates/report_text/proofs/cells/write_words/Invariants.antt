@@ -1,8 +1,0 @@
-use Rattle.std.proofs.Common.{map, take}
-use Rattle.std.specs.List.{join_with_byte}
-use Rattle.outside.specs.Gathering.{Adds}
-use Rattle.report_text.proofs.cells.write_words.Given as goal
-
--- the words that are written
-abbrev pub invariant-loop-i : goal.invariant-loop-i
-invariant-loop-i g l = Adds g.K.Sink.written g.K.Sink.faults l.fn.out l.out (join_with_byte 44 (map (λ word. word) (take l.i l.words)))
