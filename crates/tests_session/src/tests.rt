@@ -38,6 +38,9 @@ macro_rules! put_five {
 }
 
 /// Session 1, of a level, and the ends of its two workers.
+///
+/// A test holds its desk in an array of one: to drop an array is one step of a proof, and to drop a session a case for
+/// each message that it may keep.
 #[derive(Drop)]
 struct Desk<C: Consistency> {
     proxy: ProxyOver<C, PlainTx<Request>, PlainRx<Reply>>,
@@ -313,9 +316,9 @@ fn asks_both_in_vain(alloc: Global, desk: &mut Desk<CausalLevel>) -> Result<(), 
 
 #[test]
 fn a_causal_get_gives_up_after_eight_asks_of_each_replica(rt: HostRuntime) -> Result<(), Fail> {
-    let mut desk = two_gets(rt.alloc())?;
-    asks_both_in_vain(rt.alloc(), &mut desk)?;
-    assert_eq!(rt; gave_up(&desk, 1), Some((16, 2, 0)));
+    let mut desk = [two_gets(rt.alloc())?];
+    asks_both_in_vain(rt.alloc(), &mut desk[0])?;
+    assert_eq!(rt; gave_up(&desk[0], 1), Some((16, 2, 0)));
     Ok(())
 }
 
@@ -329,9 +332,9 @@ fn asks_one_in_vain(alloc: Global, desk: &mut Desk<CausalLevel>) -> Result<(), F
 
 #[test]
 fn an_await_gives_up_after_eight_asks_of_one_replica(rt: HostRuntime) -> Result<(), Fail> {
-    let mut desk = third_awaited(rt.alloc())?;
-    asks_one_in_vain(rt.alloc(), &mut desk)?;
-    assert_eq!(rt; gave_up(&desk, 0), Some((8, 1, 1)));
+    let mut desk = [third_awaited(rt.alloc())?];
+    asks_one_in_vain(rt.alloc(), &mut desk[0])?;
+    assert_eq!(rt; gave_up(&desk[0], 0), Some((8, 1, 1)));
     Ok(())
 }
 
@@ -346,10 +349,10 @@ fn moves_unasked<C: Consistency>(desk: &mut Desk<C>, count: u32) -> Result<usize
 
 #[test]
 fn a_transaction_that_is_aborted_puts_nothing(rt: HostRuntime) -> Result<(), Fail> {
-    let mut desk = aborted(rt.alloc())?;
-    assert_eq!(rt; moves_unasked(&mut desk, 4)?, 4);
+    let mut desk = [aborted(rt.alloc())?];
+    assert_eq!(rt; moves_unasked(&mut desk[0], 4)?, 4);
     let last = matches!(
-        desk.proxy.answers().get(3),
+        desk[0].proxy.answers().get(3),
         Some(Answer::Aborted { puts: 2 })
     );
     assert!(rt; last);
@@ -367,13 +370,13 @@ fn commits(desk: &mut Desk<CommittedLevel>) -> Result<[Option<(u16, u64, u64, u3
 
 #[test]
 fn a_commit_puts_what_was_held_at_one_lamport_number(rt: HostRuntime) -> Result<(), Fail> {
-    let mut desk = committed(rt.alloc())?;
+    let mut desk = [committed(rt.alloc())?];
     assert_eq!(rt;
-        commits(&mut desk)?,
+        commits(&mut desk[0])?,
         [Some((1, 1, 1, 0)), Some((2, 1, 1, 1))]
     );
     let last = matches!(
-        desk.proxy.answers().get(3),
+        desk[0].proxy.answers().get(3),
         Some(Answer::Committed {
             puts: 2,
             lamport: 1
@@ -396,10 +399,10 @@ fn gets_twice(alloc: Global, desk: &mut Desk<CommittedLevel>) -> Result<(), Fail
 
 #[test]
 fn a_get_shows_what_was_held_once_it_is_committed(rt: HostRuntime) -> Result<(), Fail> {
-    let mut desk = got_within_and_after(rt.alloc())?;
-    gets_twice(rt.alloc(), &mut desk)?;
+    let mut desk = [got_within_and_after(rt.alloc())?];
+    gets_twice(rt.alloc(), &mut desk[0])?;
     assert_eq!(rt;
-        [got(&desk, 2), got(&desk, 4)],
+        [got(&desk[0], 2), got(&desk[0], 4)],
         [Some((1, 0, 0)), Some((1, 1, 1))]
     );
     Ok(())
@@ -413,10 +416,10 @@ fn is_shown_the_last(alloc: Global, desk: &mut Desk<EventualLevel>) -> Result<()
 
 #[test]
 fn a_put_is_worn_where_the_lamport_numbers_are_used_up(rt: HostRuntime) -> Result<(), Fail> {
-    let mut desk = get_and_put(rt.alloc())?;
-    is_shown_the_last(rt.alloc(), &mut desk)?;
-    assert_eq!(rt; moves_unasked(&mut desk, 1)?, 2);
-    assert!(rt; matches!(desk.proxy.answers().get(1), Some(Answer::Worn)));
+    let mut desk = [get_and_put(rt.alloc())?];
+    is_shown_the_last(rt.alloc(), &mut desk[0])?;
+    assert_eq!(rt; moves_unasked(&mut desk[0], 1)?, 2);
+    assert!(rt; matches!(desk[0].proxy.answers().get(1), Some(Answer::Worn)));
     Ok(())
 }
 
@@ -443,8 +446,8 @@ fn hears_of_two(alloc: Global, desk: &mut Desk<EventualLevel>) -> Result<(usize,
 
 #[test]
 fn a_reply_to_another_ask_is_dropped(rt: HostRuntime) -> Result<(), Fail> {
-    let mut desk = one_get(rt.alloc())?;
-    assert_eq!(rt; hears_of_two(rt.alloc(), &mut desk)?, (0, 1));
-    assert_eq!(rt; got(&desk, 0), Some((1, 0, 0)));
+    let mut desk = [one_get(rt.alloc())?];
+    assert_eq!(rt; hears_of_two(rt.alloc(), &mut desk[0])?, (0, 1));
+    assert_eq!(rt; got(&desk[0], 0), Some((1, 0, 0)));
     Ok(())
 }

@@ -31,11 +31,11 @@ fn told_twelve(alloc: Global) -> Result<RingRx<Batch>, Fail>
     let (mut asks, requests) = rings(alloc, 1)?;
     let (to_second, of_second) = rings(alloc, 1)?;
     let (_, of_first) = rings(alloc, 1)?;
-    let mut first = new_ringed(alloc, 1, KEYS, requests, to_second, of_first)?;
+    let mut first = [new_ringed(alloc, 1, KEYS, requests, to_second, of_first)?];
     for number in 1..4 {
         for key in 1..KEYS + 1 {
             ask(alloc, &mut asks, key, 1, number, number)?;
-            turns(alloc, &mut first)?;
+            turns(alloc, &mut first[0])?;
         }
     }
     Ok(of_second)
@@ -89,8 +89,8 @@ fn new_scrambled(alloc: Global, inner: RingRx<Batch>, number: u64) -> Result<Scr
 /// What worker 2 counts after each batch, where its box is scrambled by a number, once it is sealed.
 fn heard_by(alloc: Global, number: u64) -> Result<Vec<u64>, Fail> {
     let worker = new_scrambled(alloc, told_twelve(alloc)?, number)?;
-    let mut sealed = worker.seal().0;
-    counts_heard(alloc, &mut sealed)
+    let mut sealed = [worker.seal().0];
+    counts_heard(alloc, &mut sealed[0])
 }
 
 #[test]

@@ -14,6 +14,9 @@ use store_msg::{Answered, Batch, PlainPost, Reply, Request, WorkerEndsOver};
 use worker_core::{Did, Worker, WorkerOver};
 
 /// One of two workers, over plain mail. The other ends: those of the sessions, and the box of its mate.
+///
+/// A test holds its desks in arrays of one: to drop an array is one step of a proof, and to drop a worker a case for
+/// each message that it may keep.
 #[derive(Drop)]
 struct Desk {
     worker: Worker<PlainPost>,
@@ -208,14 +211,14 @@ fn first_tells(
 #[test]
 fn a_turn_works_on_one_thing(rt: HostRuntime) -> Result<(), Fail> {
     let alloc = rt.alloc();
-    let mut first = new_desk(alloc, 1, 4, 1, 1, 1)?;
-    let mut second = new_desk(alloc, 2, 4, 1, 1, 1)?;
-    let (did, heard) = first_tells(alloc, &mut first, &mut second)?;
+    let mut first = [new_desk(alloc, 1, 4, 1, 1, 1)?];
+    let mut second = [new_desk(alloc, 2, 4, 1, 1, 1)?];
+    let (did, heard) = first_tells(alloc, &mut first[0], &mut second[0])?;
     let want = [(Did::Request, 1), (Did::Round, 0), (Did::Idle, 0)];
     assert_eq!(rt; did.as_slice(), want.as_slice());
     let want = [(Did::Gossip, 0), (Did::Idle, 0)];
     assert_eq!(rt; heard.as_slice(), want.as_slice());
-    assert_eq!(rt; shown(&second.worker, 1), Some((1, Some(5))));
+    assert_eq!(rt; shown(&second[0].worker, 1), Some((1, Some(5))));
     Ok(())
 }
 
@@ -232,10 +235,10 @@ fn turn_at_last(worker: &mut Worker<PlainPost>) -> Result<Did, Fail> {
 #[test]
 fn a_put_that_met_want_of_memory_counts_once(rt: HostRuntime) -> Result<(), Fail> {
     let alloc = rt.alloc();
-    let mut first = new_desk(alloc, 1, 4, 1, 1, 1)?;
-    ask(&mut first, 1, put_max(alloc, 1, 1, 5))?;
-    assert_eq!(rt; turn_at_last(&mut first.worker)?, Did::Request);
-    assert_eq!(rt; shown(&first.worker, 1), Some((1, Some(5))));
+    let mut first = [new_desk(alloc, 1, 4, 1, 1, 1)?];
+    ask(&mut first[0], 1, put_max(alloc, 1, 1, 5))?;
+    assert_eq!(rt; turn_at_last(&mut first[0].worker)?, Did::Request);
+    assert_eq!(rt; shown(&first[0].worker, 1), Some((1, Some(5))));
     Ok(())
 }
 
@@ -243,22 +246,22 @@ fn a_put_that_met_want_of_memory_counts_once(rt: HostRuntime) -> Result<(), Fail
 fn seal_and_hear(desk: Desk) -> Result<(bool, bool, Option<u64>), Fail>
     requires { IsAtRest desk.worker.state }
 {
-    let mut sealed = desk.worker.seal().0;
-    let first = sealed.hear()?;
-    let second = sealed.hear()?;
+    let mut sealed = [desk.worker.seal().0];
+    let first = sealed[0].hear()?;
+    let second = sealed[0].hear()?;
     Ok((
         first,
         second,
-        sealed.cell(1).map(|cell| cell.clock().count(1)),
+        sealed[0].cell(1).map(|cell| cell.clock().count(1)),
     ))
 }
 
 #[test]
 fn a_sealed_worker_hears_what_it_was_told(rt: HostRuntime) -> Result<(), Fail> {
     let alloc = rt.alloc();
-    let mut first = new_desk(alloc, 1, 4, 1, 1, 1)?;
+    let mut first = [new_desk(alloc, 1, 4, 1, 1, 1)?];
     let mut second = new_desk(alloc, 2, 4, 1, 1, 1)?;
-    tell(alloc, &mut first, &mut second)?;
+    tell(alloc, &mut first[0], &mut second)?;
     assert_eq!(rt; seal_and_hear(second)?, (true, false, Some(1)));
     Ok(())
 }
@@ -300,8 +303,8 @@ fn four_asks(alloc: Global, first: &mut Desk) -> Result<Vec<(Did, usize)>, Fail>
 #[test]
 fn a_round_tells_the_changed_keys_alone(rt: HostRuntime) -> Result<(), Fail> {
     let alloc = rt.alloc();
-    let mut first = new_desk(alloc, 1, 2, 2, 1, 1)?;
-    let did = four_asks(alloc, &mut first)?;
+    let mut first = [new_desk(alloc, 1, 2, 2, 1, 1)?];
+    let did = four_asks(alloc, &mut first[0])?;
     let want = [
         (Did::Request, 1),
         (Did::Request, 2),
@@ -312,7 +315,7 @@ fn a_round_tells_the_changed_keys_alone(rt: HostRuntime) -> Result<(), Fail> {
         (Did::Idle, 0),
     ];
     assert_eq!(rt; did.as_slice(), want.as_slice());
-    let keys = told_keys(alloc, &mut first)?;
+    let keys = told_keys(alloc, &mut first[0])?;
     assert_eq!(rt; keys.as_slice(), [(0, 1), (0, 2), (1, 1)].as_slice());
     Ok(())
 }
@@ -368,8 +371,8 @@ fn ask_for_none(alloc: Global, first: &mut Desk) -> Result<(Vec<(Did, usize)>, V
 #[test]
 fn what_no_session_asks_changes_nothing(rt: HostRuntime) -> Result<(), Fail> {
     let alloc = rt.alloc();
-    let mut first = new_desk(alloc, 1, 2, 1, 2, 1)?;
-    let did = four_idle_asks(alloc, &mut first)?;
+    let mut first = [new_desk(alloc, 1, 2, 1, 2, 1)?];
+    let did = four_idle_asks(alloc, &mut first[0])?;
     let want = [
         (Did::Request, 0),
         (Did::Request, 0),
@@ -378,9 +381,9 @@ fn what_no_session_asks_changes_nothing(rt: HostRuntime) -> Result<(), Fail> {
         (Did::Idle, 0),
     ];
     assert_eq!(rt; did.as_slice(), want.as_slice());
-    assert_eq!(rt; shown(&first.worker, 1), Some((0, None)));
-    assert_eq!(rt; shown(&first.worker, 2), None);
-    let (did, replied) = ask_for_none(alloc, &mut first)?;
+    assert_eq!(rt; shown(&first[0].worker, 1), Some((0, None)));
+    assert_eq!(rt; shown(&first[0].worker, 2), None);
+    let (did, replied) = ask_for_none(alloc, &mut first[0])?;
     let want = [(Did::Request, 0), (Did::Idle, 0)];
     assert_eq!(rt; did.as_slice(), want.as_slice());
     assert_eq!(rt; replied.as_slice(), [0].as_slice());
@@ -428,8 +431,8 @@ fn fill(alloc: Global, desk: &mut Desk) -> Result<u32, Fail> {
 #[test]
 fn turns_do_not_slow_as_a_worker_fills(rt: HostRuntime) -> Result<(), Fail> {
     let alloc = rt.alloc();
-    let mut first = new_desk(alloc, 1, 64, 128, 16, 16)?;
-    let requests = fill(alloc, &mut first)?;
+    let mut first = [new_desk(alloc, 1, 64, 128, 16, 16)?];
+    let requests = fill(alloc, &mut first[0])?;
     assert_eq!(rt; requests, 32_000);
     Ok(())
 }

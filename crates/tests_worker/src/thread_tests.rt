@@ -169,15 +169,16 @@ fn shown(worker: &Ringed) -> Option<(u64, u64, Option<u64>)> {
 #[test]
 fn workers_move_to_other_threads_and_back(rt: HostRuntime) -> Result<(), Fail> {
     let alloc = rt.alloc();
-    let (mut first, mut second) = two_ringed(alloc, asked(alloc, 1, 5)?, asked(alloc, 2, 7)?)?;
-    let rested = side_by_side(&rt, &mut first, &mut second);
+    let mut mates = [two_ringed(alloc, asked(alloc, 1, 5)?, asked(alloc, 2, 7)?)?];
+    let (first, second) = &mut mates[0];
+    let rested = side_by_side(&rt, first, second);
     assert_eq!(rt; rested, (true, true));
-    let own = (counted(&first, 1), counted(&second, 2));
+    let own = (counted(first, 1), counted(second, 2));
     assert_eq!(rt; own, (Some(1), Some(1)));
-    let rested = beside(&mut first, &mut second);
+    let rested = beside(first, second);
     assert_eq!(rt; rested, (true, true));
     let both = Some((1, 1, Some(7)));
-    assert_eq!(rt; (shown(&first), shown(&second)), (both, both));
+    assert_eq!(rt; (shown(first), shown(second)), (both, both));
     Ok(())
 }
 
@@ -186,46 +187,47 @@ fn a_batch_that_finds_no_place_goes_out_later(rt: HostRuntime) -> Result<(), Fai
     let alloc = rt.alloc();
     let (mut asks, requests) = rings(alloc, 1)?;
     let (_, no_requests) = rings(alloc, 1)?;
-    let (mut first, mut second) = two_ringed(alloc, requests, no_requests)?;
+    let mut mates = [two_ringed(alloc, requests, no_requests)?];
+    let (first, second) = &mut mates[0];
 
     // Each of 64 batches finds a place in the ring.
     let want = [(Did::Request, 1), (Did::Round, 0), (Did::Idle, 0)];
     for number in 1..65 {
         ask(alloc, &mut asks, 1, 1, number, number)?;
-        let did = turns(alloc, &mut first)?;
+        let did = turns(alloc, first)?;
         assert_eq!(rt; did.as_slice(), want.as_slice(), "at {number}");
     }
 
     // The next one comes back, again and again, and holds no request up.
     ask(alloc, &mut asks, 1, 1, 65, 65)?;
     ask(alloc, &mut asks, 1, 1, 66, 66)?;
-    let did = turns(alloc, &mut first)?;
+    let did = turns(alloc, first)?;
     let want = [(Did::Request, 1), (Did::Request, 1), (Did::Blocked, 1)];
     assert_eq!(rt; did.as_slice(), want.as_slice());
     assert_eq!(rt;
-        turns(alloc, &mut first)?.as_slice(),
+        turns(alloc, first)?.as_slice(),
         [(Did::Blocked, 1)].as_slice()
     );
-    assert_eq!(rt; shown(&first), Some((66, 0, Some(66))));
+    assert_eq!(rt; shown(first), Some((66, 0, Some(66))));
 
     // The mate hears the 64 that went out, and then there is a place.
-    let heard = turns(alloc, &mut second)?;
+    let heard = turns(alloc, second)?;
     assert_eq!(rt; (heard.len(), heard.last()), (65, Some(&(Did::Idle, 0))));
-    assert_eq!(rt; shown(&second), Some((64, 0, Some(64))));
-    meet(&mut first, &mut second);
-    let did = turns(alloc, &mut first)?;
+    assert_eq!(rt; shown(second), Some((64, 0, Some(64))));
+    meet(first, second);
+    let did = turns(alloc, first)?;
     assert_eq!(rt;
         did.as_slice(),
         [(Did::Round, 0), (Did::Idle, 0)].as_slice()
     );
 
     // Held beside each other again, the mate hears what went out since.
-    meet(&mut first, &mut second);
-    let did = turns(alloc, &mut second)?;
+    meet(first, second);
+    let did = turns(alloc, second)?;
     assert_eq!(rt;
         did.as_slice(),
         [(Did::Gossip, 0), (Did::Idle, 0)].as_slice()
     );
-    assert_eq!(rt; shown(&second), Some((66, 0, Some(66))));
+    assert_eq!(rt; shown(second), Some((66, 0, Some(66))));
     Ok(())
 }
