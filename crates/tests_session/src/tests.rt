@@ -280,10 +280,15 @@ fn put_asked<C: Consistency>(
     Ok(Some((key, put.number, put.lamport, put.place)))
 }
 
+/// The answer to a line, from 0, if it is answered.
+fn answer<C: Consistency>(desk: &Desk<C>, line: usize) -> Option<&Answer> {
+    desk.proxy.answers().get(line)
+}
+
 /// Of the answer to a line, from 0, that is an end of asking: the asks, the last worker, and what of session 2
 /// the clock counts.
 fn gave_up<C: Consistency>(desk: &Desk<C>, line: usize) -> Option<(u32, u16, u64)> {
-    match desk.proxy.answers().get(line) {
+    match answer(desk, line) {
         Some(
             Answer::Again {
                 asks,
@@ -298,7 +303,7 @@ fn gave_up<C: Consistency>(desk: &Desk<C>, line: usize) -> Option<(u32, u16, u64
 /// Of the answer to a line, from 0, that shows a cell: the worker, what of session 1 the clock counts, and the
 /// greatest Lamport number.
 fn got<C: Consistency>(desk: &Desk<C>, line: usize) -> Option<(u16, u64, u64)> {
-    match desk.proxy.answers().get(line) {
+    match answer(desk, line) {
         Some(Answer::Got { worker, shown }) => Some((*worker, shown.clock.count(1), shown.top)),
         _ => None,
     }
@@ -351,10 +356,7 @@ fn moves_unasked<C: Consistency>(desk: &mut Desk<C>, count: u32) -> Result<usize
 fn a_transaction_that_is_aborted_puts_nothing(rt: HostRuntime) -> Result<(), Fail> {
     let mut desk = [aborted(rt.alloc())?];
     assert_eq!(rt; moves_unasked(&mut desk[0], 4)?, 4);
-    let last = matches!(
-        desk[0].proxy.answers().get(3),
-        Some(Answer::Aborted { puts: 2 })
-    );
+    let last = matches!(answer(&desk[0], 3), Some(Answer::Aborted { puts: 2 }));
     assert!(rt; last);
     Ok(())
 }
@@ -376,7 +378,7 @@ fn a_commit_puts_what_was_held_at_one_lamport_number(rt: HostRuntime) -> Result<
         [Some((1, 1, 1, 0)), Some((2, 1, 1, 1))]
     );
     let last = matches!(
-        desk[0].proxy.answers().get(3),
+        answer(&desk[0], 3),
         Some(Answer::Committed {
             puts: 2,
             lamport: 1
@@ -419,7 +421,7 @@ fn a_put_is_worn_where_the_lamport_numbers_are_used_up(rt: HostRuntime) -> Resul
     let mut desk = [get_and_put(rt.alloc())?];
     is_shown_the_last(rt.alloc(), &mut desk[0])?;
     assert_eq!(rt; moves_unasked(&mut desk[0], 1)?, 2);
-    assert!(rt; matches!(desk[0].proxy.answers().get(1), Some(Answer::Worn)));
+    assert!(rt; matches!(answer(&desk[0], 1), Some(Answer::Worn)));
     Ok(())
 }
 
