@@ -317,8 +317,9 @@ mod tests {
     use std::test::Fail;
 
     // The cell of the third put of session 2 on a key, at the Lamport number; it needs one put of
-    // session 3 on key 7.
-    fn shown(alloc: Global, lamport: u64) -> Result<Cell, Fail> {
+    // session 3 on key 7. It is in an array of one: to drop that is one step of a proof, and to drop a cell a case
+    // for each kind.
+    fn shown(alloc: Global, lamport: u64) -> Result<[Cell; 1], Fail> {
         let mut one = Clock::new(alloc);
         one.raise(3, 1)?;
         let mut needs = Needs::new(alloc);
@@ -332,7 +333,7 @@ mod tests {
             needs,
             payload: Payload::On,
         };
-        Ok(Cell::of_put(alloc, &put)?)
+        Ok([Cell::of_put(alloc, &put)?])
     }
 
     fn counts(known: &Known, key: u16, session: u16) -> u64 {
@@ -350,7 +351,7 @@ mod tests {
             let mut known = Known::new(rt.alloc(), 1, level);
             assert_eq!(rt; (known.session(), known.level()), (1, level));
             assert_eq!(rt; known.next_number(), Some(1));
-            known.note_reply(5, &cell)?;
+            known.note_reply(5, &cell[0])?;
             assert_eq!(rt; counts(&known, 5, 2), 3);
             assert_eq!(rt; counts(&known, 7, 3), learned);
             assert_eq!(rt; known.own(5), 0);
@@ -362,14 +363,14 @@ mod tests {
     #[test]
     fn learns_from_what_a_reply_has_shown(rt: HostRuntime) -> Result<(), Fail> {
         let cell = shown(rt.alloc(), 9)?;
-        let shown = Shown {
-            clock: cell.clock().copy()?,
-            top: cell.top(),
-            value: cell.value().copy()?,
-            needs: Some(cell.needs().copy()?),
-        };
+        let shown = [Shown {
+            clock: cell[0].clock().copy()?,
+            top: cell[0].top(),
+            needs: Some(cell[0].needs().copy()?),
+            value: cell[0].value().copy()?,
+        }];
         let mut known = Known::new(rt.alloc(), 1, Level::Causal);
-        known.note_shown(5, &shown)?;
+        known.note_shown(5, &shown[0])?;
         assert_eq!(rt; counts(&known, 5, 2), 3);
         assert_eq!(rt; counts(&known, 7, 3), 1);
         assert_eq!(rt; known.next_number(), Some(10));
@@ -393,9 +394,9 @@ mod tests {
     #[test]
     fn no_number_is_left_after_the_greatest(rt: HostRuntime) -> Result<(), Fail> {
         let mut known = Known::new(rt.alloc(), 1, Level::Eventual);
-        known.note_reply(1, &shown(rt.alloc(), 18_446_744_073_709_551_614)?)?;
+        known.note_reply(1, &shown(rt.alloc(), 18_446_744_073_709_551_614)?[0])?;
         assert_eq!(rt; known.next_number(), Some(18_446_744_073_709_551_615));
-        known.note_reply(1, &shown(rt.alloc(), 18_446_744_073_709_551_615)?)?;
+        known.note_reply(1, &shown(rt.alloc(), 18_446_744_073_709_551_615)?[0])?;
         assert_eq!(rt; known.next_number(), None);
         Ok(())
     }

@@ -53,6 +53,12 @@ fn a_batch_takes_sixteen_entries(rt: HostRuntime) -> Result<(), Fail> {
     Ok(())
 }
 
+/// The cell of the first put of session 1, in an array of one: to drop that is one step of a proof, and to drop a cell
+/// a case for each kind.
+fn first_cell(alloc: Global) -> Result<[Cell; 1], Fail> {
+    Ok([Cell::of_put(alloc, &first_put(alloc))?])
+}
+
 /// What an ask for a cell of the first put of session 1 is answered: how many of its puts the cell that is
 /// found counts, or else those that the clock counts.
 fn answered(reply: Reply) -> Result<u64, u64> {
@@ -64,22 +70,25 @@ fn answered(reply: Reply) -> Result<u64, u64> {
 
 #[test]
 fn a_cell_that_does_not_cover_is_asked_for_again(rt: HostRuntime) -> Result<(), Fail> {
-    let cell = Cell::of_put(rt.alloc(), &first_put(rt.alloc()))?;
+    let cell = first_cell(rt.alloc())?;
     let two = clock_of(rt.alloc(), 1, 2)?;
-    let reply = Reply::answer(7, 2, 3, &two, &cell)?;
-    let again = reply.copy()?;
-    assert_eq!(rt; (again.ask(), again.worker(), again.key()), (7, 2, 3));
-    assert_eq!(rt; again.required().count(1), 2);
-    assert_eq!(rt; answered(again), Err(1));
+    let reply = [Reply::answer(7, 2, 3, &two, &cell[0])?];
+    let again = [reply[0].copy()?];
+    assert_eq!(rt;
+        (again[0].ask(), again[0].worker(), again[0].key()),
+        (7, 2, 3)
+    );
+    assert_eq!(rt; again[0].required().count(1), 2);
+    assert_eq!(rt; answered(again[0].copy()?), Err(1));
     Ok(())
 }
 
 #[test]
 fn a_cell_that_covers_is_found(rt: HostRuntime) -> Result<(), Fail> {
-    let cell = Cell::of_put(rt.alloc(), &first_put(rt.alloc()))?;
+    let cell = first_cell(rt.alloc())?;
     let one = clock_of(rt.alloc(), 1, 1)?;
-    let reply = Reply::answer(1, 1, 1, &one, &cell)?;
-    assert_eq!(rt; answered(reply.copy()?), Ok(1));
+    let reply = [Reply::answer(1, 1, 1, &one, &cell[0])?];
+    assert_eq!(rt; answered(reply[0].copy()?), Ok(1));
     Ok(())
 }
 
@@ -94,17 +103,17 @@ fn said(request: &Request) -> (u16, u64, Option<u64>) {
 #[test]
 fn requests_are_copied(rt: HostRuntime) -> Result<(), Fail> {
     let put = first_put(rt.alloc());
-    let put = Request::Put { key: 4, put };
-    let copy = put.copy()?;
-    assert_eq!(rt; said(&copy), (4, 1, None));
+    let put = [Request::Put { key: 4, put }];
+    let copy = [put[0].copy()?];
+    assert_eq!(rt; said(&copy[0]), (4, 1, None));
     let required = clock_of(rt.alloc(), 2, 3)?;
-    let get = Request::Get {
+    let get = [Request::Get {
         ask: 9,
         key: 4,
         required,
-    };
-    let copy = get.copy()?;
-    assert_eq!(rt; said(&copy), (4, 9, Some(3)));
+    }];
+    let copy = [get[0].copy()?];
+    assert_eq!(rt; said(&copy[0]), (4, 9, Some(3)));
     Ok(())
 }
 
