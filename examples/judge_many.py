@@ -1,5 +1,6 @@
 #!/usr/bin/env python3
-"""Runs the program on generated scripts, of both versions, all levels and kinds and with 1 to 8 workers, and has each report judged.
+"""Runs the program on generated scripts, of both versions, all levels and kinds and with 1 to 8 workers, in version 2 with sessions that come after
+others, and has each report judged.
 
 usage: judge_many.py [COUNT [SEED]]   so many scripts, 300 where none is given, from this seed on
 """
@@ -66,10 +67,14 @@ def script(draw):
         keys[f"k{number}"] = kind, pins
         lines.append(f"key k{number} {kind}{place(draw, version, workers, pins)}")
     sessions = [f"s{number}" for number in range(draw.randrange(17))]
+    causal = []
     for session in sessions:
-        level = draw.choice(["eventual", "committed", "causal"])
-        lines.append(f"session {session} {level}")
+        level = draw.choice(["eventual", "committed", "causal", "causal"])
+        after = f" after {draw.choice(causal)}" if version == 2 and level == "causal" and causal and draw.random() < 0.6 else ""
+        lines.append(f"session {session} {level}{after}")
         lines.extend(commands(draw, level, keys, sessions))
+        if level == "causal":
+            causal.append(session)
     return "\n".join([*lines, "end", ""]).encode()
 
 

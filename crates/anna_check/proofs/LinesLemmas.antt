@@ -7,7 +7,7 @@ use Rattle.composed_value.specs.declared.kind.Kind.{Kind}
 use Rattle.composed_value.specs.declared.payload.Payload.{Payload}
 use Rattle.composed_value.specs.declared.put.Put.{Put}
 use Rattle.session_known.specs.Lawful.{IsLawful, AreLawful}
-use Rattle.session_known.specs.Session.{Client, Knowledge, State, InState, start, own_count, held_puts, knows_put, knows_committed, after, puts_by, puts_from}
+use Rattle.session_known.specs.Session.{Client, Knowledge, State, InState, own_count, held_puts, knows_put, knows_committed, after, puts_by, puts_from, state_after}
 use Rattle.session_known.specs.declared.report.Answer.{Answer}
 use Rattle.session_known.specs.declared.report.Answer.TheVariants as answers
 use Rattle.session_known.specs.declared.script.Line.{Line}
@@ -58,19 +58,20 @@ count_after table client state earlier line answer key n lawful within = omega (
 
 -- So many lines were judged, and were lawful: where those that are left are lawful all are, the first of them that is not is the first
 -- of all, and what was accepted with what they accept is what all accept.
-pub record AreJudging (table : List (List ℕ)) (client : Client) (workers : ℕ) (all_lines : List Line) (all_answers : List Answer) (accepted : List OfKey) (i : ℕ) (judged : InState) (had : List (List (ℕ × List (ℕ × ℕ)))) (more : List OfKey) : Type 0 where
+pub record AreJudging (table : List (List ℕ)) (before : InState) (workers : ℕ) (all_lines : List Line) (all_answers : List Answer) (accepted : List OfKey) (i : ℕ) (judged : InState) (had : List (List (ℕ × List (ℕ × ℕ)))) (more : List OfKey) : Type 0 where
   pub earlier : List (Line × Answer)
-  pub client_is : judged.client ≡ client
+  pub client_is : judged.client ≡ before.client
   pub joined : AreJoined workers earlier had
-  pub lawful : AreLawful table client judged.state earlier (drop i all_lines) (drop i all_answers) → AreLawful table client start [] all_lines all_answers
-  pub unlawful : (command : ℕ) → 0 < command → IsFirstUnlawful table client judged.state earlier (drop i all_lines) (drop i all_answers) command → IsFirstUnlawful table client start [] all_lines all_answers (i + command)
+  pub lawful : AreLawful table before.client judged.state earlier (drop i all_lines) (drop i all_answers) → AreLawful table before.client before.state [] all_lines all_answers
+  pub unlawful : (command : ℕ) → 0 < command → IsFirstUnlawful table before.client judged.state earlier (drop i all_lines) (drop i all_answers) command → IsFirstUnlawful table before.client before.state [] all_lines all_answers (i + command)
   pub kinds : kinds_of more ≡ kinds_of accepted
   pub puts : (kinds : List Kind) (made : List (ℕ × Put)) → AreByKey kinds made accepted
-      → (so_far : List (ℕ × Put)) × AreByKey kinds so_far more × (so_far ++ puts_from client judged.state (drop i all_lines) (drop i all_answers) ≡ made ++ puts_from client start all_lines all_answers)
+      → (so_far : List (ℕ × Put)) × AreByKey kinds so_far more × (so_far ++ puts_from before.client judged.state (drop i all_lines) (drop i all_answers) ≡ made ++ puts_from before.client before.state all_lines all_answers)
+  pub end : state_after before.client judged.state (drop i all_lines) (drop i all_answers) ≡ state_after before.client before.state all_lines all_answers
   pub held : MayAllBePut (kinds_of accepted) (held_puts judged.state)
   pub counts : (key : ℕ) → own_count judged.state.knows key + length (held_puts judged.state) ≤ i
 
-module _ (table : List (List ℕ)) (client : Client) (workers : ℕ) (all_lines : List Line) (all_answers : List Answer) (accepted : List OfKey) (i : ℕ) (judged : InState) (had : List (List (ℕ × List (ℕ × ℕ)))) (more : List OfKey) (are : AreJudging table client workers all_lines all_answers accepted i judged had more)
+module _ (table : List (List ℕ)) (before : InState) (workers : ℕ) (all_lines : List Line) (all_answers : List Answer) (accepted : List OfKey) (i : ℕ) (judged : InState) (had : List (List (ℕ × List (ℕ × ℕ)))) (more : List OfKey) (are : AreJudging table before workers all_lines all_answers accepted i judged had more)
     (line : Line) (answer : Answer) (within : i < length all_lines) (each : length all_answers ≡ length all_lines) (line_is : line ≡ get_or all_lines i line) (answer_is : answer ≡ get_or all_answers i answer) where
   -- the line is the first of those that are left
   lines_left : drop i all_lines ≡ line ∷ drop (i + 1) all_lines
@@ -85,54 +86,57 @@ module _ (table : List (List ℕ)) (client : Client) (workers : ℕ) (all_lines 
   of_left P is = subst (λ (at : List Line × List Answer). P at.0 at.1) (λ j. (sym lines_left j, sym answers_left j)) is
 
   -- The line's answer is the first that is not lawful.
-  pub judged_unlawful : (IsLawful table judged.client judged.state are.earlier line answer → ⊥) → IsFirstUnlawful table client start [] all_lines all_answers (i + 1)
+  pub judged_unlawful : (IsLawful table judged.client judged.state are.earlier line answer → ⊥) → IsFirstUnlawful table before.client before.state [] all_lines all_answers (i + 1)
   judged_unlawful unlawful =
-      are.unlawful 1 (omega arith) (of_left (λ left answered. IsFirstUnlawful table client judged.state are.earlier left answered 1) (subst (λ client. IsLawful table client judged.state are.earlier line answer → ⊥) are.client_is unlawful))
+      are.unlawful 1 (omega arith) (of_left (λ left answered. IsFirstUnlawful table before.client judged.state are.earlier left answered 1) (subst (λ client. IsLawful table client judged.state are.earlier line answer → ⊥) are.client_is unlawful))
 
   -- The line's answer is lawful too.
   pub judged_lawful : (new : InState) (new_had : List (List (ℕ × List (ℕ × ℕ)))) (last : List OfKey) → IsLawful table judged.client judged.state are.earlier line answer → MayTake (kinds_of accepted) line → new.client ≡ judged.client → new.state ≡ after judged.client judged.state line answer
       → AreJoined workers (are.earlier ++ (line, answer) ∷ []) new_had → kinds_of last ≡ kinds_of more → ((kinds : List Kind) (puts : List (ℕ × Put)) → AreByKey kinds puts more → AreByKey kinds (puts ++ puts_by judged.client judged.state line answer) last)
-      → AreJudging table client workers all_lines all_answers accepted (i + 1) new new_had last
+      → AreJudging table before workers all_lines all_answers accepted (i + 1) new new_had last
   judged_lawful new new_had last lawful may client_is state_is joined kinds_are puts_are =
-      let reached = after client judged.state line answer in
+      let reached = after before.client judged.state line answer in
       let earlier = are.earlier ++ (line, answer) ∷ [] in
       let now : new.state ≡ reached = state_is ∙ ap (λ client. after client judged.state line answer) are.client_is in
-      let here : IsLawful table client judged.state are.earlier line answer = subst (λ client. IsLawful table client judged.state are.earlier line answer) are.client_is lawful in
+      let here : IsLawful table before.client judged.state are.earlier line answer = subst (λ client. IsLawful table client judged.state are.earlier line answer) are.client_is lawful in
       record {
         earlier = earlier;
         client_is = client_is ∙ are.client_is;
         joined = joined;
-        lawful = λ rest. are.lawful (of_left (AreLawful table client judged.state are.earlier) (here, subst (λ state. AreLawful table client state earlier (drop (i + 1) all_lines) (drop (i + 1) all_answers)) now rest));
-        unlawful = λ command some rest. later here command some (subst (λ state. IsFirstUnlawful table client state earlier (drop (i + 1) all_lines) (drop (i + 1) all_answers) command) now rest);
+        lawful = λ rest. are.lawful (of_left (AreLawful table before.client judged.state are.earlier) (here, subst (λ state. AreLawful table before.client state earlier (drop (i + 1) all_lines) (drop (i + 1) all_answers)) now rest));
+        unlawful = λ command some rest. later here command some (subst (λ state. IsFirstUnlawful table before.client state earlier (drop (i + 1) all_lines) (drop (i + 1) all_answers) command) now rest);
         kinds = kinds_are ∙ are.kinds;
         puts = λ kinds made by_key.
             let so_far = are.puts kinds made by_key in
-            let by = puts_by client judged.state line answer in (
+            let by = puts_by before.client judged.state line answer in (
               so_far.0 ++ by,
               subst (λ client. AreByKey kinds (so_far.0 ++ puts_by client judged.state line answer) last) are.client_is (puts_are kinds so_far.0 so_far.1),
-              ap (λ state. (so_far.0 ++ by) ++ puts_from client state (drop (i + 1) all_lines) (drop (i + 1) all_answers)) now
-                  ∙ append_assoc so_far.0 by (puts_from client reached (drop (i + 1) all_lines) (drop (i + 1) all_answers))
-                  ∙ sym (λ j. so_far.0 ++ puts_from client judged.state (lines_left j) (answers_left j))
+              ap (λ state. (so_far.0 ++ by) ++ puts_from before.client state (drop (i + 1) all_lines) (drop (i + 1) all_answers)) now
+                  ∙ append_assoc so_far.0 by (puts_from before.client reached (drop (i + 1) all_lines) (drop (i + 1) all_answers))
+                  ∙ sym (λ j. so_far.0 ++ puts_from before.client judged.state (lines_left j) (answers_left j))
                   ∙ so_far.2,
             );
-        held = subst (λ state. MayAllBePut (kinds_of accepted) (held_puts state)) (sym now) (held_after (kinds_of accepted) client judged.state line answer may are.held);
-        counts = λ key. subst (λ state. own_count state.knows key + length (held_puts state) ≤ i + 1) (sym now) (count_after table client judged.state are.earlier line answer key i here (are.counts key));
+        end = ap (λ state. state_after before.client state (drop (i + 1) all_lines) (drop (i + 1) all_answers)) now
+            ∙ sym (λ j. state_after before.client judged.state (lines_left j) (answers_left j)) ∙ are.end;
+        held = subst (λ state. MayAllBePut (kinds_of accepted) (held_puts state)) (sym now) (held_after (kinds_of accepted) before.client judged.state line answer may are.held);
+        counts = λ key. subst (λ state. own_count state.knows key + length (held_puts state) ≤ i + 1) (sym now) (count_after table before.client judged.state are.earlier line answer key i here (are.counts key));
       }
     where
-      later : IsLawful table client judged.state are.earlier line answer → (command : ℕ) → 0 < command → IsFirstUnlawful table client (after client judged.state line answer) (are.earlier ++ (line, answer) ∷ []) (drop (i + 1) all_lines) (drop (i + 1) all_answers) command → IsFirstUnlawful table client start [] all_lines all_answers (i + 1 + command)
+      later : IsLawful table before.client judged.state are.earlier line answer → (command : ℕ) → 0 < command → IsFirstUnlawful table before.client (after before.client judged.state line answer) (are.earlier ++ (line, answer) ∷ []) (drop (i + 1) all_lines) (drop (i + 1) all_answers) command → IsFirstUnlawful table before.client before.state [] all_lines all_answers (i + 1 + command)
       later here zero some rest = absurd (omega (arith, some))
       later here (suc n) some rest =
           let same : i + suc (suc n) ≡ i + 1 + suc n = omega arith in
-          subst (IsFirstUnlawful table client start [] all_lines all_answers) same (are.unlawful (suc (suc n)) (omega arith) (of_left (λ left answered. IsFirstUnlawful table client judged.state are.earlier left answered (suc (suc n))) (here, rest)))
+          subst (IsFirstUnlawful table before.client before.state [] all_lines all_answers) same (are.unlawful (suc (suc n)) (omega arith) (of_left (λ left answered. IsFirstUnlawful table before.client judged.state are.earlier left answered (suc (suc n))) (here, rest)))
 
 -- All lines were judged.
-pub judged_all : (table : List (List ℕ)) (client : Client) (workers : ℕ) (all_lines : List Line) (all_answers : List Answer) (accepted : List OfKey) (i : ℕ) (judged : InState) (had : List (List (ℕ × List (ℕ × ℕ)))) (more : List OfKey) → AreJudging table client workers all_lines all_answers accepted i judged had more → length all_lines ≤ i → length all_answers ≡ length all_lines
-    → AreLawful table client start [] all_lines all_answers × ((kinds : List Kind) (made : List (ℕ × Put)) → AreByKey kinds made accepted → AreByKey kinds (made ++ puts_from client start all_lines all_answers) more)
-judged_all table client workers all_lines all_answers accepted i judged had more are all each =
+pub judged_all : (table : List (List ℕ)) (before : InState) (workers : ℕ) (all_lines : List Line) (all_answers : List Answer) (accepted : List OfKey) (i : ℕ) (judged : InState) (had : List (List (ℕ × List (ℕ × ℕ)))) (more : List OfKey) → AreJudging table before workers all_lines all_answers accepted i judged had more → length all_lines ≤ i → length all_answers ≡ length all_lines
+    → AreLawful table before.client before.state [] all_lines all_answers × ((kinds : List Kind) (made : List (ℕ × Put)) → AreByKey kinds made accepted → AreByKey kinds (made ++ puts_from before.client before.state all_lines all_answers) more) × (judged.state ≡ state_after before.client before.state all_lines all_answers)
+judged_all table before workers all_lines all_answers accepted i judged had more are all each =
     let no_lines : drop i all_lines ≡ [] = at_drop_all (λ xs. xs) all_lines i all in
     let no_answers : drop i all_answers ≡ [] = at_drop_all (λ xs. xs) all_answers i (omega (arith, all, each)) in (
-      are.lawful (subst (λ (at : List Line × List Answer). AreLawful table client judged.state are.earlier at.0 at.1) (λ j. (sym no_lines j, sym no_answers j)) tt),
+      are.lawful (subst (λ (at : List Line × List Answer). AreLawful table before.client judged.state are.earlier at.0 at.1) (λ j. (sym no_lines j, sym no_answers j)) tt),
       (λ kinds made by_key.
           let so_far = are.puts kinds made by_key in
-          subst (λ puts. AreByKey kinds puts more) (sym (append-nil so_far.0) ∙ sym (λ j. so_far.0 ++ puts_from client judged.state (no_lines j) (no_answers j)) ∙ so_far.2) so_far.1),
+          subst (λ puts. AreByKey kinds puts more) (sym (append-nil so_far.0) ∙ sym (λ j. so_far.0 ++ puts_from before.client judged.state (no_lines j) (no_answers j)) ∙ so_far.2) so_far.1),
+      sym (λ j. state_after before.client judged.state (no_lines j) (no_answers j)) ∙ are.end,
     )

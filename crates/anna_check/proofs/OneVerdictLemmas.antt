@@ -5,10 +5,10 @@ use Rattle.std.proofs.Common.{refl, sym, ap, ◌∙◌, inl, inr}
 use Rattle.std.proofs.lemmas.List.Elements.{All-head, All-tail}
 use Rattle.composed_value.specs.declared.kind.Kind.{Kind}
 use Rattle.composed_value.specs.declared.put.Put.{Put}
-use Rattle.session_known.specs.Accepted.{accepted}
+use Rattle.session_known.specs.Accepted.{accepted, ends_of}
 use Rattle.session_known.specs.Lawful.{AreLawful, IsTrueOf}
 use Rattle.session_known.specs.Legal.{AreLawfulFrom, IsLawfulFinal, IsLegalAt}
-use Rattle.session_known.specs.Session.{Client, State}
+use Rattle.session_known.specs.Session.{Client, Knowledge, State}
 use Rattle.session_known.specs.declared.report.Answer.{Answer}
 use Rattle.session_known.specs.declared.report.FinalCell.{FinalCell}
 use Rattle.session_known.specs.declared.report.Report.{Report}
@@ -40,20 +40,20 @@ module _ (table : List (List ℕ)) where
   one_unlawful lines answers client state earlier one other first second = absurd first
 
   -- where the answers of all sessions are lawful there, none is the first that is not
-  lawful_from_has_no_first : (number : ℕ) (plans : List SessionPlan) (answered : List (List Answer)) (session command : ℕ)
-      → AreLawfulFrom table number plans answered → IsFirstUnlawfulFrom table number plans answered session command → ⊥
-  lawful_from_has_no_first number (plan ∷ plans) (answers ∷ answered) session command lawful (inl first) = lawful_has_no_first plan.lines answers _ _ _ command lawful.0 first.1
-  lawful_from_has_no_first number (plan ∷ plans) (answers ∷ answered) session command lawful (inr first) = lawful_from_has_no_first (number + 1) plans answered session command lawful.1 first.1
-  lawful_from_has_no_first number plans answered session command lawful first = first
+  lawful_from_has_no_first : (ends : List Knowledge) (number : ℕ) (plans : List SessionPlan) (answered : List (List Answer)) (session command : ℕ)
+      → AreLawfulFrom table ends number plans answered → IsFirstUnlawfulFrom table ends number plans answered session command → ⊥
+  lawful_from_has_no_first ends number (plan ∷ plans) (answers ∷ answered) session command lawful (inl first) = lawful_has_no_first plan.lines answers _ _ _ command lawful.0 first.1
+  lawful_from_has_no_first ends number (plan ∷ plans) (answers ∷ answered) session command lawful (inr first) = lawful_from_has_no_first ends (number + 1) plans answered session command lawful.1 first.1
+  lawful_from_has_no_first ends number plans answered session command lawful first = first
 
   -- two places in the sessions whose answers are the first that is not lawful are one
-  one_unlawful_from : (number : ℕ) (plans : List SessionPlan) (answered : List (List Answer)) (session command in_session other : ℕ)
-      → IsFirstUnlawfulFrom table number plans answered session command → IsFirstUnlawfulFrom table number plans answered in_session other → Command session command ≡ Command in_session other
-  one_unlawful_from number (plan ∷ plans) (answers ∷ answered) session command in_session other (inl first) (inl second) = λ j. Command ((first.0 ∙ sym second.0) j) (one_unlawful plan.lines answers _ _ _ command other first.1 second.1 j)
-  one_unlawful_from number (plan ∷ plans) (answers ∷ answered) session command in_session other (inl first) (inr second) = absurd (lawful_has_no_first plan.lines answers _ _ _ command second.0 first.1)
-  one_unlawful_from number (plan ∷ plans) (answers ∷ answered) session command in_session other (inr first) (inl second) = absurd (lawful_has_no_first plan.lines answers _ _ _ other first.0 second.1)
-  one_unlawful_from number (plan ∷ plans) (answers ∷ answered) session command in_session other (inr first) (inr second) = one_unlawful_from (number + 1) plans answered session command in_session other first.1 second.1
-  one_unlawful_from number plans answered session command in_session other first second = absurd first
+  one_unlawful_from : (ends : List Knowledge) (number : ℕ) (plans : List SessionPlan) (answered : List (List Answer)) (session command in_session other : ℕ)
+      → IsFirstUnlawfulFrom table ends number plans answered session command → IsFirstUnlawfulFrom table ends number plans answered in_session other → Command session command ≡ Command in_session other
+  one_unlawful_from ends number (plan ∷ plans) (answers ∷ answered) session command in_session other (inl first) (inl second) = λ j. Command ((first.0 ∙ sym second.0) j) (one_unlawful plan.lines answers _ _ _ command other first.1 second.1 j)
+  one_unlawful_from ends number (plan ∷ plans) (answers ∷ answered) session command in_session other (inl first) (inr second) = absurd (lawful_has_no_first plan.lines answers _ _ _ command second.0 first.1)
+  one_unlawful_from ends number (plan ∷ plans) (answers ∷ answered) session command in_session other (inr first) (inl second) = absurd (lawful_has_no_first plan.lines answers _ _ _ other first.0 second.1)
+  one_unlawful_from ends number (plan ∷ plans) (answers ∷ answered) session command in_session other (inr first) (inr second) = one_unlawful_from ends (number + 1) plans answered session command in_session other first.1 second.1
+  one_unlawful_from ends number plans answered session command in_session other first second = absurd first
 
 module _ (kinds : List Kind) (puts : List (ℕ × Put)) where
   -- ---- of all accepted puts
@@ -110,8 +110,8 @@ module _ (kinds : List Kind) (puts : List (ℕ × Put)) where
 
 module _ (table : List (List ℕ)) (script : Script) (report : Report) where
   -- where every answer is lawful inside its session, none is the first that is not
-  inside_has_no_first : (session command : ℕ) → IsLawfulInside table script report → IsFirstUnlawfulFrom table 1 script.sessions report.answers session command → ⊥
-  inside_has_no_first = lawful_from_has_no_first table 1 script.sessions report.answers
+  inside_has_no_first : (session command : ℕ) → IsLawfulInside table script report → IsFirstUnlawfulFrom table (ends_of script report) 1 script.sessions report.answers session command → ⊥
+  inside_has_no_first = lawful_from_has_no_first table (ends_of script report) 1 script.sessions report.answers
 
   -- where what every answer says of the accepted puts is true, none is the first that says something untrue
   true_of_puts_has_no_first : (session command : ℕ) → IsTrueOfPuts script report → IsFirstUntrueFrom script.kinds (accepted script report) 1 script.sessions report.answers session command → ⊥
@@ -128,7 +128,7 @@ module _ (table : List (List ℕ)) (script : Script) (report : Report) where
   pub verdict_is_single : (one other : Verdict) → IsVerdict table script report one → IsVerdict table script report other → one ≡ other
   verdict_is_single Legal other first second = sym (legal_alone other first second)
   verdict_is_single one Legal first second = legal_alone one second first
-  verdict_is_single (Command session command) (Command in_session other) (inl first) (inl second) = one_unlawful_from table 1 script.sessions report.answers session command in_session other first second
+  verdict_is_single (Command session command) (Command in_session other) (inl first) (inl second) = one_unlawful_from table (ends_of script report) 1 script.sessions report.answers session command in_session other first second
   verdict_is_single (Command session command) (Command in_session other) (inl first) (inr second) = absurd (inside_has_no_first session command second.0 first)
   verdict_is_single (Command session command) (Command in_session other) (inr first) (inl second) = absurd (inside_has_no_first in_session other first.0 second)
   verdict_is_single (Command session command) (Command in_session other) (inr first) (inr second) = one_untrue_from script.kinds (accepted script report) 1 script.sessions report.answers session command in_session other first.1 second.1

@@ -1,20 +1,21 @@
 -- A session as it is judged, line by line.
-use Rattle.std.specs.Prelude.{◌≡◌, ℕ, ◌+◌, ◌<◌, ◌≤◌, ◌^◌, List, [], ◌∷◌, length, All, Option, Result, IfOk, MatchOption, ⊤}
+use Rattle.std.specs.Prelude.{◌≡◌, ℕ, ◌+◌, ◌<◌, ◌≤◌, ◌^◌, List, [], ◌∷◌, length, All, Option, None, Result, IfOk, IfNone, MatchOption, ⊤}
 use Rattle.std.specs.List.{AllZip}
 use Rattle.lattice_laws.specs.declared.lattice.NoMemory.{NoMemory}
 use Rattle.composed_value.specs.declared.kind.Kind.{Kind}
 use Rattle.composed_value.specs.declared.payload.Payload.{Payload}
 use Rattle.composed_value.specs.declared.put.Put.{Put}
+use Rattle.session_known.specs.Accepted.{ends_from}
 use Rattle.session_known.specs.Form.{Fits}
 use Rattle.session_known.specs.Lawful.{IsLawful, AreLawful}
 use Rattle.session_known.specs.Legal.{AreLawfulFrom}
 use Rattle.placement.specs.Config.{IsOneOf}
-use Rattle.session_known.specs.Session.{Client, State, InState, knows_put, known_of, start, own_count, held_puts, next_put, puts_committed, knows_committed, Knowledge, after, puts_by, puts_from}
+use Rattle.session_known.specs.Session.{State, InState, Knows, knows_put, known_of, own_count, held_puts, next_put, puts_committed, knows_committed, Knowledge, after, puts_by, puts_from, state_after}
 use Rattle.session_known.specs.declared.report.Answer.{Answer}
 use Rattle.session_known.specs.declared.report.Answer.TheVariants as answers
 use Rattle.session_known.specs.declared.script.Line.{Line}
 use Rattle.session_known.specs.declared.script.Line.TheVariants as lines
-use Rattle.session_known.specs.declared.script.Level.{Level}
+use Rattle.session_known.specs.declared.script.Level.TheVariants.{Causal}
 use Rattle.session_known.specs.declared.script.Script.{Script}
 use Rattle.session_known.specs.declared.script.SessionPlan.{SessionPlan}
 use Rattle.anna_check.specs.ByKey.{MayBePut}
@@ -87,19 +88,32 @@ made_by session line answer = puts_by session.client session.state line answer
 abbrev pub state_then : InState → Line → Answer → State
 state_then session line answer = after session.client session.state line answer
 
--- those of all its lines, by its number and level
-abbrev pub made_by_all : ℕ → Level → List Line → List Answer → List (ℕ × Put)
-made_by_all session level of_session answered = puts_from (record { session = session; level = level }) start of_session answered
+-- those of all its lines
+abbrev pub made_by_all : InState → List Line → List Answer → List (ℕ × Put)
+made_by_all session of_session answered = puts_from session.client session.state of_session answered
 
 -- ---- what is found
 
+-- a session at its start has made no puts and holds none
+pub record IsAtStart (session : InState) : Type 0 where
+  pub none_made : (key : ℕ) → own_count session.state.knows key ≡ 0
+  pub none_held : session.state.held ≡ None
+
+-- a session comes after one of these, and is causal, if it comes after one
+abbrev pub MayBegin : List Knows → SessionPlan → Type 0
+MayBegin ends plan = MatchOption plan.after ⊤ (λ after. IsOneOf (length ends) after × (plan.level ≡ Causal))
+
 -- the first command of a session whose answer is not lawful there, and nothing where all are
-abbrev pub FindsUnlawful : List (List ℕ) → ℕ → Level → List Line → List Answer → Result (Option ℕ) NoMemory → Type 0
-FindsUnlawful table session level of_session answered result =
-    let client : Client = record { session = session; level = level } in
-    IfOk result (λ found. MatchOption found (AreLawful table client start [] of_session answered) (IsFirstUnlawful table client start [] of_session answered))
+abbrev pub FindsUnlawful : List (List ℕ) → InState → List Line → List Answer → Result (Option ℕ) NoMemory → Type 0
+FindsUnlawful table session of_session answered result =
+    IfOk result (λ found. MatchOption found (AreLawful table session.client session.state [] of_session answered) (IsFirstUnlawful table session.client session.state [] of_session answered))
+
+-- the session is in the state after its lines where all are
+abbrev pub IsAfterAll : InState → List Line → List Answer → InState → Result (Option ℕ) NoMemory → Type 0
+IsAfterAll session of_session answered now result = IfOk result (λ found. IfNone found (now.state ≡ state_after session.client session.state of_session answered))
 
 -- and of all sessions
 abbrev pub FindsUnlawfulFrom : List (List ℕ) → List SessionPlan → List (List Answer) → Result (Option (ℕ × ℕ)) NoMemory → Type 0
 FindsUnlawfulFrom table sessions answered result =
-    IfOk result (λ found. MatchOption found (AreLawfulFrom table 1 sessions answered) (λ place. IsFirstUnlawfulFrom table 1 sessions answered place.0 place.1))
+    let ends : List Knowledge = ends_from [] 1 sessions answered in
+    IfOk result (λ found. MatchOption found (AreLawfulFrom table ends 1 sessions answered) (λ place. IsFirstUnlawfulFrom table ends 1 sessions answered place.0 place.1))

@@ -4,11 +4,11 @@ use Rattle.std.specs.List.{AllZip}
 use Rattle.std.proofs.Common.{◌⊎◌}
 use Rattle.composed_value.specs.declared.kind.Kind.{Kind}
 use Rattle.composed_value.specs.declared.put.Put as puts
-use Rattle.session_known.specs.Accepted.{accepted, client_of}
+use Rattle.session_known.specs.Accepted.{accepted, client_of, ends_of, start_of}
 use Rattle.session_known.specs.Lawful.{IsLawful, AreLawful, IsTrueOf}
 use Rattle.session_known.specs.Legal.{AreLawfulFrom, IsLawfulFinal, IsLegalAt}
 use Rattle.session_known.specs.Script.{IsValidScript}
-use Rattle.session_known.specs.Session.{Client, State, start, after}
+use Rattle.session_known.specs.Session.{Client, Knowledge, State, after}
 use Rattle.session_known.specs.declared.report.Answer.{Answer}
 use Rattle.session_known.specs.declared.report.FinalCell.{FinalCell}
 use Rattle.session_known.specs.declared.report.Report.{Report}
@@ -28,12 +28,12 @@ IsFirstUnlawful table client state earlier (line ∷ lines) (answer ∷ answers)
     IsLawful table client state earlier line answer × IsFirstUnlawful table client (after client state line answer) (earlier ++ (line, answer) ∷ []) lines answers (suc command)
 IsFirstUnlawful table client state earlier lines answers command = ⊥
 
--- of the sessions from a number on, the first that has such a command, and the command
-abbrev pub IsFirstUnlawfulFrom : List (List ℕ) → ℕ → List SessionPlan → List (List Answer) → ℕ → ℕ → Type 0
-IsFirstUnlawfulFrom table number (plan ∷ plans) (answers ∷ others) session command =
-    ((session ≡ number) × IsFirstUnlawful table (client_of number plan) start [] plan.lines answers command)
-    ⊎ (AreLawful table (client_of number plan) start [] plan.lines answers × IsFirstUnlawfulFrom table (number + 1) plans others session command)
-IsFirstUnlawfulFrom table number plans others session command = ⊥
+-- of the sessions from a number on, where `ends` is what each knows after its last line, the first that has such a command, and the command
+abbrev pub IsFirstUnlawfulFrom : List (List ℕ) → List Knowledge → ℕ → List SessionPlan → List (List Answer) → ℕ → ℕ → Type 0
+IsFirstUnlawfulFrom table ends number (plan ∷ plans) (answers ∷ others) session command =
+    ((session ≡ number) × IsFirstUnlawful table (client_of number plan) (start_of ends plan) [] plan.lines answers command)
+    ⊎ (AreLawful table (client_of number plan) (start_of ends plan) [] plan.lines answers × IsFirstUnlawfulFrom table ends (number + 1) plans others session command)
+IsFirstUnlawfulFrom table ends number plans others session command = ⊥
 
 -- ---- of all accepted puts
 
@@ -67,7 +67,7 @@ IsFirstUnlawfulFinal kinds accepted (cell ∷ cells) key worker =
 
 -- every answer is lawful inside its session
 abbrev pub IsLawfulInside : List (List ℕ) → Script → Report → Type 0
-IsLawfulInside table script report = AreLawfulFrom table 1 script.sessions report.answers
+IsLawfulInside table script report = AreLawfulFrom table (ends_of script report) 1 script.sessions report.answers
 
 -- what every answer says of the accepted puts is true
 abbrev pub IsTrueOfPuts : Script → Report → Type 0
@@ -83,7 +83,7 @@ IsVerdictOfPuts script report (Final key worker) = IsTrueOfPuts script report ×
 abbrev pub IsVerdict : List (List ℕ) → Script → Report → Verdict → Type 0
 IsVerdict table script report Legal = IsLegalAt table script report
 IsVerdict table script report (Command session command) =
-    IsFirstUnlawfulFrom table 1 script.sessions report.answers session command
+    IsFirstUnlawfulFrom table (ends_of script report) 1 script.sessions report.answers session command
     ⊎ (IsLawfulInside table script report × IsFirstUntrueFrom script.kinds (accepted script report) 1 script.sessions report.answers session command)
 IsVerdict table script report (Final key worker) =
     IsLawfulInside table script report × IsTrueOfPuts script report × IsFirstUnlawfulFinal script.kinds (accepted script report) report.finals key worker

@@ -1,5 +1,5 @@
 -- Lists that are made one item after another: those made so far, and those that are left.
-use Rattle.std.specs.Prelude.{◌≡◌, ℕ, ◌+◌, ◌-◌, ◌≤◌, ◌<◌, List, [], ◌∷◌, ◌++◌, map, codes}
+use Rattle.std.specs.Prelude.{◌≡◌, ℕ, ◌+◌, ◌-◌, ◌≤◌, ◌<◌, List, [], ◌∷◌, ◌++◌, map, codes, None}
 use Rattle.std.specs.Fmt.{decimal}
 use Rattle.std.specs.List.{range_with_len}
 use Rattle.std.proofs.Common.{suc, sym, ap, ◌∙◌, append-nil, append_assoc, arith}
@@ -57,16 +57,16 @@ lines_passed level command last state whole over are =
 -- the first of those that are left is made
 pub plan_made : (session last state state' : ℕ) (whole made made' : List SessionPlan) (name : List ℕ) (level : Level) (lines : List Line) → session < last
     → name ≡ codes "s" ++ decimal session → level ≡ session_level session
-    → lines ≡ command_lines level 0 400 state → state' ≡ state_after level 0 400 state → made' ≡ made ++ record { name = name; level = level; lines = lines } ∷ []
+    → lines ≡ command_lines level 0 400 state → state' ≡ state_after level 0 400 state → made' ≡ made ++ record { name = name; level = level; after = None; lines = lines } ∷ []
     → whole ≡ made ++ session_plans session (last - session) state → whole ≡ made' ++ session_plans (session + 1) (last - (session + 1)) state'
 unfolding session_plans
 plan_made session last state state' whole made made' name level lines more name_is level_is lines_are state_is made_is are =
     let one : last - session ≡ suc (last - (session + 1)) = omega arith in
     let of : Level = session_level session in
-    let plan : SessionPlan = record { name = codes "s" ++ decimal session; level = of; lines = command_lines of 0 400 state } in
+    let plan : SessionPlan = record { name = codes "s" ++ decimal session; level = of; after = None; lines = command_lines of 0 400 state } in
     let lines_of : lines ≡ command_lines of 0 400 state = lines_are ∙ ap (λ (l : Level). command_lines l 0 400 state) level_is in
     let state_of : state' ≡ state_after of 0 400 state = state_is ∙ ap (λ (l : Level). state_after l 0 400 state) level_is in
-    let made_are : made' ≡ made ++ plan ∷ [] = made_is ∙ (λ j. made ++ record { name = name_is j; level = level_is j; lines = lines_of j } ∷ []) in
+    let made_are : made' ≡ made ++ plan ∷ [] = made_is ∙ (λ j. made ++ record { name = name_is j; level = level_is j; after = None; lines = lines_of j } ∷ []) in
     let left = session_plans (session + 1) (last - (session + 1)) (state_after of 0 400 state) in
     are ∙ ap (λ n. made ++ session_plans session n state) one ∙ sym (append_assoc made (plan ∷ []) left)
     ∙ (λ j. sym made_are j ++ session_plans (session + 1) (last - (session + 1)) (sym state_of j))

@@ -3,10 +3,10 @@ use Rattle.std.specs.Prelude.{◌≡◌, ℕ, ◌+◌, List, [], ◌∷◌, ◌+
 use Rattle.std.proofs.Common.{refl, sym, ◌∙◌, length-append}
 use Rattle.std.proofs.lemmas.List.Sums.{sum_by-cons}
 use Rattle.session_known.proofs.AcceptedLemmas.{committed_count}
-use Rattle.session_known.specs.Accepted.{accepted_from, client_of}
+use Rattle.session_known.specs.Accepted.{accepted_from, client_of, start_of}
 use Rattle.session_known.specs.Lawful.{AreLawful, IsLawful}
 use Rattle.session_known.specs.Legal.{AreLawfulFrom}
-use Rattle.session_known.specs.Session.{Client, State, after, held_puts, puts_by, puts_from, start}
+use Rattle.session_known.specs.Session.{Client, Knowledge, State, after, held_puts, puts_by, puts_from}
 use Rattle.session_known.specs.declared.report.Answer.{Answer}
 use Rattle.session_known.specs.declared.report.Answer.TheVariants as answers
 use Rattle.session_known.specs.declared.script.Line.{Line}
@@ -43,13 +43,13 @@ lines_told table client state earlier (line ∷ lines) (answer ∷ answers) lawf
     ∙ sym (sum_by-cons puts_told answer answers)
 
 -- and those of all sessions
-pub all_told : (table : List (List ℕ)) (number : ℕ) (plans : List SessionPlan) (others : List (List Answer)) → AreLawfulFrom table number plans others
-    → length (accepted_from number plans others) ≡ puts_of_all others
-all_told table number [] [] lawful = refl
-all_told table number [] (answers ∷ others) lawful = absurd lawful
-all_told table number (plan ∷ plans) [] lawful = absurd lawful
-all_told table number (plan ∷ plans) (answers ∷ others) lawful =
+pub all_told : (table : List (List ℕ)) (ends : List Knowledge) (number : ℕ) (plans : List SessionPlan) (others : List (List Answer)) → AreLawfulFrom table ends number plans others
+    → length (accepted_from ends number plans others) ≡ puts_of_all others
+all_told table ends number [] [] lawful = refl
+all_told table ends number [] (answers ∷ others) lawful = absurd lawful
+all_told table ends number (plan ∷ plans) [] lawful = absurd lawful
+all_told table ends number (plan ∷ plans) (answers ∷ others) lawful =
     let client : Client = client_of number plan in
-    length-append (puts_from client start plan.lines answers) (accepted_from (number + 1) plans others)
-    ∙ (λ j. lines_told table client start [] plan.lines answers lawful.0 j + all_told table (number + 1) plans others lawful.1 j)
+    length-append (puts_from client (start_of ends plan) plan.lines answers) (accepted_from ends (number + 1) plans others)
+    ∙ (λ j. lines_told table client (start_of ends plan) [] plan.lines answers lawful.0 j + all_told table ends (number + 1) plans others lawful.1 j)
     ∙ sym (sum_by-cons puts_of_session answers others)

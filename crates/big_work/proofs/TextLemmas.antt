@@ -5,7 +5,7 @@ use Rattle.std.specs.List.{flat_map, range_with_len}
 use Rattle.std.proofs.Common.{refl, sym, ap, subst, ◌∙◌, append_assoc, arith}
 use Rattle.report_lines.specs.Text.{line_text, short_words}
 use Rattle.session_known.proofs.AcceptedLemmas.{all_accept}
-use Rattle.session_known.specs.Accepted.{accepted}
+use Rattle.session_known.specs.Accepted.{accepted, ends_of}
 use Rattle.session_known.specs.Form.{replicas_ascending}
 use Rattle.session_known.specs.Legal.{IsLegalAt}
 use Rattle.session_known.specs.declared.report.Answer.{Answer}
@@ -48,7 +48,7 @@ module _ (script : Script) (report : Report) (table : List (List ℕ)) (legal : 
   pub few_puts : puts_of_all answers ≤ commands_of script
   few_puts =
       subst (λ answers. puts_of_all answers ≤ commands_of script) (sym answers_are)
-      (omega (arith, all_told table 1 script.sessions report.answers legal.answers, all_accept 1 script.sessions report.answers))
+      (omega (arith, all_told table (ends_of script report) 1 script.sessions report.answers legal.answers, all_accept (ends_of script report) 1 script.sessions report.answers))
 
   -- What is written is the summary.
   pub summary_is : (number commands puts : ℕ) (finals : List FinalCell) → commands ≡ commands_of script → puts ≡ puts_of_all answers → finals ≡ report.finals
@@ -57,7 +57,7 @@ module _ (script : Script) (report : Report) (table : List (List ℕ)) (legal : 
       let cells = flat_map (least_cell report.finals) (range_with_len 1 (length script.config.keys)) in
       let firsts : first_cells None finals ≡ cells =
       ap (first_cells None) finals_are ∙ firsts_are_least (replicas_ascending script table) 1 (length script.config.keys) report.finals None tt legal.form.places in
-      let puts_told : puts ≡ length (accepted script report) = puts_are ∙ ap puts_of_all answers_are ∙ sym (all_told table 1 script.sessions report.answers legal.answers) in
+      let puts_told : puts ≡ length (accepted script report) = puts_are ∙ ap puts_of_all answers_are ∙ sym (all_told table (ends_of script report) 1 script.sessions report.answers legal.answers) in
       let rest = flat_map line_text (map (short_words script) cells ++ (codes "end" ∷ []) ∷ []) in
       (λ j. head_text number (commands_are j) (puts_told j) ++ (flat_map (short_line script) (firsts j) ++ codes "end\n"))
       ∙ ap (λ later. head_text number (commands_of script) (length (accepted script report)) ++ later) (sym (cells_text script cells))

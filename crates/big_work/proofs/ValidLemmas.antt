@@ -20,6 +20,7 @@ use Rattle.placement.specs.Config.{ArePins, IsOwnFactor, IsOneOf, placed}
 use Rattle.placement.specs.Name.{IsName}
 use Rattle.placement.specs.declared.config.KeyPlace.{KeyPlace}
 use Rattle.placement.proofs.ConfigLemmas.{is_placement}
+use Rattle.session_known.proofs.EndsLemmas.{none_comes_after}
 use Rattle.session_known.specs.Script.{AreEnded, IsValidScript, IsValidSession, MayStand}
 use Rattle.session_known.specs.declared.script.Level.{Level}
 use Rattle.session_known.specs.declared.script.Level.TheVariants.{Eventual, Committed, Causal}
@@ -192,7 +193,7 @@ lines_count session zero state = refl
 lines_count session (suc n) state =
     let lines_of : SessionPlan → ℕ = λ plan. length plan.lines in
     let level = session_level session in
-    let plan : SessionPlan = record { name = codes "s" ++ decimal session; level = level; lines = command_lines level 0 400 state } in
+    let plan : SessionPlan = record { name = codes "s" ++ decimal session; level = level; after = None; lines = command_lines level 0 400 state } in
     let rest = session_plans (session + 1) n (state_after level 0 400 state) in
     let others : sum_by lines_of rest ≡ 400 * n = lines_count (session + 1) n (state_after level 0 400 state) in
     sum_by-cons lines_of plan rest ∙ ap (λ k. k + sum_by lines_of rest) (commands_count level 0 400 state) ∙ omega (arith, others)
@@ -220,6 +221,12 @@ sessions_differ session zero state few = λ i j d below within. absurd (omega (a
 sessions_differ session (suc n) state few =
     AllPairs-cons (λ (plan : SessionPlan) (other : SessionPlan). plan.name ≢ other.name) _ (session_plans (session + 1) n (state_after (session_level session) 0 400 state))
     (later_named session (session + 1) n _ (omega arith) (omega arith)) (sessions_differ (session + 1) n _ (omega arith))
+
+-- none comes after another
+none_after : (session n state : ℕ) → All (λ plan. plan.after ≡ None) (session_plans session n state)
+unfolding session_plans
+none_after session zero state = All-nil (λ (plan : SessionPlan). plan.after ≡ None)
+none_after session (suc n) state = All-cons (λ (plan : SessionPlan). plan.after ≡ None) _ (session_plans (session + 1) n (state_after (session_level session) 0 400 state)) refl (none_after (session + 1) n _)
 
 -- the lines of each are lawful
 sessions_valid : (script : Script) (table : List (List ℕ)) → length script.config.keys ≡ 32 → script.kinds ≡ map key_kind (range_with_len 1 32) → (session n state : ℕ)
@@ -258,4 +265,5 @@ big_is_valid number = record {
   few_sessions = omega (arith, sessions_count 1 8 number);
   few_lines = omega (arith, lines_count 1 8 number);
   sessions = sessions_valid (script_of number) (placed (script_of number).config) refl refl 1 8 number;
+  orders = none_comes_after (script_of number) (none_after 1 8 number);
 }

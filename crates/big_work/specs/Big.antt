@@ -93,7 +93,7 @@ state_after level command (suc more) state = state_after level (command + 1) mor
 unfoldable pub session_plans : ℕ → ℕ → ℕ → List SessionPlan
 session_plans session zero state = []
 session_plans session (suc more) state =
-    record { name = codes "s" ++ decimal session; level = session_level session; lines = command_lines (session_level session) 0 400 state }
+    record { name = codes "s" ++ decimal session; level = session_level session; after = None; lines = command_lines (session_level session) 0 400 state }
     ∷ session_plans (session + 1) more (state_after (session_level session) 0 400 state)
 
 -- ---- the script

@@ -13,7 +13,7 @@ use Rattle.session_known.specs.declared.script.Script.{Script}
 use Rattle.session_known.specs.declared.script.SessionPlan.{SessionPlan}
 
 abbrev pub small_plan : SessionPlan
-small_plan = record { name = codes "s"; level = Committed; lines = lines.Begin ∷ lines.Put 1 (payloads.Max 7) ∷ lines.Commit ∷ [] }
+small_plan = record { name = codes "s"; level = Committed; after = None; lines = lines.Begin ∷ lines.Put 1 (payloads.Max 7) ∷ lines.Commit ∷ [] }
 
 abbrev pub small_script : Script
 small_script = record {

@@ -91,6 +91,7 @@ fn plans(alloc: Global, number: u64) -> Result<Items<SessionPlan>, NoMemory>
         plans.push(SessionPlan {
             name: name(alloc, "s", session)?,
             level,
+            after: None,
             lines: generator.lines(alloc, level)?,
         })?;
     }

@@ -133,6 +133,7 @@ fn small_script(alloc: Global) -> Result<Script, Fail>
     let plan = SessionPlan {
         name: Name::of(b"s")?,
         level: Level::Committed,
+        after: None,
         lines,
     };
     Ok(Script {

@@ -8,8 +8,8 @@ use Rattle.mail_contract.specs.Parts.{Parts}
 use Rattle.mail_contract.specs.Standing.{About, Settled}
 use Rattle.mail_contract.specs.Takes.{IsFront, from_sender}
 use Rattle.placement.specs.Config.{IsOneOf}
-use Rattle.session_known.specs.Accepted.{client_of}
-use Rattle.session_known.specs.Session.{Client}
+use Rattle.session_known.specs.Accepted.{client_of, origin_of}
+use Rattle.session_known.specs.Session.{Client, Knowledge}
 use Rattle.session_known.specs.declared.report.Answer.{Answer}
 use Rattle.session_known.specs.declared.script.Script.{Script}
 use Rattle.session_known.specs.declared.script.SessionPlan.{SessionPlan}
@@ -21,7 +21,7 @@ use Rattle.store_msg.specs.declared.request.Request.{Request}
 use Rattle.worker_core.specs.Share.{Share}
 use Rattle.worker_core.specs.State.{Entries, PlainWorker, lists_of}
 use Rattle.run_ledger.proofs.MessagesLemmas.{each_from}
-use Rattle.run_ledger.specs.Parties.{HasEnded, HaveEnded}
+use Rattle.run_ledger.specs.Parties.{HasEnded, HaveEnded, known_then}
 use Rattle.legal_runs.proofs.EndedSessionsLemmas.{none_sent}
 use Rattle.run_ledger.proofs.GetsLemmas.{gets_in, gets_to}
 use Rattle.run_ledger.proofs.HeldLemmas.{own_taken}
@@ -40,13 +40,13 @@ replied_to replied worker session = slice_index_or (map replied worker.ends.repl
 abbrev lists_of_it : {A S R : Type 0} → (S → List Request) → (R → List (ℕ × PlainReply)) → sessions.Course → A × SessionEndsOver S R → sessions.Lists
 lists_of_it asked received course its = record { course = course; sent = map asked its.1.requests.items; received = received its.1.replies }
 
-module _ (table : List (List ℕ)) (workers : ℕ) (client : Client) (plan : SessionPlan) (session : sessions.Lists) (ended : HasEnded table workers client plan session) where
+module _ (table : List (List ℕ)) (workers : ℕ) (client : Client) (origin : Knowledge) (plan : SessionPlan) (session : sessions.Lists) (ended : HasEnded table workers client origin plan session) where
   -- An ended session, all of whose messages are replies of their senders, received of each worker at least as many as it asked it for.
   few_asked : All (λ message. message.1.worker ≡ message.0) session.received → (worker : ℕ) → IsOneOf workers worker
       → length (gets_in (slice_index_or session.sent (worker - 1) [])) ≤ length (from_sender worker session.received)
   few_asked own worker within =
       let asked = ended.asked in
-      let none : gets_to worker (open_sent session.course) ≡ 0 = ap (gets_to worker) (none_sent table workers client plan session ended) in
+      let none : gets_to worker (open_sent session.course) ≡ 0 = ap (gets_to worker) (none_sent table workers client origin plan session ended) in
       let few = few_unheard session ended.share worker (within.0, omega (arith, within.1, asked)) own 0 (omega (arith, none)) in
       omega (arith, few)
 
@@ -54,23 +54,24 @@ module _ {A S R : Type 0} (asked : S → List Request) (received : R → List (�
   -- The session at a place, by what it left, has ended.
   record HasLeft (left : List (A × SessionEndsOver S R)) (place : ℕ) : Type 0 where
     client : Client
+    origin : Knowledge
     plan : SessionPlan
     course : sessions.Course
     its : A × SessionEndsOver S R
     its_is : slice_get left place ≡ Some its
-    ended : HasEnded table workers client plan (lists_of_it asked received course its)
+    ended : HasEnded table workers client origin plan (lists_of_it asked received course its)
 
   -- where all have ended, each has
-  has_left : (number : ℕ) (plans : List SessionPlan) (courses : List sessions.Course) (left : List (A × SessionEndsOver S R))
-      → HaveEnded table workers number plans (lists_left asked received courses left) → (place : ℕ) → place < length plans → HasLeft left place
-  has_left number (plan ∷ plans) (course ∷ courses) (its ∷ left) have zero within =
-      record { client = client_of number plan; plan = plan; course = course; its = its; its_is = refl; ended = have.0 }
-  has_left number (plan ∷ plans) (course ∷ courses) (its ∷ left) have (suc place) within =
-      let later = has_left (number + 1) plans courses left have.1 place (omega (arith, within)) in
-      record { client = later.client; plan = later.plan; course = later.course; its = later.its; its_is = later.its_is; ended = later.ended }
-  has_left number [] courses left have place within = absurd (omega (arith, within))
-  has_left number (plan ∷ plans) [] left have place within = absurd have
-  has_left number (plan ∷ plans) (course ∷ courses) [] have place within = absurd have
+  has_left : (ends : List Knowledge) (number : ℕ) (plans : List SessionPlan) (courses : List sessions.Course) (left : List (A × SessionEndsOver S R))
+      → HaveEnded table workers ends number plans (lists_left asked received courses left) → (place : ℕ) → place < length plans → HasLeft left place
+  has_left ends number (plan ∷ plans) (course ∷ courses) (its ∷ left) have zero within =
+      record { client = client_of number plan; origin = origin_of ends plan.after; plan = plan; course = course; its = its; its_is = refl; ended = have.0 }
+  has_left ends number (plan ∷ plans) (course ∷ courses) (its ∷ left) have (suc place) within =
+      let later = has_left ends (number + 1) plans courses left have.1 place (omega (arith, within)) in
+      record { client = later.client; origin = later.origin; plan = later.plan; course = later.course; its = later.its; its_is = later.its_is; ended = later.ended }
+  has_left ends number [] courses left have place within = absurd (omega (arith, within))
+  has_left ends number (plan ∷ plans) [] left have place within = absurd have
+  has_left ends number (plan ∷ plans) (course ∷ courses) [] have place within = absurd have
 
 module _ {S T O Q G R SK TK OK QK GK RK : Type 0}
     {request_key : S → SK} {request_number : S → ℕ} {asked : S → List Request}
@@ -87,7 +88,7 @@ module _ {S T O Q G R SK TK OK QK GK RK : Type 0}
     replies_key replies_pairs replies_received replies_about script workers left) where
   -- Each session has ended.
   each_left : (session : ℕ) → session < length script.sessions → HasLeft asked replies_received run.table script.config.workers left session
-  each_left = has_left asked replies_received run.table script.config.workers 1 script.sessions run.courses left run.ended
+  each_left = has_left asked replies_received run.table script.config.workers (known_then (lists_left asked replies_received run.courses left)) 1 script.sessions run.courses left run.ended
 
   module _ {replied : T → List PlainReply} {told : O → List Entries}
       (shares : (place : ℕ) (worker : PlainWorker Q T O G) → slice_get workers place ≡ Some worker → Share (lists_of requests_received replied told got worker))
@@ -141,7 +142,7 @@ module _ {S T O Q G R SK TK OK QK GK RK : Type 0}
         ∙ get_or_from_slice_get (map asked senders) place (asked there.0) [] (mapped asked senders place there.0 there.1)
         in
         let heard =
-        few_asked run.table script.config.workers it.client it.plan (lists_of_it asked replies_received it.course it.its) it.ended
+        few_asked run.table script.config.workers it.client it.origin it.plan (lists_of_it asked replies_received it.course it.its) it.ended
         (own session it.its it.its_is within) (place + 1) (omega arith, omega (arith, inside, as_many))
         in
         let few =

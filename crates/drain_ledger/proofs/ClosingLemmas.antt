@@ -26,7 +26,8 @@ use Rattle.worker_core.specs.Share.{HoldsReceived, Share, told_to}
 use Rattle.worker_core.specs.State.{Entries, Lists, PlainWorker, dirty, kept_request, lists_of, lives_at, place_at}
 use Rattle.run_ledger.specs.Came.{Came, IsSettled, IsWhole}
 use Rattle.run_ledger.specs.Ledger.{Ledger, WorkerEnd, no_worker, worker_at}
-use Rattle.run_ledger.specs.Parties.{AreDrained, ArePaired, AreMates, IsSealed, Parties, SealedWorker, end_of, ledger_of, no_sealed, no_session, sealed_at, session_at}
+use Rattle.run_ledger.proofs.EndedLemmas.{answered, known_are_ends}
+use Rattle.run_ledger.specs.Parties.{AreDrained, ArePaired, AreMates, HaveEnded, IsSealed, Parties, SealedWorker, end_of, ledger_of, no_sealed, no_session, sealed_at, session_at}
 use Rattle.legal_runs.proofs.DrainedLemmas.{drained_came}
 use Rattle.legal_runs.proofs.LegalLemmas.{legal_and_causal}
 use Rattle.legal_runs.proofs.PartiesLemmas.{at_mapped}
@@ -245,12 +246,17 @@ module _ {S T O Q G R SK TK OK QK GK RK : Type 0}
     finals : All (IsWhole in_hand) report.finals
     finals = subst (All (IsWhole in_hand)) (sym finals_are) (finals_whole in_hand maps are_theirs (length script.config.keys))
 
+    answers_in_hand : report.answers ≡ answered parties.sessions
+    answers_in_hand = answers_are ∙ sym run.courses_are
+        ∙ sym (first_of_paired (left_of asked replies_received) (λ (lists : sessions.Lists). lists.course.answers) (λ (course : sessions.Course). course.answers) run.courses left (sym as_many_courses)
+        (λ place course its there also. refl))
+
     -- so the parties are drained
     are_drained : AreDrained script run.table report parties
     are_drained = record {
       numbered = numbered;
       workers = all_paired sealed_from (IsSealed script run.table) turned heard is_sealed;
-      sessions = run.ended;
+      sessions = subst (λ ends. HaveEnded run.table script.config.workers ends 1 script.sessions parties.sessions) (known_are_ends script run.table report script.config.workers parties.sessions run.valid run.ended answers_in_hand) run.ended;
       of_sessions = all_paired sealed_from (λ worker. All (λ message. IsOneOf (length script.sessions) message.0) worker.lists.received) turned heard
           (λ place worker now there also. of_sessions place worker there);
       of_workers = all_paired (left_of asked replies_received) (λ lists. All (λ message. IsOneOf script.config.workers message.0) lists.received) run.courses left
@@ -261,9 +267,7 @@ module _ {S T O Q G R SK TK OK QK GK RK : Type 0}
           (mate.0, λ same. mate.1 (same ∙ (of_script place worker there).me)));
       paired = pairs_are;
       mates = mates_are;
-      answers = answers_are ∙ sym run.courses_are
-          ∙ sym (first_of_paired (left_of asked replies_received) (λ (lists : sessions.Lists). lists.course.answers) (λ (course : sessions.Course). course.answers) run.courses left (sym as_many_courses)
-          (λ place course its there also. refl));
+      answers = answers_in_hand;
       places = places;
       finals = subst (λ ledger. All (IsWhole ledger) report.finals) (sym same_ledger) finals;
     }

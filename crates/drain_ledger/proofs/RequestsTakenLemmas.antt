@@ -10,6 +10,7 @@ use Rattle.mail_contract.specs.Parts.{Parts}
 use Rattle.mail_contract.specs.Standing.{About, IsSettled, OfSent, Settled, Standing}
 use Rattle.mail_contract.specs.Takes.{Answers, IsFront, IsFrontOfSent, from_sender}
 use Rattle.placement.specs.Config.{IsOneOf}
+use Rattle.session_known.specs.Session.{Knowledge}
 use Rattle.session_known.specs.declared.report.Answer.{Answer}
 use Rattle.session_known.specs.declared.script.Script.{Script}
 use Rattle.session_known.specs.declared.script.SessionPlan.{SessionPlan}
@@ -18,7 +19,7 @@ use Rattle.store_msg.specs.Reply.{PlainReply}
 use Rattle.store_msg.specs.declared.ends.SessionEndsOver.{SessionEndsOver}
 use Rattle.store_msg.specs.declared.request.Request.{Request}
 use Rattle.worker_core.specs.State.{Entries, PlainWorker}
-use Rattle.run_ledger.specs.Parties.{HaveEnded}
+use Rattle.run_ledger.specs.Parties.{HaveEnded, known_then}
 use Rattle.run_ledger.proofs.MessagesLemmas.{each_from}
 use Rattle.party_turns.specs.Rows.{MayTakeAll, MayTakeIn, TakesAll, column}
 use Rattle.drain_steps.specs.Settling.{TakesInRequests}
@@ -32,16 +33,16 @@ use Rattle.party_turns.proofs.MakingLemmas.{made_mates}
 use Rattle.party_turns.proofs.ItemsLemmas.{at_its_place, long_alike, mapped, there_is, there_too}
 
 -- as many sessions left their ends as there are plans
-as_many_left : {A S R : Type 0} (table : List (List ℕ)) (workers number : ℕ) (asked : S → List Request) (received : R → List (ℕ × PlainReply))
+as_many_left : {A S R : Type 0} (table : List (List ℕ)) (workers : ℕ) (ends : List Knowledge) (number : ℕ) (asked : S → List Request) (received : R → List (ℕ × PlainReply))
     (plans : List SessionPlan) (courses : List sessions.Course) (left : List (A × SessionEndsOver S R))
-    → length courses ≡ length left → HaveEnded table workers number plans (lists_left asked received courses left) → length left ≡ length plans
-as_many_left table workers number asked received [] [] [] same have = refl
-as_many_left table workers number asked received (plan ∷ plans) [] left same have = absurd have
-as_many_left table workers number asked received [] [] (its ∷ left) same have = absurd (omega (arith, same))
-as_many_left table workers number asked received plans (course ∷ courses) [] same have = absurd (omega (arith, same))
-as_many_left table workers number asked received [] (course ∷ courses) (its ∷ left) same have = absurd have
-as_many_left table workers number asked received (plan ∷ plans) (course ∷ courses) (its ∷ left) same have =
-    let rest = as_many_left table workers (number + 1) asked received plans courses left (omega (arith, same)) have.1 in
+    → length courses ≡ length left → HaveEnded table workers ends number plans (lists_left asked received courses left) → length left ≡ length plans
+as_many_left table workers ends number asked received [] [] [] same have = refl
+as_many_left table workers ends number asked received (plan ∷ plans) [] left same have = absurd have
+as_many_left table workers ends number asked received [] [] (its ∷ left) same have = absurd (omega (arith, same))
+as_many_left table workers ends number asked received plans (course ∷ courses) [] same have = absurd (omega (arith, same))
+as_many_left table workers ends number asked received [] (course ∷ courses) (its ∷ left) same have = absurd have
+as_many_left table workers ends number asked received (plan ∷ plans) (course ∷ courses) (its ∷ left) same have =
+    let rest = as_many_left table workers ends (number + 1) asked received plans courses left (omega (arith, same)) have.1 in
     omega (arith, rest)
 
 -- what a sender that is settled sent is known, and what was received is a front of it, in the words for any sender
@@ -63,7 +64,7 @@ module _ {S T O Q G R SK TK OK QK GK RK : Type 0}
     in_key in_pairs in_senders got in_about replies_key replies_pairs replies_received replies_about script workers left) where
   -- as many sessions left their ends as the script has
   pub sessions_long : length left ≡ length script.sessions
-  sessions_long = as_many_left run.table script.config.workers 1 asked replies_received script.sessions run.courses left
+  sessions_long = as_many_left run.table script.config.workers (known_then (lists_left asked replies_received run.courses left)) 1 asked replies_received script.sessions run.courses left
       (sym (length-map run.courses (λ course. course.answers)) ∙ ap length run.courses_are ∙ length-map left (λ its. its.0)) run.ended
 
   -- of which making the box of a worker is, and what it knows of its senders

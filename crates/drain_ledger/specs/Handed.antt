@@ -11,7 +11,7 @@ use Rattle.store_msg.specs.Reply.{PlainReply}
 use Rattle.store_msg.specs.declared.ends.SessionEndsOver.{SessionEndsOver}
 use Rattle.store_msg.specs.declared.request.Request.{Request}
 use Rattle.worker_core.specs.State.{Entries, PlainWorker}
-use Rattle.run_ledger.specs.Parties.{HaveEnded}
+use Rattle.run_ledger.specs.Parties.{HaveEnded, known_then}
 use Rattle.party_turns.specs.Mates.{IsMate}
 use Rattle.party_turns.specs.Making.{IsOfScript, AreOfOneMaking, IsBoxOf, IsWeakBoxOf}
 use Rattle.party_turns.specs.Ends.{Ends}
@@ -52,7 +52,7 @@ pub record AreOfOneRun {S T O Q G R SK TK OK QK GK RK : Type 0}
   -- the sessions kept their shares to the end
   pub courses : List sessions.Course
   pub courses_are : map (λ course. course.answers) courses ≡ map (λ its. its.0) left
-  pub ended : HaveEnded table script.config.workers 1 script.sessions (lists_left asked replies_received courses left)
+  pub ended : HaveEnded table script.config.workers (known_then (lists_left asked replies_received courses left)) 1 script.sessions (lists_left asked replies_received courses left)
   -- the ends
   pub requests : AreOfOneMaking request_key request_number requests_pairs (λ (worker : PlainWorker Q T O G). requests_key worker.ends.requests) (λ worker. requests_about worker.ends.requests)
       false (map (λ its. its.1.requests.items) left) workers

@@ -9,9 +9,9 @@ use Rattle.composed_value.specs.Keyed.{kind_at, puts_on}
 use Rattle.composed_value.specs.Put.{IsPut}
 use Rattle.composed_value.specs.declared.payload.Payload.{Payload}
 use Rattle.composed_value.specs.declared.put.Put.{Put}
-use Rattle.session_known.specs.Accepted.{AreNext, accepted, made_on}
+use Rattle.session_known.specs.Accepted.{AreNext, accepted, ends_of, made_on}
 use Rattle.session_known.specs.Script.{IsValidScript, IsValidSession, MayStand}
-use Rattle.session_known.specs.Session.{Client, Knowledge, State, after, held_puts, knows_put, knows_shown, own_count, needs_by, put_made, puts_by, puts_committed, puts_from, start}
+use Rattle.session_known.specs.Session.{Client, Knowledge, State, after, held_puts, knows_put, knows_shown, own_count, needs_by, put_made, puts_by, puts_committed, puts_from, start, state_after}
 use Rattle.session_known.specs.declared.report.Answer.{Answer}
 use Rattle.session_known.specs.declared.report.Answer.TheVariants as answers
 use Rattle.session_known.specs.declared.report.Report.{Report}
@@ -21,16 +21,18 @@ use Rattle.session_known.specs.declared.script.Level.TheVariants.{Causal, Commit
 use Rattle.session_known.specs.declared.script.Line.{Line}
 use Rattle.session_known.specs.declared.script.Line.TheVariants as lines
 use Rattle.session_known.specs.declared.script.Script.{Script}
+use Rattle.session_known.proofs.NumberedLemmas.{none_at_start}
 use Rattle.session_proxy.specs.Run.{AreAnswered, IsAnswered}
 use Rattle.store_msg.specs.Reply.{PlainReply}
 use Rattle.run_ledger.specs.Causality.{AreCausal, AreClosedBelow}
-use Rattle.legal_runs.proofs.ClosedKnowledgeLemmas.{IsClosed, causal_client, nothing_closed, put_closed, shown_closed}
+use Rattle.legal_runs.proofs.ClosedKnowledgeLemmas.{IsClosed, IsClosedPart, causal_client, nothing_closed, put_closed, shown_closed}
 use Rattle.legal_runs.proofs.ClosedNeedsLemmas.{ArePuts, closed_of_part, part_of_none}
 use Rattle.legal_runs.proofs.AnsweredLemmas.{line_rises}
 use Rattle.legal_runs.proofs.MadePutsLemmas.{All-made_by}
 use Rattle.legal_runs.proofs.PutsInScriptLemmas.{session_is_valid}
 use Rattle.legal_runs.proofs.OnKeyLemmas.{held_on_key, on_key}
-use Rattle.legal_runs.proofs.SessionsLemmas.{AreSessions, IsSession, answers_at, lines_at, made_by, plan_at}
+use Rattle.legal_runs.proofs.OriginsLemmas.{known_at_end, of_origins}
+use Rattle.legal_runs.proofs.SessionsLemmas.{AreSessions, IsSession, answers_at, lines_at, made_by, origin_at, plan_at}
 use Rattle.legal_runs.proofs.ShownLemmas.{AllShowSound, IsOfSound, ShowsSound}
 
 module _ (client : Client) (none_needed : (knows : Knowledge) → needs_by client.level knows ≡ []) where
@@ -134,22 +136,48 @@ module _ (script : Script) (table : List (List ℕ)) (puts : List (ℕ × Put)) 
     of_lines state first (line ∷ lines) (answer ∷ answers) [] answered stand show made closed = absurd answered
     of_lines state first lines answers replies answered stand show made closed = All-nil (IsCausalBefore puts (bound + 1))
 
+    -- and what is known stays closed at all of them
+    end_closed : (state : State) (first : ℕ) (lines : List Line) (answers : List Answer) (replies : List (List PlainReply)) → AreAnswered table client state first lines answers replies
+        → All (MayStand script table Causal) lines → AllZip (ShowsSound script.kinds puts Causal) lines answers → All (IsAccepted puts) (puts_from client state lines answers)
+        → (state.knows.lamport < bound → IsClosed puts session state.knows)
+        → (state_after client state lines answers).knows.lamport < bound → IsClosed puts session (state_after client state lines answers).knows
+    end_closed state first (line ∷ lines) (answer ∷ answers) (its ∷ replies) answered stand show made closed =
+        let reached : State = after client state line answer in
+        let now : List (ℕ × Put) = puts_by client state line answer in
+        let later : List (ℕ × Put) = puts_from client reached lines answers in
+        let stands : MayStand script table Causal line = All-head (MayStand script table Causal) line lines stand in
+        let grows = (line_rises client table state first line answer its answered.0).rises in
+        end_closed reached (first + length its) lines answers replies answered.1 (All-tail (MayStand script table Causal) line lines stand) show.1 (All-back (IsAccepted puts) now later made)
+        (λ low. stays_closed state first line answer its answered.0 stands show.0 (All-front (IsAccepted puts) now later made) low (closed (omega (arith, low, grows))))
+    end_closed state first (line ∷ lines) (answer ∷ answers) [] answered stand show made closed = absurd answered
+    end_closed state first [] answers replies answered stand show made closed = closed
+    end_closed state first (line ∷ lines) [] replies answered stand show made closed = closed
+
     -- puts without needs are causal
     causal_without_needs : (made : List (ℕ × Put)) → All (λ entry. entry.1.needs ≡ []) made → All (IsCausalBefore puts (bound + 1)) made
     causal_without_needs made none = All-weaker (λ entry. entry.1.needs ≡ []) (IsCausalBefore puts (bound + 1))
         (λ entry is low. subst (AreClosedBelow puts entry.1.lamport) (sym is) (closed_of_part puts entry.1.lamport [] (part_of_none puts are entry.1.lamport []))) made none
 
     -- and so are those of a session of any level
-    of_level : (level : Level) (lines : List Line) (answers : List Answer) (replies : List (List PlainReply)) → AreAnswered table (record { session = session; level = level }) start 1 lines answers replies
-        → All (MayStand script table level) lines → AllZip (ShowsSound script.kinds puts level) lines answers → All (IsAccepted puts) (puts_from (record { session = session; level = level }) start lines answers)
-        → All (IsCausalBefore puts (bound + 1)) (puts_from (record { session = session; level = level }) start lines answers)
-    of_level Causal lines answers replies answered stand show made = of_lines start 1 lines answers replies answered stand show made (λ low. nothing_closed puts are session)
-    of_level Committed lines answers replies answered stand show made =
+    of_level : (level : Level) (origin : Knowledge) (lines : List Line) (answers : List Answer) (replies : List (List PlainReply)) → AreAnswered table (record { session = session; level = level }) (start origin) 1 lines answers replies
+        → All (MayStand script table level) lines → AllZip (ShowsSound script.kinds puts level) lines answers → All (IsAccepted puts) (puts_from (record { session = session; level = level }) (start origin) lines answers)
+        → (origin.lamport < bound → IsClosed puts session origin) → All (IsCausalBefore puts (bound + 1)) (puts_from (record { session = session; level = level }) (start origin) lines answers)
+    of_level Causal origin lines answers replies answered stand show made closed = of_lines (start origin) 1 lines answers replies answered stand show made closed
+    of_level Committed origin lines answers replies answered stand show made closed =
         let its : Client = record { session = session; level = Committed } in
-        causal_without_needs (puts_from its start lines answers) (lines_need_nothing its (λ knows. refl) start lines answers)
-    of_level Eventual lines answers replies answered stand show made =
+        causal_without_needs (puts_from its (start origin) lines answers) (lines_need_nothing its (λ knows. refl) (start origin) lines answers)
+    of_level Eventual origin lines answers replies answered stand show made closed =
         let its : Client = record { session = session; level = Eventual } in
-        causal_without_needs (puts_from its start lines answers) (lines_need_nothing its (λ knows. refl) start lines answers)
+        causal_without_needs (puts_from its (start origin) lines answers) (lines_need_nothing its (λ knows. refl) (start origin) lines answers)
+
+    -- what a causal session knows at its end is closed where what it knows at its start is
+    end_of_level : (level : Level) (origin : Knowledge) (lines : List Line) (answers : List Answer) (replies : List (List PlainReply)) → level ≡ Causal → AreAnswered table (record { session = session; level = level }) (start origin) 1 lines answers replies
+        → All (MayStand script table level) lines → AllZip (ShowsSound script.kinds puts level) lines answers → All (IsAccepted puts) (puts_from (record { session = session; level = level }) (start origin) lines answers)
+        → (origin.lamport < bound → IsClosed puts session origin)
+        → (state_after (record { session = session; level = level }) (start origin) lines answers).knows.lamport < bound → IsClosed puts session (state_after (record { session = session; level = level }) (start origin) lines answers).knows
+    end_of_level Causal origin lines answers replies causal answered stand show made closed = end_closed (start origin) 1 lines answers replies answered stand show made closed
+    end_of_level Committed origin lines answers replies causal answered stand show made closed = absurd (cc)
+    end_of_level Eventual origin lines answers replies causal answered stand show made closed = absurd (cc)
 
 module _ (script : Script) (table : List (List ℕ)) (report : Report) (valid : IsValidScript script table) (sessions : AreSessions script table report) (shows : AllShowSound script report)
     (puts_are : All (λ entry. IsOneOf (length script.config.keys) entry.0 × IsPut entry.1) (accepted script report)) where
@@ -166,14 +194,37 @@ module _ (script : Script) (table : List (List ℕ)) (report : Report) (valid : 
   made_are_accepted = All-made_by script table report sessions (IsAccepted all)
       (All-weaker (Contains all) (IsAccepted all) (λ entry has_it. on_key all entry has_it) all (All-contains_itself all))
 
+  -- what is known is closed, whoever knows it, where its Lamport number is smaller than this
+  abbrev ClosedBefore : ℕ → Knowledge → Type 0
+  ClosedBefore bound knows = knows.lamport < bound → IsClosedPart all knows
+
+  -- where all puts below a Lamport number are causal, what each session knows at its start is closed
+  origin_closed : (bound : ℕ) → All (IsCausalBefore all bound) all → (session : ℕ) → IsSession script session
+      → (origin_at script report session).lamport < bound → IsClosed all session (origin_at script report session)
+  origin_closed bound before session is low = closed_at session (of_origins script table report valid sessions.as_many (ClosedBefore bound) (λ low. nothing_closed all are_puts) (λ knows closed low. let part = closed low in record { needs_are = part.needs_are; below = part.below }) goes session is) low
+    where
+      closed_at : (session : ℕ) → ClosedBefore bound (origin_at script report session) → (origin_at script report session).lamport < bound → IsClosed all session (origin_at script report session)
+      closed_at session closed low =
+          let part = closed low in
+          let none = λ (key : ℕ). none_at_start (ends_of script report) (plan_at script session).after key in
+          record { needs_are = part.needs_are; below = part.below; own = λ key. let zero_made = none key in omega (arith, zero_made) }
+
+      goes : (session : ℕ) → IsSession script session → (plan_at script session).level ≡ Causal → ClosedBefore bound (origin_at script report session) → ClosedBefore bound (known_at_end script table report valid sessions.as_many session)
+      goes session is causal closed low =
+          let its : IsValidSession script table (plan_at script session) = session_is_valid script table session valid is in
+          let answered = sessions.answered session is in
+          let whole = end_of_level script table all valid.config.keys_most are_puts sessions.next bound before session (plan_at script session).level (origin_at script report session) (lines_at script session) (answers_at report session) answered.0
+          causal answered.1 its.lines (shows session is) (made_are_accepted session is) (closed_at session closed) low in
+          record { needs_are = whole.needs_are; below = whole.below }
+
   -- where all puts below a Lamport number are causal, those of a session are one number further
   of_session : (bound : ℕ) → All (IsCausalBefore all bound) all → (session : ℕ) → IsSession script session
       → All (IsCausalBefore all (bound + 1)) (made_by script report session)
   of_session bound before session is =
       let its : IsValidSession script table (plan_at script session) = session_is_valid script table session valid is in
       let answered = sessions.answered session is in
-      of_level script table all valid.config.keys_most are_puts sessions.next bound before session (plan_at script session).level (lines_at script session) (answers_at report session) answered.0 answered.1
-      its.lines (shows session is) (made_are_accepted session is)
+      of_level script table all valid.config.keys_most are_puts sessions.next bound before session (plan_at script session).level (origin_at script report session) (lines_at script session) (answers_at report session) answered.0 answered.1
+      its.lines (shows session is) (made_are_accepted session is) (origin_closed bound before session is)
 
   -- so are all, by induction over the Lamport numbers
   up_to : (bound : ℕ) → All (IsCausalBefore all bound) all

@@ -33,7 +33,12 @@ number_tells made next x y in_x in_y same =
     let places : in_x.0 ≡ in_y.0 = omega (arith, of_x, of_y, same) in
     sym in_x.2 ∙ ap (λ k. slice_index_or made k x) places ∙ get_or_default made in_y.0 x y in_y.1 ∙ in_y.2
 
--- Knowledge of a session is closed below its Lamport number, and its own puts are known.
+-- Knowledge is closed below its Lamport number.
+pub record IsClosedPart (accepted : List (ℕ × Put)) (knows : Knowledge) : Type 0 where
+  pub needs_are : IsNeeds knows.clocks
+  pub below : IsPartBelow accepted (knows.lamport + 1) knows.clocks knows.clocks
+
+-- Knowledge of a session is so, and its own puts are known.
 pub record IsClosed (accepted : List (ℕ × Put)) (session : ℕ) (knows : Knowledge) : Type 0 where
   pub needs_are : IsNeeds knows.clocks
   pub below : IsPartBelow accepted (knows.lamport + 1) knows.clocks knows.clocks
@@ -43,11 +48,11 @@ pub record IsClosed (accepted : List (ℕ × Put)) (session : ℕ) (knows : Know
 abbrev pub causal_client : ℕ → Client
 causal_client session = record { session = session; level = Causal }
 
-module _ (accepted : List (ℕ × Put)) (are : ArePuts accepted) (session : ℕ) where
-  -- knowing nothing is closed
-  pub nothing_closed : IsClosed accepted session nothing_known
-  nothing_closed = record { needs_are = empty_are_needs; below = part_of_none accepted are 1 []; own = λ key. omega arith }
+-- knowing nothing is closed
+pub nothing_closed : (accepted : List (ℕ × Put)) → ArePuts accepted → IsClosedPart accepted nothing_known
+nothing_closed accepted are = record { needs_are = empty_are_needs; below = part_of_none accepted are 1 [] }
 
+module _ (accepted : List (ℕ × Put)) (are : ArePuts accepted) (session : ℕ) where
   module _ (key : ℕ) (key_fits : key < 2 ^ 16) (knows : Knowledge) (closed : IsClosed accepted session knows) where
     -- it is closed once a sound cell is shown, where the needs of each put up to its top are closed below that put
     learned_closed : (kind : Kind) (cell : PlainCell) → IsSoundOf kind (puts_on key accepted) cell

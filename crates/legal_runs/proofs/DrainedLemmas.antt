@@ -5,7 +5,8 @@ use Rattle.std.proofs.Common.{◌∙◌, refl, sym, ap, subst, arith}
 use Rattle.std.proofs.lemmas.List.Elements.{All-weaker}
 use Rattle.mail_contract.specs.Takes.{from_sender}
 use Rattle.placement.specs.Config.{IsOneOf}
-use Rattle.session_known.specs.Accepted.{client_of}
+use Rattle.session_known.specs.Session.{Knowledge}
+use Rattle.session_known.specs.Accepted.{client_of, ends_of, origin_of}
 use Rattle.session_known.specs.Requests.{requests_of}
 use Rattle.session_known.specs.Script.{IsValidScript}
 use Rattle.session_known.specs.declared.report.Report.{Report}
@@ -25,7 +26,7 @@ use Rattle.legal_runs.proofs.EndedRepliesLemmas.{all_heard, came_to, heard_of, o
 use Rattle.legal_runs.proofs.EndedSessionsLemmas.{answered, whole}
 use Rattle.legal_runs.proofs.PartiesLemmas.{each_end, ended, heard_at, in_ledger, me_is, of_worker, sealed}
 use Rattle.legal_runs.proofs.SealedLemmas.{replied, replied_to, rising}
-use Rattle.legal_runs.proofs.SessionsLemmas.{IsSession, client_at, lines_at, no_plan, plan_at}
+use Rattle.legal_runs.proofs.SessionsLemmas.{IsSession, client_at, lines_at, no_plan, origin_at, plan_at}
 use Rattle.run_ledger.proofs.WorkersLemmas.{IsWorker}
 
 -- the numbers that are in hand are those of the workers
@@ -33,27 +34,27 @@ numbers_are : (workers : List SealedWorker) → map (λ (end : WorkerEnd). end.m
 numbers_are [] = refl
 numbers_are (worker ∷ workers) = ap (λ rest. worker.lists.state.me ∷ rest) (numbers_are workers)
 
-module _ (table : List (List ℕ)) (ledger : Ledger) where
+module _ (table : List (List ℕ)) (ledger : Ledger) (ends : List Knowledge) where
   -- the session at a place came so, of those from a number on
   abbrev CameAt : ℕ → List SessionPlan → List sessions.Lists → ℕ → Type 0
   CameAt number plans those place =
       let plan : SessionPlan = slice_index_or plans place no_plan in
       let session : sessions.Lists = slice_index_or those place no_session in
-      CameOfSession table ledger (client_of (number + place) plan) plan.lines session.course.answers session.received
+      CameOfSession table ledger (client_of (number + place) plan) (origin_of ends plan.after) plan.lines session.course.answers session.received
 
   -- and so all
-  sessions_came : (workers number : ℕ) (plans : List SessionPlan) (those : List sessions.Lists) → HaveEnded table workers number plans those
+  sessions_came : (workers number : ℕ) (plans : List SessionPlan) (those : List sessions.Lists) → HaveEnded table workers ends number plans those
       → ((place : ℕ) → place < length plans → CameAt number plans those place)
-      → CameOfSessions table ledger number plans (map (λ session. session.course.answers) those) (map (λ session. session.received) those)
+      → CameOfSessions table ledger ends number plans (map (λ session. session.course.answers) those) (map (λ session. session.received) those)
   sessions_came workers number [] [] have each = tt
   sessions_came workers number (plan ∷ plans) (session ∷ others) have each =
       let first : number + 0 ≡ number = omega arith in (
-        subst (λ n. CameOfSession table ledger (client_of n plan) plan.lines session.course.answers session.received) first (each 0 (omega arith)),
+        subst (λ n. CameOfSession table ledger (client_of n plan) (origin_of ends plan.after) plan.lines session.course.answers session.received) first (each 0 (omega arith)),
         sessions_came workers (number + 1) plans others have.1 (λ place within.
             let its : SessionPlan = slice_index_or plans place no_plan in
             let of_it : sessions.Lists = slice_index_or others place no_session in
             let later : number + suc place ≡ number + 1 + place = omega arith in
-            subst (λ n. CameOfSession table ledger (client_of n its) its.lines of_it.course.answers of_it.received) later (each (suc place) (omega (arith, within)))),
+            subst (λ n. CameOfSession table ledger (client_of n its) (origin_of ends its.after) its.lines of_it.course.answers of_it.received) later (each (suc place) (omega (arith, within)))),
       )
   sessions_came workers number [] (session ∷ others) have each = absurd have
   sessions_came workers number (plan ∷ plans) [] have each = absurd have
@@ -90,44 +91,44 @@ module _ (script : Script) (table : List (List ℕ)) (report : Report) (parties 
     abbrev of_it : sessions.Lists
     of_it = session_at parties session
 
-    abbrev has_ended : HasEnded table script.config.workers (client_at script session) (plan_at script session) of_it
+    abbrev has_ended : HasEnded table script.config.workers (client_at script session) (origin_at script report session) (plan_at script session) of_it
     has_ended = ended script table report parties drained session within
 
     abbrev its_replies : List (List PlainReply)
     its_replies = replies_to script table report parties drained session within
 
     -- and of a session
-    came_of_session : CameOfSession table (ledger_of parties) (client_at script session) (lines_at script session) of_it.course.answers of_it.received
+    came_of_session : CameOfSession table (ledger_of parties) (client_at script session) (origin_at script report session) (lines_at script session) of_it.course.answers of_it.received
     came_of_session = record {
-      whole = whole table script.config.workers (client_at script session) (plan_at script session) of_it has_ended;
+      whole = whole table script.config.workers (client_at script session) (origin_at script report session) (plan_at script session) of_it has_ended;
       replies = its_replies;
-      answered = answered table script.config.workers (client_at script session) (plan_at script session) of_it has_ended;
+      answered = answered table script.config.workers (client_at script session) (origin_at script report session) (plan_at script session) of_it has_ended;
       heard_are = sym (all_heard script table report parties drained session within);
       of_workers = All-weaker (λ message. IsWorker script message.0) (λ message. IsOneOf (length (ledger_of parties).workers) message.0)
           (λ message. in_ledger script table report parties drained message.0) of_it.received (of_workers script table report parties drained session within);
       requests =
-          let sends = requests_of table (client_at script session) (map length its_replies) (lines_at script session) of_it.course.answers in
+          let sends = requests_of table (client_at script session) (origin_at script report session) (map length its_replies) (lines_at script session) of_it.course.answers in
           each_end script table report parties drained (λ end. from_sender session end.received ≡ to_worker end.me sends)
           (λ worker is. came_to script table report parties drained session within worker is ∙ ap (λ me. to_worker me sends) (sym (me_is script table report parties drained worker is)));
     }
 
   -- the session at a place from 0 is that of the number from 1
-  came_at_place : (place : ℕ) → place < length script.sessions → CameAt table (ledger_of parties) 1 script.sessions parties.sessions place
+  came_at_place : (place : ℕ) → place < length script.sessions → CameAt table (ledger_of parties) (ends_of script report) 1 script.sessions parties.sessions place
   came_at_place place within =
       let of_it : sessions.Lists = slice_index_or parties.sessions place no_session in
       let its : ℕ → SessionPlan = λ i. slice_index_or script.sessions i no_plan in
       let first : suc place ≡ 1 + place = omega arith in
       let same : suc place - 1 ≡ place = omega arith in
-      subst (λ n. CameOfSession table (ledger_of parties) (client_of n (its place)) (its place).lines of_it.course.answers of_it.received) first
-      (subst (λ i. CameOfSession table (ledger_of parties) (client_of (suc place) (its i)) (its i).lines of_it.course.answers of_it.received) same
+      subst (λ n. CameOfSession table (ledger_of parties) (client_of n (its place)) (origin_of (ends_of script report) (its place).after) (its place).lines of_it.course.answers of_it.received) first
+      (subst (λ i. CameOfSession table (ledger_of parties) (client_of (suc place) (its i)) (origin_of (ends_of script report) (its i).after) (its i).lines of_it.course.answers of_it.received) same
       (came_of_session (suc place) (omega arith, omega (arith, within))))
 
   -- so the report came from what is in hand
   came : Came script table report (ledger_of parties)
   came = record {
     numbered = numbers_are parties.workers ∙ drained.numbered;
-    sessions = subst (λ answers. CameOfSessions table (ledger_of parties) 1 script.sessions answers (ledger_of parties).heard) (sym drained.answers)
-        (sessions_came table (ledger_of parties) script.config.workers 1 script.sessions parties.sessions drained.sessions came_at_place);
+    sessions = subst (λ answers. CameOfSessions table (ledger_of parties) (ends_of script report) 1 script.sessions answers (ledger_of parties).heard) (sym drained.answers)
+        (sessions_came table (ledger_of parties) (ends_of script report) script.config.workers 1 script.sessions parties.sessions drained.sessions came_at_place);
     workers = each_end script table report parties drained (CameToWorker script table (ledger_of parties)) came_to_worker;
     places = drained.places;
     finals = drained.finals;

@@ -8,7 +8,6 @@ use Rattle.mail_contract.proofs.FrontLemmas.{front_short}
 use Rattle.mail_contract.specs.Takes.{IsFront, from_sender}
 use Rattle.mail_contract.proofs.WovenLemmas.{from_sender_here}
 use Rattle.session_known.specs.Requests.{requests_of}
-use Rattle.session_known.specs.Session.{start}
 use Rattle.session_known.specs.declared.report.Report.{Report}
 use Rattle.session_known.specs.declared.script.Script.{Script}
 use Rattle.session_proxy.specs.Run.{IsPartOf, none, with_it, without}
@@ -24,7 +23,7 @@ use Rattle.run_ledger.proofs.GetsLemmas.{as_many_gets, gets_in, lines_as_many}
 use Rattle.run_ledger.proofs.HeldLemmas.{own_taken}
 use Rattle.legal_runs.proofs.PartiesLemmas.{ended, me_is, of_session, sealed}
 use Rattle.legal_runs.proofs.SealedLemmas.{replied, replied_to, replying}
-use Rattle.legal_runs.proofs.SessionsLemmas.{IsSession, client_at, lines_at, plan_at}
+use Rattle.legal_runs.proofs.SessionsLemmas.{IsSession, client_at, lines_at, origin_at, plan_at, start_at}
 use Rattle.run_ledger.proofs.WorkersLemmas.{IsWorker}
 
 -- and where it has of each no less, it is the whole
@@ -50,12 +49,12 @@ module _ (script : Script) (table : List (List ℕ)) (report : Report) (parties 
   abbrev of_it : sessions.Lists
   of_it = session_at parties session
 
-  abbrev has_ended : HasEnded table script.config.workers (client_at script session) (plan_at script session) of_it
+  abbrev has_ended : HasEnded table script.config.workers (client_at script session) (origin_at script report session) (plan_at script session) of_it
   has_ended = ended script table report parties drained session within
 
   -- the replies to its lines, line by line
   abbrev pub replies_to : List (List PlainReply)
-  replies_to = its_replies table script.config.workers (client_at script session) (plan_at script session) of_it has_ended
+  replies_to = its_replies table script.config.workers (client_at script session) (origin_at script report session) (plan_at script session) of_it has_ended
 
   module _ (worker : ℕ) (is : IsWorker script worker) where
     abbrev of_worker : SealedWorker
@@ -66,8 +65,8 @@ module _ (script : Script) (table : List (List ℕ)) (report : Report) (parties 
 
     -- what came of it to a worker is what its lines send there
     pub came_to : from_sender session of_worker.lists.received
-        ≡ to_worker worker (requests_of table (client_at script session) (map length replies_to) (lines_at script session) of_it.course.answers)
-    came_to = (drained.paired worker session is within).requests ∙ sent_to table script.config.workers (client_at script session) (plan_at script session) of_it has_ended worker is
+        ≡ to_worker worker (requests_of table (client_at script session) (origin_at script report session) (map length replies_to) (lines_at script session) of_it.course.answers)
+    came_to = (drained.paired worker session is within).requests ∙ sent_to table script.config.workers (client_at script session) (origin_at script report session) (plan_at script session) of_it has_ended worker is
 
     -- the worker sent as many replies as there are to asks that went to it
     as_many_sent : length (replied_to of_worker session) ≡ length (from_worker worker (in_all replies_to))
@@ -76,8 +75,8 @@ module _ (script : Script) (table : List (List ℕ)) (report : Report) (parties 
         (replied script table of_worker is_sealed session within)
         ∙ as_many_gets session [] of_worker.lists.received
         ∙ ap (λ those. length (gets_in those)) came_to
-        ∙ lines_as_many worker table (client_at script session) start 1 (lines_at script session) of_it.course.answers replies_to
-        (answered table script.config.workers (client_at script session) (plan_at script session) of_it has_ended)
+        ∙ lines_as_many worker table (client_at script session) (start_at script report session) 1 (lines_at script session) of_it.course.answers replies_to
+        (answered table script.config.workers (client_at script session) (origin_at script report session) (plan_at script session) of_it has_ended)
 
     -- what was heard of it is a front of these
     front : IsFront (from_sender worker of_it.received) (replied_to of_worker session)
@@ -108,7 +107,7 @@ module _ (script : Script) (table : List (List ℕ)) (report : Report) (parties 
   -- all that was heard are replies to the session's lines
   pub all_heard : in_all replies_to ≡ map (λ message. message.1) of_it.received
   all_heard =
-      part_is_whole (IsWorker script) (part_taken table script.config.workers (client_at script session) (plan_at script session) of_it has_ended)
+      part_is_whole (IsWorker script) (part_taken table script.config.workers (client_at script session) (origin_at script report session) (plan_at script session) of_it has_ended)
       (All-map (λ (reply : PlainReply). IsWorker script reply.worker) (λ (message : ℕ × PlainReply). message.1) of_it.received
       (λ k d low. subst (IsWorker script) (sym (own k d low)) (of_workers k d low)))
       (λ worker is. subst (λ those. length (from_sender worker those) ≤ length (from_worker worker (in_all replies_to))) heard_is (few_heard worker is))

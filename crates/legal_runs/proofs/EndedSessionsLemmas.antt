@@ -6,13 +6,13 @@ use Rattle.std.proofs.lemmas.List.{append_assoc, take_all}
 use Rattle.std.proofs.lemmas.Option.{none-some, slice_get_past}
 use Rattle.placement.specs.Config.{IsOneOf}
 use Rattle.session_known.specs.Requests.{Sent, requests_of}
-use Rattle.session_known.specs.Session.{Client, start}
+use Rattle.session_known.specs.Session.{Client, Knowledge, start}
 use Rattle.session_known.specs.declared.script.Line.{Line}
 use Rattle.session_known.specs.declared.script.SessionPlan.{SessionPlan}
 use Rattle.session_proxy.specs.Lines.{most_sent}
 use Rattle.session_proxy.specs.Run.{AreAnswered, IsPartOf, IsReplyTo}
 use Rattle.session_proxy.specs.Share.{kept_reply, open_most, open_sent, to_worker}
-use Rattle.session_proxy.specs.State.{Lists, state_now}
+use Rattle.session_proxy.specs.State.{Knew, Lists, Origin, known_at_start, state_now}
 use Rattle.store_msg.specs.Reply.{PlainReply}
 use Rattle.run_ledger.specs.Parties.{HasEnded}
 use Rattle.run_ledger.proofs.ByWorkerLemmas.{in_all}
@@ -34,7 +34,7 @@ none_awaited : (waits : Bool) (asks : List (ℕ × Sent)) (place : ℕ) (ask : �
 none_awaited waits asks place ask none is =
     none-some ask (sym (slice_get_past [] place (omega arith)) ∙ ap (λ those. slice_get those place) (sym none) ∙ (awaited_at waits (slice_get asks place) ask is).1)
 
-module _ (table : List (List ℕ)) (workers : ℕ) (client : Client) (plan : SessionPlan) (session : Lists) (ended : HasEnded table workers client plan session) where
+module _ (table : List (List ℕ)) (workers : ℕ) (client : Client) (origin : Knowledge) (plan : SessionPlan) (session : Lists) (ended : HasEnded table workers client origin plan session) where
   -- no line is open, so there are no requests of one
   none_open : open_most session.course ≡ []
   none_open =
@@ -50,25 +50,24 @@ module _ (table : List (List ℕ)) (workers : ℕ) (client : Client) (plan : Ses
   abbrev pub its_replies : List (List PlainReply)
   its_replies = ended.share.replies
 
-  -- they answer its lines, by a table, a client and lines
-  abbrev Answered : List (List ℕ) → Client → List Line → Type 0
-  Answered placed of_client lines = AreAnswered placed of_client start 1 lines session.course.answers its_replies
+  -- they answer its lines, by a table, a client, what it knew at its start, and lines
+  abbrev Answered : List (List ℕ) → Client → Origin → List Line → Type 0
+  Answered placed of_client known lines = AreAnswered placed of_client (start (known_at_start known)) 1 lines session.course.answers its_replies
 
   -- and what its lines send by these
-  abbrev sends : List (List ℕ) → Client → List Line → List (ℕ × Sent)
-  sends placed of_client lines = requests_of placed of_client (map length its_replies) lines session.course.answers
+  abbrev sends : List (List ℕ) → Client → Origin → List Line → List (ℕ × Sent)
+  sends placed of_client known lines = requests_of placed of_client (known_at_start known) (map length its_replies) lines session.course.answers
 
   -- so by those of the script
-  pub answered : AreAnswered table client start 1 plan.lines session.course.answers its_replies
+  pub answered : AreAnswered table client (start origin) 1 plan.lines session.course.answers its_replies
   answered =
-      subst (λ placed. Answered placed client plan.lines) ended.table_is
-      (subst (λ of_client. Answered session.course.table of_client plan.lines) ended.client_is
-      (subst (Answered session.course.table session.course.client) ended.lines_are ended.share.answered))
+      subst (λ placed. Answered placed client (Knew origin) plan.lines) ended.table_is
+      (subst (λ of_client. Answered session.course.table of_client (Knew origin) plan.lines) ended.client_is
+      (subst (λ known. Answered session.course.table session.course.client known plan.lines) ended.origin_is
+      (subst (Answered session.course.table session.course.client session.course.origin) ended.lines_are ended.share.answered)))
 
-  sends_are : sends session.course.table session.course.client session.course.lines ≡ sends table client plan.lines
-  sends_are =
-      ap (λ placed. sends placed session.course.client session.course.lines) ended.table_is ∙ ap (λ of_client. sends table of_client session.course.lines) ended.client_is
-      ∙ ap (sends table client) ended.lines_are
+  sends_are : sends session.course.table session.course.client session.course.origin session.course.lines ≡ sends table client (Knew origin) plan.lines
+  sends_are = λ j. sends (ended.table_is j) (ended.client_is j) (ended.origin_is j) (ended.lines_are j)
 
   -- all its lines are answered
   pub whole : length session.course.answers ≡ length plan.lines
@@ -76,12 +75,12 @@ module _ (table : List (List ℕ)) (workers : ℕ) (client : Client) (plan : Ses
 
   -- what it sent to each worker is what its lines send there
   pub sent_to : (worker : ℕ) → IsOneOf workers worker
-      → slice_index_or session.sent (worker - 1) [] ≡ to_worker worker (requests_of table client (map length its_replies) plan.lines session.course.answers)
+      → slice_index_or session.sent (worker - 1) [] ≡ to_worker worker (requests_of table client origin (map length its_replies) plan.lines session.course.answers)
   sent_to worker within =
       let asked = ended.asked in
       ended.share.sent worker (within.0, omega (arith, within.1, asked))
-      ∙ ap (to_worker worker) (ap (λ more. sends session.course.table session.course.client session.course.lines ++ more) none_sent
-      ∙ append-nil (sends session.course.table session.course.client session.course.lines) ∙ sends_are)
+      ∙ ap (to_worker worker) (ap (λ more. sends session.course.table session.course.client session.course.origin session.course.lines ++ more) none_sent
+      ∙ append-nil (sends session.course.table session.course.client session.course.origin session.course.lines) ∙ sends_are)
 
   -- it took no reply to an ask of an open line, and keeps none
   no_more : ended.share.lacking ++ kept_reply session.course.kept ≡ []

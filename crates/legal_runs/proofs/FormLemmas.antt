@@ -17,7 +17,7 @@ use Rattle.session_known.specs.Accepted.{accepted}
 use Rattle.session_known.specs.Form.{Fits, IsAgainIn, IsFinalIn}
 use Rattle.session_known.specs.Lawful.{AreLawful, IsLawful, IsLawfulAgain, IsLawfulCommit, lamport_of_commit}
 use Rattle.session_known.specs.Script.{IsValidScript, MayStand}
-use Rattle.session_known.specs.Session.{Client, Knowledge, State, after, held_puts, knows_put, own_count, put_made, puts_by, puts_committed, puts_from, start}
+use Rattle.session_known.specs.Session.{Client, Knowledge, State, after, held_puts, knows_put, own_count, put_made, puts_by, puts_committed, puts_from}
 use Rattle.session_known.specs.declared.report.Answer.{Answer}
 use Rattle.session_known.specs.declared.report.Answer.TheVariants as answers
 use Rattle.session_known.specs.declared.report.Report.{Report}
@@ -35,7 +35,7 @@ use Rattle.legal_runs.proofs.NamedSessionsLemmas.{accepted_clock_in}
 use Rattle.legal_runs.proofs.PutsInScriptLemmas.{session_is_valid}
 use Rattle.legal_runs.proofs.RepliersLemmas.{few_asks, last_is_worker, replier_is_worker}
 use Rattle.legal_runs.proofs.SeenSessionsLemmas.{HasSeen, accepted_have_seen}
-use Rattle.legal_runs.proofs.SessionsLemmas.{AreSessions, IsSession, answers_at, client_at, lines_at, no_plan, plan_at}
+use Rattle.legal_runs.proofs.SessionsLemmas.{AreSessions, IsSession, answers_at, client_at, lines_at, no_plan, plan_at, start_at}
 use Rattle.legal_runs.proofs.ShownLemmas.{AllShowSound, IsOfAccepted, ShowsSound}
 
 -- the put of an entry is one that there can be
@@ -147,21 +147,21 @@ known_of script table report are puts_in = λ k d low. ((puts_in k d low).0, acc
 pub answers_fit : (script : Script) (table : List (List ℕ)) (report : Report) → IsValidScript script table → AreSessions script table report
     → AllShowSound script report → All (IsPutIn script) (accepted script report) → AreFewOfKinds script (accepted script report) → AreCausal (accepted script report)
     → (session : ℕ) → IsSession script session
-    → AreLawful table (client_at script session) start [] (lines_at script session) (answers_at report session)
+    → AreLawful table (client_at script session) (start_at script report session) [] (lines_at script session) (answers_at report session)
     → AllZip (Fits script (plan_at script session).level) (lines_at script session) (answers_at report session)
 answers_fit script table report valid are show puts_in of_kinds causal session within lawful =
     let all : List (ℕ × Put) = accepted script report in
     let known : AreOfSessions script all = known_of script table report are puts_in in
     let puts_are = All-made_by script table report are HoldsPut (λ k d low. (puts_in k d low).1.is_put) session within in
     let few = get_or-le-sum_by (λ plan. length plan.lines) script.sessions (session - 1) no_plan (omega (arith, within.0, within.1)) in
-    lines_fit script table valid all known (accepted_have_seen script table report are show known causal) of_kinds causal (client_at script session) within.0
-    start [] (lines_at script session) (answers_at report session) lawful (session_is_valid script table session valid within).lines (show session within)
+    lines_fit script table valid all known (accepted_have_seen script table report valid are show known causal) of_kinds causal (client_at script session) within.0
+    (start_at script report session) [] (lines_at script session) (answers_at report session) lawful (session_is_valid script table session valid within).lines (show session within)
     puts_are (λ begun. absurd (false≢true begun)) (omega (arith, few, valid.few_lines))
 
 -- And final cells of sound cells are in form.
-pub final_fits : (script : Script) (table : List (List ℕ)) (report : Report) → AreSessions script table report → All (IsPutIn script) (accepted script report)
+pub final_fits : (script : Script) (table : List (List ℕ)) (report : Report) → IsValidScript script table → AreSessions script table report → All (IsPutIn script) (accepted script report)
     → AreFewOfKinds script (accepted script report) → AllShowSound script report → AreCausal (accepted script report) → (key worker : ℕ) (cells : KeyCells)
     → IsSoundOf (kind_at script.kinds key) (puts_on key (accepted script report)) cells.whole → IsFinalIn script (final_of key worker cells)
-final_fits script table report are puts_in of_kinds show causal key worker cells sound =
+final_fits script table report valid are puts_in of_kinds show causal key worker cells sound =
     let known : AreOfSessions script (accepted script report) = known_of script table report are puts_in in
-    sound_final_in script (accepted script report) known (accepted_have_seen script table report are show known causal) of_kinds key worker cells sound
+    sound_final_in script (accepted script report) known (accepted_have_seen script table report valid are show known causal) of_kinds key worker cells sound

@@ -14,7 +14,6 @@ use Rattle.composed_value.proofs.KeyedLemmas.{puts_on-append}
 use Rattle.composed_value.specs.declared.put.Put.{Put}
 use Rattle.session_known.specs.Accepted.{accepted, made_on}
 use Rattle.session_known.specs.Requests.{requests_of}
-use Rattle.session_known.specs.Session.{start}
 use Rattle.session_known.specs.declared.report.Report.{Report}
 use Rattle.session_known.specs.declared.script.Script.{Script}
 use Rattle.session_proxy.specs.Share.{to_worker}
@@ -25,7 +24,7 @@ use Rattle.run_ledger.proofs.MessagesLemmas.{each_from}
 use Rattle.legal_runs.proofs.OwnPutsLemmas.{AreOwnPuts, own_puts}
 use Rattle.legal_runs.proofs.RequestsLemmas.{of_lines}
 use Rattle.legal_runs.proofs.SentPutsLemmas.{requests_own}
-use Rattle.legal_runs.proofs.SessionsLemmas.{AreSessions, IsSession, answers_at, client_at, lines_at, made_by}
+use Rattle.legal_runs.proofs.SessionsLemmas.{AreSessions, IsSession, answers_at, client_at, lines_at, made_by, origin_at, start_at}
 
 -- nothing came of one who is no sender
 none_of_no_sender : (InRange : ℕ → Type 0) (sender : ℕ) (received : List (ℕ × Request)) → (InRange sender → ⊥) → All (λ message. InRange message.0) received → from_sender sender received ≡ []
@@ -46,7 +45,7 @@ pub record CameHere (script : Script) (table : List (List ℕ)) (report : Report
   pub said : (session : ℕ) → IsSession script session → List ℕ
   pub as_many : (session : ℕ) (within : IsSession script session) → length (said session within) ≡ length (answers_at report session)
   pub came : (session : ℕ) (within : IsSession script session)
-      → from_sender session received ≡ to_worker worker (requests_of table (client_at script session) (said session within) (lines_at script session) (answers_at report session))
+      → from_sender session received ≡ to_worker worker (requests_of table (client_at script session) (origin_at script report session) (said session within) (lines_at script session) (answers_at report session))
 
 module _ (script : Script) (table : List (List ℕ)) (report : Report) (are : AreSessions script table report)
     (worker : ℕ) (received : List (ℕ × Request)) (here : CameHere script table report worker received) where
@@ -54,7 +53,7 @@ module _ (script : Script) (table : List (List ℕ)) (report : Report) (are : Ar
   are_own : All AreOwnPuts received
   are_own = each_from (λ session request. All (λ entry. entry.1.session ≡ session) (put_in request)) (IsSession script) received
       (λ session within. subst (All (λ request. All (λ entry. entry.1.session ≡ session) (put_in request))) (sym (here.came session within))
-      (requests_own (client_at script session) table worker start 1 (here.said session within) (lines_at script session) (answers_at report session))) here.of_sessions
+      (requests_own (client_at script session) table worker (start_at script report session) 1 (here.said session within) (lines_at script session) (answers_at report session))) here.of_sessions
 
   module _ (session key : ℕ) where
     -- the puts of the session among some requests are those that came of it
@@ -71,9 +70,9 @@ module _ (script : Script) (table : List (List ℕ)) (report : Report) (are : Ar
       of_session =
           let answered = are.answered session within in
           ap (λ messages. puts_on key (flat_map put_in messages)) (here.came session within)
-          ∙ of_lines table (client_at script session) worker key start 1 (here.said session within) (lines_at script session) (answers_at report session) (here.as_many session within)
-          (lines_have (client_at script session) start (lines_at script session) (answers_at report session)
-          (numbered (client_at script session) table start 1 (lines_at script session) (answers_at report session) answered.0 answered.1))
+          ∙ of_lines table (client_at script session) worker key (start_at script report session) 1 (here.said session within) (lines_at script session) (answers_at report session) (here.as_many session within)
+          (lines_have (client_at script session) (start_at script report session) (lines_at script session) (answers_at report session)
+          (numbered (client_at script session) table (start_at script report session) 1 (lines_at script session) (answers_at report session) answered.0 answered.1))
 
       pub at_home : home_at table session key ≡ worker → made_on session key (puts_in received) ≡ made_on session key (accepted script report)
       at_home same =

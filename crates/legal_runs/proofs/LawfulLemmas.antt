@@ -16,7 +16,7 @@ use Rattle.placement.specs.Asked.{replicas_of}
 use Rattle.session_known.specs.Accepted.{accepted, made_on}
 use Rattle.session_known.specs.Lawful.{AreLawful, MayReply, IsClockFrom, IsLawful, IsLawfulAgain, IsLawfulReply, IsTrueOf, required}
 use Rattle.session_known.specs.Script.{IsValidScript, MayStand}
-use Rattle.session_known.specs.Session.{Client, State, after, own_count, puts_by, puts_from, shown_to, start}
+use Rattle.session_known.specs.Session.{Client, State, after, own_count, puts_by, puts_from, shown_to}
 use Rattle.session_known.specs.declared.report.Answer.{Answer}
 use Rattle.session_known.specs.declared.report.Answer.TheVariants as answers
 use Rattle.session_known.specs.declared.report.Report.{Report}
@@ -47,7 +47,7 @@ use Rattle.legal_runs.proofs.MomentsLemmas.{AllLines, at_each_line, lawful_lines
 use Rattle.legal_runs.proofs.PutsInScriptLemmas.{session_is_valid}
 use Rattle.session_proxy.proofs.ReplicasLemmas.{key_has_replicas, key_in_table}
 use Rattle.legal_runs.proofs.RepliesLemmas.{its}
-use Rattle.legal_runs.proofs.SessionsLemmas.{IsSession, answers_at, client_at, lines_at, own_made}
+use Rattle.legal_runs.proofs.SessionsLemmas.{IsSession, answers_at, client_at, lines_at, origin_at, own_made, start_at}
 use Rattle.legal_runs.proofs.ShownLemmas.{IsOfAccepted, IsOfSound, ShowsSound, shows_true}
 
 -- what a session is shown of a cell has the cell's top
@@ -129,12 +129,12 @@ module _ (script : Script) (table : List (List ℕ)) (report : Report) (ledger :
     abbrev then_made : List Put
     then_made = made_on session key moment.later_made
 
-    split_there : puts_there key ≡ made_on session key (puts_from client start (lines_at script session) moment.given) ++ then_made
+    split_there : puts_there key ≡ made_on session key (puts_from client (start_at script report session) (lines_at script session) moment.given) ++ then_made
     split_there =
-        (are script table report ledger valid came).made session key within ∙ sym (own_made client session key (lines_at script session) (answers_at report session) refl)
-        ∙ ap (made_on session key) (moment.made_is ∙ ap (λ now. puts_from client start (lines_at script session) moment.given ++ now ++ moment.later_made) (asks_make_none client state line answer asked)
-        ∙ ap (λ before. before ++ moment.later_made) (append-nil (puts_from client start (lines_at script session) moment.given)))
-        ∙ made_on-append session key (puts_from client start (lines_at script session) moment.given) moment.later_made
+        (are script table report ledger valid came).made session key within ∙ sym (own_made client (start_at script report session) session key (lines_at script session) (answers_at report session) refl)
+        ∙ ap (made_on session key) (moment.made_is ∙ ap (λ now. puts_from client (start_at script report session) (lines_at script session) moment.given ++ now ++ moment.later_made) (asks_make_none client state line answer asked)
+        ∙ ap (λ before. before ++ moment.later_made) (append-nil (puts_from client (start_at script report session) (lines_at script session) moment.given)))
+        ∙ made_on-append session key (puts_from client (start_at script report session) (lines_at script session) moment.given) moment.later_made
 
     -- each of these is above the Lamport number that is known once the line is answered
     then_above : All (λ put. (after client state line answer).knows.lamport < put.lamport) then_made
@@ -164,7 +164,7 @@ module _ (script : Script) (table : List (List ℕ)) (report : Report) (ledger :
         later_is_counted : own_count state.knows key < count_of session its_cell.clock → its_cell.top ≤ (after client state line answer).knows.lamport → ⊥
         later_is_counted more known =
             let own : ℕ = own_count state.knows key in
-            let before : List Put = made_on session key (puts_from client start (lines_at script session) moment.given) in
+            let before : List Put = made_on session key (puts_from client (start_at script report session) (lines_at script session) moment.given) in
             let long : length before ≡ own = count_before script table report ledger valid came session within moment asked may in
             let whole : length (puts_there key) ≡ length before + length then_made = ap length split_there ∙ length-append before then_made in
             let most = (cell_sound script table report ledger valid came session within moment asked may).sound.shown.counts session in
@@ -272,21 +272,21 @@ module _ (script : Script) (table : List (List ℕ)) (report : Report) (ledger :
   good_line earlier state line answer moment may = (lawful_alone table client state earlier line answer (λ asked. asked) moment.is.0, tt)
 
   -- so are all lines of the session
-  good_lines : AllLines client IsGood start [] (lines_at script session) (answers_at report session)
+  good_lines : AllLines client IsGood (start_at script report session) [] (lines_at script session) (answers_at report session)
   good_lines =
       let its = its script table report ledger came session within in
-      at_each_line table client (lines_at script session) (answers_at report session) its.replies IsGood (λ earlier state line answer moment.
+      at_each_line table client (origin_at script report session) (lines_at script session) (answers_at report session) its.replies IsGood (λ earlier state line answer moment.
       good_line earlier state line answer moment
       (subst (MayStand script table level) (get_or_from_slice_get (lines_at script session) (length moment.given) line line moment.at)
       ((session_is_valid script table session valid within).lines (length moment.given) line (slice_get_within (lines_at script session) (length moment.given) line moment.at)))) its.answered its.whole
 
-  pub session_lawful : AreLawful table client start [] (lines_at script session) (answers_at report session)
-  session_lawful = lawful_lines table client IsGood (λ earlier state line answer good. good.0) start [] (lines_at script session) (answers_at report session) good_lines
+  pub session_lawful : AreLawful table client (start_at script report session) [] (lines_at script session) (answers_at report session)
+  session_lawful = lawful_lines table client IsGood (λ earlier state line answer good. good.0) (start_at script report session) [] (lines_at script session) (answers_at report session) good_lines
 
   pub session_shows : AllZip (ShowsSound script.kinds (accepted script report) level) (lines_at script session) (answers_at report session)
-  session_shows = zipped_lines client IsGood (ShowsSound script.kinds (accepted script report) level) (λ earlier state line answer good. good.1) start [] (lines_at script session) (answers_at report session) good_lines
+  session_shows = zipped_lines client IsGood (ShowsSound script.kinds (accepted script report) level) (λ earlier state line answer good. good.1) (start_at script report session) [] (lines_at script session) (answers_at report session) good_lines
 
   -- so what its answers say of the accepted puts is true
   pub session_true : AllZip (IsTrueOf script.kinds (accepted script report)) (lines_at script session) (answers_at report session)
   session_true = zipped_lines client IsGood (IsTrueOf script.kinds (accepted script report)) (λ earlier state line answer good. shows_true script.kinds (accepted script report) level line answer good.1)
-      start [] (lines_at script session) (answers_at report session) good_lines
+      (start_at script report session) [] (lines_at script session) (answers_at report session) good_lines

@@ -25,6 +25,7 @@ pub mod MomentsLemmas
 pub mod NamedSessionsLemmas
 pub mod NamedValuesLemmas
 pub mod OnKeyLemmas
+pub mod OriginsLemmas
 pub mod OwnPutsLemmas
 pub mod OwnSoundLemmas
 pub mod PartiesLemmas

@@ -13,16 +13,16 @@ use Rattle.composed_value.specs.Keyed.{kind_at, puts_on}
 use Rattle.composed_value.specs.declared.put.Put.{Put}
 use Rattle.placement.specs.Asked.{home_at, replicas_of}
 use Rattle.placement.specs.Config.{IsOneOf}
-use Rattle.session_known.specs.Accepted.{made_on}
+use Rattle.session_known.specs.Accepted.{ends_of, made_on}
 use Rattle.session_known.specs.Lawful.{earlier_from, required}
 use Rattle.session_known.specs.Requests.{Sent, SentAsk, asks_sent, requests_of}
 use Rattle.session_known.specs.Script.{IsValidScript, MayStand}
-use Rattle.session_known.specs.Session.{Client, State, own_count, puts_from, start}
+use Rattle.session_known.specs.Session.{Client, State, own_count, puts_from}
 use Rattle.session_known.specs.declared.report.Answer.{Answer}
 use Rattle.session_known.specs.declared.report.Report.{Report}
 use Rattle.session_known.specs.declared.script.Line.{Line}
 use Rattle.session_known.specs.declared.script.Script.{Script}
-use Rattle.session_known.proofs.NumberedLemmas.{AreNumberedLines, next_of_lines}
+use Rattle.session_known.proofs.NumberedLemmas.{AreNumberedLines, next_of_lines, none_at_start}
 use Rattle.session_proxy.specs.Lines.{most_asks}
 use Rattle.session_proxy.specs.Local.{key_asked, order_asked}
 use Rattle.session_proxy.specs.Run.{IsReplied}
@@ -46,7 +46,7 @@ use Rattle.legal_runs.proofs.MomentsLemmas.{Moment, pairs, sent_for}
 use Rattle.legal_runs.proofs.RepliersLemmas.{replica_is_worker}
 use Rattle.legal_runs.proofs.RepliesLemmas.{its, pairs_across, replies_at, rising_at}
 use Rattle.legal_runs.proofs.RequestsLemmas.{no_puts_asked, of_lines, puts_there-append}
-use Rattle.legal_runs.proofs.SessionsLemmas.{IsSession, answers_at, client_at, lines_at, own_made}
+use Rattle.legal_runs.proofs.SessionsLemmas.{IsSession, answers_at, client_at, lines_at, origin_at, own_made, plan_at, start_at}
 use Rattle.legal_runs.proofs.SoundLemmas.{IsSoundAt, home_counts, made_at, received_by}
 use Rattle.run_ledger.proofs.WorkersLemmas.{IsWorker, worker_came}
 use Rattle.legal_runs.proofs.CameHereLemmas.{came_here, came_to}
@@ -77,7 +77,7 @@ module _ (script : Script) (table : List (List ℕ)) (report : Report) (ledger :
 
   -- a line of the session with its answer, in its place
   abbrev pub MomentOf : List (Line × Answer) → State → Line → Answer → Type 0
-  MomentOf = Moment table client all_lines (answers_at report session) all_replies
+  MomentOf = Moment table client (origin_at script report session) all_lines (answers_at report session) all_replies
 
   module _ {earlier : List (Line × Answer)} {state : State} {line : Line} {answer : Answer} (moment : MomentOf earlier state line answer) (asked : IsAsked line)
       (may : MayStand script table client.level line) where
@@ -106,7 +106,7 @@ module _ (script : Script) (table : List (List ℕ)) (report : Report) (ledger :
 
     -- what was sent before its last ask
     abbrev sent_first : List (ℕ × Sent)
-    sent_first = sent_for table client all_lines (answers_at report session) all_replies moment.given moment.replied
+    sent_first = sent_for table client (origin_at script report session) all_lines (answers_at report session) all_replies moment.given moment.replied
 
     abbrev asked_first : List (ℕ × Sent)
     asked_first = asks_sent (order_asked table client line) moment.first key what (lacked replied)
@@ -114,14 +114,14 @@ module _ (script : Script) (table : List (List ℕ)) (report : Report) (ledger :
     abbrev ask : ℕ
     ask = moment.first + lacked replied
 
-    sent_split : requests_of table client (map length all_replies) all_lines (answers_at report session) ≡ sent_first ++ asked_first ++ (worker, SentAsk ask key what) ∷ moment.later_sent
+    sent_split : requests_of table client (origin_at script report session) (map length all_replies) all_lines (answers_at report session) ≡ sent_first ++ asked_first ++ (worker, SentAsk ask key what) ∷ moment.later_sent
     sent_split =
         moment.sent_is
         ∙ ap (λ sent. sent_first ++ sent ++ moment.later_sent) (sent_by_replies table client state moment.first line answer moment.its asked moment.is ∙ asks_are replied)
         ∙ at_the_last sent_first asked_first (worker, SentAsk ask key what) moment.later_sent
 
     -- so of what went to the worker
-    to_it : to_worker worker (requests_of table client (map length all_replies) all_lines (answers_at report session))
+    to_it : to_worker worker (requests_of table client (origin_at script report session) (map length all_replies) all_lines (answers_at report session))
         ≡ to_worker worker (sent_first ++ asked_first) ++ requests.Get ask key what ∷ to_worker worker moment.later_sent
     to_it =
         ap (to_worker worker) sent_split ∙ to_worker-append worker (sent_first ++ asked_first) ((worker, SentAsk ask key what) ∷ moment.later_sent)
@@ -146,7 +146,7 @@ module _ (script : Script) (table : List (List ℕ)) (report : Report) (ledger :
     as_many_before : length (gets_in (to_worker worker (sent_first ++ asked_first))) ≡ length (from_worker worker heard_first)
     as_many_before =
         gets_to-append worker sent_first asked_first
-        ∙ (λ j. lines_as_many worker table client start 1 all_lines moment.given moment.replied moment.before j + as_many_replied worker asked_first replied.lacking (lacking_asked replied) j)
+        ∙ (λ j. lines_as_many worker table client (start_at script report session) 1 all_lines moment.given moment.replied moment.before j + as_many_replied worker asked_first replied.lacking (lacking_asked replied) j)
         ∙ sym (ap length (from_worker-append worker (in_all moment.replied) replied.lacking) ∙ length-append (from_worker worker (in_all moment.replied)) (from_worker worker replied.lacking))
 
     -- what the worker joined of gossip
@@ -182,16 +182,17 @@ module _ (script : Script) (table : List (List ℕ)) (report : Report) (ledger :
 
     -- what the session had made before on the key
     abbrev made_before : List (ℕ × Put)
-    made_before = puts_from client start all_lines moment.given
+    made_before = puts_from client (start_at script report session) all_lines moment.given
 
-    numbered_before : AreNumberedLines client start all_lines moment.given
-    numbered_before = numbered client table start 1 all_lines moment.given moment.replied moment.before
+    numbered_before : AreNumberedLines client (start_at script report session) all_lines moment.given
+    numbered_before = numbered client table (start_at script report session) 1 all_lines moment.given moment.replied moment.before
 
     -- it has made as many as its count says
     pub count_before : length (made_on session key made_before) ≡ own_count state.knows key
     count_before =
-        let next = next_of_lines client start all_lines moment.given key numbered_before in
-        sym (next.last_is ∙ omega arith) ∙ ap (λ (s : State). own_count s.knows key) moment.state_is
+        let next = next_of_lines client (start_at script report session) all_lines moment.given key numbered_before in
+        let none = none_at_start (ends_of script report) (plan_at script session).after key in
+        sym (next.last_is ∙ omega (arith, none)) ∙ ap (λ (s : State). own_count s.knows key) moment.state_is
 
     -- at its home all of these came before the get, and no others
     pub own_at_home : worker ≡ home_at table session key → count_of session cell.clock ≡ own_count state.knows key
@@ -204,16 +205,16 @@ module _ (script : Script) (table : List (List ℕ)) (report : Report) (ledger :
             own_in_front script table report (are script table report ledger valid came) worker (received_by script table report ledger valid came worker) (came_here script table report ledger came worker is_a_worker) session key made.before made.after made.received_is
             ∙ ap (λ messages. puts_on key (flat_map put_in messages)) made.front_is
             ∙ puts_there-append table client worker key sent_first asked_first
-            ∙ (λ j. of_lines table client worker key start 1 (map length moment.replied) all_lines moment.given
-            (length-map moment.replied length ∙ as_many client table start 1 all_lines moment.given moment.replied moment.before) (lines_have client start all_lines moment.given numbered_before) j
+            ∙ (λ j. of_lines table client worker key (start_at script report session) 1 (map length moment.replied) all_lines moment.given
+            (length-map moment.replied length ∙ as_many client table (start_at script report session) 1 all_lines moment.given moment.replied moment.before) (lines_have client (start_at script report session) all_lines moment.given numbered_before) j
             ++ no_puts_asked table client worker key (order_asked table client line) moment.first key what (lacked replied) j)
             ∙ ap (λ there. cond there (puts_on key made_before) [] ++ cond there [] []) (eq-eqb (home_at table session key) worker (sym home))
-            ∙ append-nil (puts_on key made_before) ∙ sym (own_made client session key all_lines moment.given refl)
+            ∙ append-nil (puts_on key made_before) ∙ sym (own_made client (start_at script report session) session key all_lines moment.given refl)
 
     -- and it covers what the session had of the worker before
     pub covers_earlier : All (λ before. IsTrue (covers cell.clock before)) (earlier_from key worker earlier)
     covers_earlier =
-        let all_earlier = earlier_shown key worker table client start 1 all_lines moment.given moment.replied moment.before in
+        let all_earlier = earlier_shown key worker table client (start_at script report session) 1 all_lines moment.given moment.replied moment.before in
         subst (λ answered. All (λ before. IsTrue (covers cell.clock before)) (earlier_from key worker answered)) moment.earlier_is
         (All-weaker (HasShown key worker (in_all moment.replied)) (λ before. IsTrue (covers cell.clock before)) (λ before shown.
         subst (λ clock. IsTrue (covers clock before)) shows

@@ -8,12 +8,11 @@ use Rattle.placement.specs.Config.{IsOneOf}
 use Rattle.composed_value.specs.Keyed.{puts_on}
 use Rattle.composed_value.specs.declared.put.Put.{Put}
 use Rattle.session_known.specs.Accepted.{accepted, made_on}
-use Rattle.session_known.specs.Session.{start}
 use Rattle.session_known.specs.declared.report.Report.{Report}
 use Rattle.session_known.specs.declared.script.Script.{Script}
 use Rattle.session_known.proofs.NumberedLemmas.{IsOwn, lines_own}
 use Rattle.legal_runs.proofs.OnKeyLemmas.{on_key}
-use Rattle.legal_runs.proofs.SessionsLemmas.{AreSessions, IsSession, answers_at, client_at, lines_at, made_by}
+use Rattle.legal_runs.proofs.SessionsLemmas.{AreSessions, IsSession, answers_at, client_at, lines_at, made_by, start_at}
 
 -- a list that is not empty has a member
 pub some_of : {X : Type 0} (xs : List X) → 1 ≤ length xs → (x : X) × Contains xs x
@@ -76,4 +75,4 @@ module _ (script : Script) (table : List (List ℕ)) (report : Report) (are : Ar
       let in_script : ℕ × Put → Type 0 = λ entry. IsSession script entry.1.session in
       All-accepted in_script (λ session within.
       All-weaker (IsOwn (client_at script session)) in_script (λ entry own. subst (IsSession script) (sym own) within) (made_by script report session)
-      (lines_own (client_at script session) start (lines_at script session) (answers_at report session)))
+      (lines_own (client_at script session) (start_at script report session) (lines_at script session) (answers_at report session)))

@@ -1,5 +1,5 @@
 -- A session line by line: what it was answered, sent, made and heard before a line, at it and after it.
-use Rattle.std.specs.Prelude.{◌≡◌, ℕ, ◌+◌, List, [], ◌∷◌, ◌++◌, All, flat_map, length, map, slice_get, sum_by, Some, ⊤}
+use Rattle.std.specs.Prelude.{◌≡◌, ℕ, ◌+◌, List, [], ◌∷◌, ◌++◌, All, length, map, slice_get, sum_by, Some, ⊤}
 use Rattle.std.specs.List.{AllZip}
 use Rattle.std.proofs.Common.{◌∙◌, refl, sym, ap, subst, append-nil, length-append, arith}
 use Rattle.std.proofs.lemmas.List.{append_assoc}
@@ -9,7 +9,7 @@ use Rattle.std.proofs.lemmas.List.Sums.{sum_by-append}
 use Rattle.composed_value.specs.declared.put.Put.{Put}
 use Rattle.session_known.specs.Lawful.{AreLawful, IsLawful}
 use Rattle.session_known.specs.Requests.{Sent, requests_of, sent_by, sent_from}
-use Rattle.session_known.specs.Session.{Client, State, after, puts_by, puts_from, start, state_after}
+use Rattle.session_known.specs.Session.{Client, Knowledge, State, after, puts_by, puts_from, start, state_after}
 use Rattle.session_known.specs.declared.report.Answer.{Answer}
 use Rattle.session_known.specs.declared.script.Line.{Line}
 use Rattle.session_proxy.specs.Run.{AreAnswered, IsAnswered}
@@ -86,18 +86,18 @@ made-push client state (its ∷ lines) (first ∷ given) line answer at =
     ap (λ rest. puts_by client state its first ++ rest) (made-push client reached lines given line answer at)
     ∙ sym (append_assoc (puts_by client state its first) (puts_from client reached lines given) (puts_by client (state_after client reached lines given) line answer))
 
-module _ (table : List (List ℕ)) (client : Client) (all_lines : List Line) (all_answers : List Answer) (all_replies : List (List PlainReply)) where
+module _ (table : List (List ℕ)) (client : Client) (origin : Knowledge) (all_lines : List Line) (all_answers : List Answer) (all_replies : List (List PlainReply)) where
   -- what is sent for the lines with these answers
   abbrev pub sent_for : List Answer → List (List PlainReply) → List (ℕ × Sent)
-  sent_for given replied = sent_from table client start 1 (map length replied) all_lines given
+  sent_for given replied = sent_from table client (start origin) 1 (map length replied) all_lines given
 
   -- the puts that these answers accept
   abbrev pub made_for : List Answer → List (ℕ × Put)
-  made_for given = puts_from client start all_lines given
+  made_for given = puts_from client (start origin) all_lines given
 
   -- the state after them, and the number of the next ask
   abbrev pub state_for : List Answer → State
-  state_for given = state_after client start all_lines given
+  state_for given = state_after client (start origin) all_lines given
 
   abbrev pub first_for : List (List PlainReply) → ℕ
   first_for replied = 1 + sum_by length replied
@@ -106,11 +106,11 @@ module _ (table : List (List ℕ)) (client : Client) (all_lines : List Line) (al
   record IsSoFar (done : List Line) (given : List Answer) (replied : List (List PlainReply)) (lines : List Line) (answers : List Answer) (replies : List (List PlainReply)) (state : State) (first : ℕ) : Type 0 where
     lines_are : all_lines ≡ done ++ lines
     as_many : length done ≡ length given
-    before : AreAnswered table client start 1 all_lines given replied
+    before : AreAnswered table client (start origin) 1 all_lines given replied
     state_is : state_for given ≡ state
     first_is : first_for replied ≡ first
     left : AreAnswered table client state first lines answers replies
-    sent_is : requests_of table client (map length all_replies) all_lines all_answers ≡ sent_for given replied ++ sent_from table client state first (map length replies) lines answers
+    sent_is : requests_of table client origin (map length all_replies) all_lines all_answers ≡ sent_for given replied ++ sent_from table client state first (map length replies) lines answers
     heard_is : in_all all_replies ≡ in_all replied ++ in_all replies
     made_is : made_for all_answers ≡ made_for given ++ puts_from client state lines answers
 
@@ -121,13 +121,13 @@ module _ (table : List (List ℕ)) (client : Client) (all_lines : List Line) (al
     pub first : ℕ
     pub its : List PlainReply
     pub at : slice_get all_lines (length given) ≡ Some line
-    pub before : AreAnswered table client start 1 all_lines given replied
+    pub before : AreAnswered table client (start origin) 1 all_lines given replied
     pub earlier_is : pairs all_lines given ≡ earlier
     pub state_is : state_for given ≡ state
     pub first_is : first_for replied ≡ first
     pub is : IsAnswered table client state first line answer its
     pub later_sent : List (ℕ × Sent)
-    pub sent_is : requests_of table client (map length all_replies) all_lines all_answers
+    pub sent_is : requests_of table client origin (map length all_replies) all_lines all_answers
         ≡ sent_for given replied ++ sent_by table client state first (length its) line answer ++ later_sent
     pub later_heard : List PlainReply
     pub heard_is : in_all all_replies ≡ in_all replied ++ its ++ later_heard
@@ -157,7 +157,7 @@ module _ (table : List (List ℕ)) (client : Client) (all_lines : List Line) (al
     abbrev then_sent : List (ℕ × Sent)
     then_sent = sent_from table client reached next (map length replies) lines answers
 
-    sends : requests_of table client (map length all_replies) all_lines all_answers ≡ sent_for given replied ++ now_sent ++ then_sent
+    sends : requests_of table client origin (map length all_replies) all_lines all_answers ≡ sent_for given replied ++ now_sent ++ then_sent
     sends = so_far.sent_is
         ∙ ap (λ n. sent_for given replied ++ (now_sent ++ sent_from table client reached (first + n) (map length replies) lines answers)) (asks_by_replies table client state first line answer its so_far.left.0)
         ∙ sym (append_assoc (sent_for given replied) now_sent then_sent)
@@ -190,19 +190,19 @@ module _ (table : List (List ℕ)) (client : Client) (all_lines : List Line) (al
     }
 
     sent_then : sent_for (given ++ answer ∷ []) (replied ++ its ∷ []) ≡ sent_for given replied ++ now_sent
-    sent_then = sent-push table client start 1 all_lines given replied line answer its at so_far.before
+    sent_then = sent-push table client (start origin) 1 all_lines given replied line answer its at so_far.before
         ∙ ap (λ state. sent_for given replied ++ sent_by table client state (first_for replied) (length its) line answer) so_far.state_is
         ∙ ap (λ first. sent_for given replied ++ sent_by table client state first (length its) line answer) so_far.first_is
 
     made_then : made_for (given ++ answer ∷ []) ≡ made_for given ++ puts_by client state line answer
-    made_then = made-push client start all_lines given line answer at ∙ ap (λ state. made_for given ++ puts_by client state line answer) so_far.state_is
+    made_then = made-push client (start origin) all_lines given line answer at ∙ ap (λ state. made_for given ++ puts_by client state line answer) so_far.state_is
 
     goes_on : IsSoFar (done ++ line ∷ []) (given ++ answer ∷ []) (replied ++ its ∷ []) lines answers replies reached next
     goes_on = record {
       lines_are = so_far.lines_are ∙ sym (append_assoc done (line ∷ []) lines);
       as_many = let was = so_far.as_many in omega (arith, was, length-append done (line ∷ []), length-append given (answer ∷ []));
-      before = answered-push table client start 1 all_lines given replied line answer its at so_far.before is;
-      state_is = state_after-push client start all_lines given line answer at ∙ ap (λ state. after client state line answer) so_far.state_is;
+      before = answered-push table client (start origin) 1 all_lines given replied line answer its at so_far.before is;
+      state_is = state_after-push client (start origin) all_lines given line answer at ∙ ap (λ state. after client state line answer) so_far.state_is;
       first_is = let was = so_far.first_is in omega (arith, was, sum_by-append length replied (its ∷ []));
       left = so_far.left.1;
       sent_is = sends ∙ ap (λ sent. sent ++ then_sent) (sym sent_then);
@@ -230,17 +230,17 @@ module _ (table : List (List ℕ)) (client : Client) (all_lines : List Line) (al
 
   pub at_each_line : (Holds : List (Line × Answer) → State → Line → Answer → Type 0)
       → ((earlier : List (Line × Answer)) (state : State) (line : Line) (answer : Answer) → Moment earlier state line answer → Holds earlier state line answer)
-      → AreAnswered table client start 1 all_lines all_answers all_replies → length all_answers ≡ length all_lines → AllLines client Holds start [] all_lines all_answers
+      → AreAnswered table client (start origin) 1 all_lines all_answers all_replies → length all_answers ≡ length all_lines → AllLines client Holds (start origin) [] all_lines all_answers
   at_each_line Holds of answered whole =
-      subst (λ earlier. AllLines client Holds start earlier all_lines all_answers) (pairs-none all_lines)
-      (each_line Holds of [] [] [] all_lines all_answers all_replies start 1 (record {
+      subst (λ earlier. AllLines client Holds (start origin) earlier all_lines all_answers) (pairs-none all_lines)
+      (each_line Holds of [] [] [] all_lines all_answers all_replies (start origin) 1 (record {
         lines_are = refl;
         as_many = refl;
-        before = none_answered table client start 1 all_lines;
-        state_is = state_after-none client start all_lines;
+        before = none_answered table client (start origin) 1 all_lines;
+        state_is = state_after-none client (start origin) all_lines;
         first_is = refl;
         left = answered;
         sent_is = refl;
         heard_is = refl;
-        made_is = ap (λ made. made ++ made_for all_answers) (sym (made-none client start all_lines));
+        made_is = ap (λ made. made ++ made_for all_answers) (sym (made-none client (start origin) all_lines));
       }) whole)

@@ -8,14 +8,14 @@ use Rattle.composed_value.specs.Kind.{kind_of}
 use Rattle.composed_value.specs.declared.payload.Payload.{Payload}
 use Rattle.composed_value.specs.declared.put.Put.{Put}
 use Rattle.session_known.specs.Script.{IsValidScript, IsValidSession, MayStand}
-use Rattle.session_known.specs.Session.{Client, Knowledge, State, after, held_puts, knows_put, own_count, put_made, puts_by, puts_committed, puts_from, start}
+use Rattle.session_known.specs.Session.{Client, Knowledge, State, after, held_puts, knows_put, own_count, put_made, puts_by, puts_committed, puts_from}
 use Rattle.session_known.specs.declared.report.Answer.{Answer}
 use Rattle.session_known.specs.declared.report.Answer.TheVariants as answers
 use Rattle.session_known.specs.declared.report.Report.{Report}
 use Rattle.session_known.specs.declared.script.Line.{Line}
 use Rattle.session_known.specs.declared.script.Line.TheVariants as lines
 use Rattle.session_known.specs.declared.script.Script.{Script}
-use Rattle.legal_runs.proofs.SessionsLemmas.{IsSession, answers_at, client_at, lines_at, made_by, no_plan, plan_at}
+use Rattle.legal_runs.proofs.SessionsLemmas.{IsSession, answers_at, client_at, lines_at, made_by, no_plan, plan_at, start_at}
 
 -- the session of a number has lines that may stand there
 pub session_is_valid : (script : Script) (table : List (List ℕ)) (session : ℕ) → IsValidScript script table → IsSession script session → IsValidSession script table (plan_at script session)
@@ -75,5 +75,5 @@ module _ (script : Script) (table : List (List ℕ)) (client : Client) where
 pub puts_in_script : (script : Script) (table : List (List ℕ)) (report : Report) → IsValidScript script table → (session : ℕ) → IsSession script session
     → All (λ entry. IsOneOf (length script.config.keys) entry.0 × (kind_of entry.1.payload ≡ kind_at script.kinds entry.0)) (made_by script report session)
 puts_in_script script table report valid session known =
-    lines_in_script script table (client_at script session) start (lines_at script session) (answers_at report session) (session_is_valid script table session valid known).lines
+    lines_in_script script table (client_at script session) (start_at script report session) (lines_at script session) (answers_at report session) (session_is_valid script table session valid known).lines
     (All-nil (MayBeHeld script))

@@ -14,7 +14,7 @@ use Rattle.run_ledger.specs.Ledger.{Ledger, heard_by, worker_at}
 use Rattle.run_ledger.proofs.ByWorkerLemmas.{all_by_worker, by_worker, from_worker, in_all}
 use Rattle.run_ledger.proofs.GetsLemmas.{zip_over}
 use Rattle.run_ledger.proofs.MessagesLemmas.{each_from}
-use Rattle.legal_runs.proofs.SessionsLemmas.{IsSession, answers_at, client_at, lines_at, of_session}
+use Rattle.legal_runs.proofs.SessionsLemmas.{IsSession, answers_at, client_at, lines_at, origin_at, of_session}
 use Rattle.run_ledger.proofs.WorkersLemmas.{IsWorker, is_worker, me_is, worker_came}
 
 -- and whatever the first is
@@ -33,7 +33,7 @@ pairs_across R xs ys x y all has_x has_y =
     (all has_x.0 (length xs + has_y.0) x (omega (arith, has_x.1)) (omega (arith, has_y.1, length-append xs ys))))
 
 module _ (script : Script) (table : List (List ℕ)) (report : Report) (ledger : Ledger) (came : Came script table report ledger) (session : ℕ) (within : IsSession script session) where
-  abbrev pub its : CameOfSession table ledger (client_at script session) (lines_at script session) (answers_at report session) (heard_by ledger session)
+  abbrev pub its : CameOfSession table ledger (client_at script session) (origin_at script report session) (lines_at script session) (answers_at report session) (heard_by ledger session)
   its = of_session script table report ledger came.sessions session within
 
   -- what came of a worker answers the session's gets there, one by one

@@ -21,7 +21,8 @@ use Rattle.composed_value.specs.declared.payload.Payload.{Payload}
 use Rattle.composed_value.specs.declared.put.Put.{Put}
 use Rattle.session_known.specs.Accepted.{accepted}
 use Rattle.session_known.specs.Form.{AreNeedsIn, IsClockIn, NamesSessions}
-use Rattle.session_known.specs.Session.{Client, Knowledge, State, after, held_puts, known_raised, knows_committed, knows_put, knows_shown, needs_learned, own_count, put_made, puts_by, puts_committed, puts_from, shown_to, start}
+use Rattle.session_known.specs.Script.{IsValidScript}
+use Rattle.session_known.specs.Session.{Client, Knowledge, State, after, held_puts, known_raised, knows_committed, knows_put, knows_shown, needs_learned, own_count, put_made, puts_by, puts_committed, puts_from, shown_to, state_after}
 use Rattle.session_known.specs.declared.report.Answer.{Answer}
 use Rattle.session_known.specs.declared.report.Answer.TheVariants as answers
 use Rattle.session_known.specs.declared.report.Report.{Report}
@@ -34,7 +35,8 @@ use Rattle.session_known.specs.declared.script.Script.{Script}
 use Rattle.run_ledger.specs.Causality.{AreCausal}
 use Rattle.legal_runs.proofs.MadePutsLemmas.{All-accepted, AreOfSessions}
 use Rattle.legal_runs.proofs.NamedSessionsLemmas.{accepted_clock_in, sound_needs_in}
-use Rattle.legal_runs.proofs.SessionsLemmas.{AreSessions, IsSession, answers_at, client_at, lines_at}
+use Rattle.legal_runs.proofs.OriginsLemmas.{of_origins}
+use Rattle.legal_runs.proofs.SessionsLemmas.{AreSessions, IsSession, answers_at, client_at, lines_at, origin_at, start_at}
 use Rattle.legal_runs.proofs.ShownLemmas.{AllShowSound, IsOfSound, ShowsSound}
 
 module _ (sessions : ℕ) where
@@ -195,10 +197,20 @@ module _ (script : Script) (client : Client) (within : IsSession script client.s
         (lines_seen reached lines answers show.1 (knows_after state line answer show.0 are))
     lines_seen state lines answers show are = All-nil (HasSeen script)
 
+    -- and it knows such alone after all of them
+    end_knows : (state : State) (lines : List Line) (answers : List Answer) → AllZip (ShowsSound script.kinds puts client.level) lines answers
+        → KnowsSessions script state.knows → KnowsSessions script (state_after client state lines answers).knows
+    end_knows state (line ∷ lines) (answer ∷ answers) show are = end_knows (after client state line answer) lines answers show.1 (knows_after state line answer show.0 are)
+    end_knows state lines answers show are = are
+
 -- The accepted puts of a report that shows sound cells have seen sessions of the script alone.
-pub accepted_have_seen : (script : Script) (table : List (List ℕ)) (report : Report) → AreSessions script table report → AllShowSound script report
+pub accepted_have_seen : (script : Script) (table : List (List ℕ)) (report : Report) → IsValidScript script table → AreSessions script table report → AllShowSound script report
     → AreOfSessions script (accepted script report) → AreCausal (accepted script report) → All (HasSeen script) (accepted script report)
-accepted_have_seen script table report are show known causal =
+accepted_have_seen script table report valid are show known causal =
     All-accepted script table report are (HasSeen script) (λ session within.
-    lines_seen script (client_at script session) within (accepted script report) known causal start (lines_at script session) (answers_at report session)
-    (show session within) (no_clocks_of (length script.sessions)))
+    lines_seen script (client_at script session) within (accepted script report) known causal (start_at script report session) (lines_at script session) (answers_at report session)
+    (show session within) (origin_knows session within))
+  where
+    origin_knows : (session : ℕ) → IsSession script session → KnowsSessions script (origin_at script report session)
+    origin_knows = of_origins script table report valid are.as_many (KnowsSessions script) (no_clocks_of (length script.sessions)) (λ knows known. known)
+        (λ session within is_causal known_before. end_knows script (client_at script session) within (accepted script report) known causal (start_at script report session) (lines_at script session) (answers_at report session) (show session within) known_before)

@@ -1,4 +1,5 @@
 pub mod AwaitedLemmas
+pub mod BeginningLemmas
 pub mod BesideLemmas
 pub mod ChangedLemmas
 pub mod HeldLemmas

@@ -39,6 +39,11 @@ module _ {X Y : Type 0} where
   where_value (Ok x) told follows = follows x told
   where_value (Err error) told follows = tt
 
+  -- what follows of what holds where a call succeeds holds there
+  pub where_ok : {P Q : Type 0} (result : Result X Y) → (P → Q) → OnOk result P → OnOk result Q
+  where_ok (Ok x) follows is = follows is
+  where_ok (Err error) follows is = tt
+
   -- what follows of a value follows where a call gives one
   pub on_ok : {P Q : X → Type 0} (result : Result X Y) → ((x : X) → P x → Q x) → IfOk result P → IfOk result Q
   on_ok (Ok x) follows is = follows x is

@@ -1,14 +1,16 @@
 -- A run of which sessions were polled goes on.
 use Rattle.std.specs.Prelude.{◌≡◌, ℕ, All, List, length, slice_get, Some}
 use Rattle.std.proofs.Common.{◌∙◌, ap, refl, subst, sym}
+use Rattle.std.proofs.lemmas.List.{length-map}
 use Rattle.placement.specs.Config.{IsOneOf}
 use Rattle.session_known.specs.declared.script.SessionPlan.{SessionPlan}
 use Rattle.session_proxy.specs.State.{PlainProxy}
 use Rattle.worker_core.specs.State.{PlainWorker}
-use Rattle.party_turns.specs.Running.{GoesOn, HaveEnds, IsSessionOf}
+use Rattle.party_turns.specs.Running.{BeginsAs, GoesOn, HaveEnds, IsSessionOf, courses_of}
+use Rattle.party_turns.proofs.BeginsLemmas.{StaysEnded, begins_still}
 use Rattle.party_turns.proofs.ItemsLemmas.{long_alike, there_too}
 use Rattle.parties.specs.Polling.{HasPolled}
-use Rattle.parties.proofs.ChangedLemmas.{done_to_none}
+use Rattle.parties.proofs.ChangedLemmas.{done_to_made, done_to_none}
 use Rattle.parties.proofs.KeptLemmas.{KeepsSessionEnds, KeepsWorkerEnds, ends_kept, worker_keeps}
 use Rattle.parties.proofs.TurnedRunLemmas.{not_settled_yet}
 use Rattle.party_turns.specs.Ends.{Ends}
@@ -58,10 +60,22 @@ module _ {S T O Q G R SK TK OK QK GK RK : Type 0} {mail : Ends S T O Q G R SK TK
           let was = there_too sessions sessions_now place is long there in
           session_stays mail running.table script.config.workers place plan was.0 is (each place was.0 is was.1 there)
           (running.ends.reply_boxes place was.0 was.1 ∙ running.as_many) (running.sessions_are place plan was.0 planned was.1);
+      begins = λ place plan is planned there.
+          let was = there_too sessions sessions_now place is long there in
+          subst (BeginsAs (courses_of sessions_now) plan.after) (sym (each place was.0 is was.1 there).fixed.origin)
+          (begins_still (courses_of sessions) (courses_of sessions_now) courses_long (done_to_made StaysEnded (λ its. its.course) sessions sessions_now ended_stay) plan.after was.0.course.origin
+          (running.begins place plan was.0 planned was.1));
       ends = ends_stay running.ends;
     };
   }
     where
+      courses_long : length (courses_of sessions_now) ≡ length (courses_of sessions)
+      courses_long = length-map sessions_now (λ its. its.course) ∙ long ∙ sym (length-map sessions (λ its. its.course))
+
+      -- those that have ended stay as they are
+      ended_stay : (place : ℕ) (was is : PlainProxy S R) → slice_get sessions place ≡ Some was → slice_get sessions_now place ≡ Some is → StaysEnded was.course is.course
+      ended_stay place was is there here begun answered = (each place was is there here).ended answered
+
       -- the ends of all stay such
       ends_stay : HaveEnds mail workers sessions
           → HaveEnds mail workers sessions_now

@@ -79,6 +79,7 @@ module _ {S T O Q G R SK TK OK QK GK RK : Type 0} {mail : Ends S T O Q G R SK TK
           worker_stays mail script running.table place was.0 is (each place was.0 is was.1 there) (running.workers_are place was.0 was.1);
       as_many_sessions = running.as_many_sessions;
       sessions_are = running.sessions_are;
+      begins = running.begins;
       ends = ends_stay running.ends;
     };
   }

@@ -2,8 +2,10 @@ pub use Rattle.run_measure.specs.Laws
 pub use Rattle.run_measure.specs.Steps
 pub use Rattle.run_waiting.specs.Told
 pub use Rattle.run_waiting.specs.Waiting
+pub mod Beginning
 pub mod Beside
 pub mod Pace
+pub mod PlainWaiting
 pub mod Polling
 pub mod Progress
 pub mod Session

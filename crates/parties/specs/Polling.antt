@@ -1,14 +1,15 @@
 -- What it changes of a session to be polled, once or several times.
-use Rattle.std.specs.Prelude.{◌≡◌, List, All, length, Ok}
+use Rattle.std.specs.Prelude.{◌≡◌, IsTrue, List, All, length, Ok}
 use Rattle.mail_contract.specs.declared.rx.Rx as boxes
 use Rattle.mail_contract.specs.declared.tx.Tx as senders
 use Rattle.mail_contract.specs.Boxes.{FindsNothing, box_of}
 use Rattle.mail_contract.specs.Standing.{AllStand}
 use Rattle.placement.specs.Config.{IsOneOf}
+use Rattle.session_known.specs.Session.{Knowledge}
 use Rattle.session_known.specs.declared.report.Answer.{Answer}
 use Rattle.session_proxy.specs.Polls.{Counts, Polls, WantsRoom}
 use Rattle.session_proxy.specs.Share.{Share}
-use Rattle.session_proxy.specs.State.{IsFixed, KeysStay, PlainProxy, lists_of}
+use Rattle.session_proxy.specs.State.{IsFixed, KeysStay, PlainProxy, has_begun, lists_of, state_now}
 use Rattle.session_proxy.specs.declared.progress.Progress.TheVariants as progress
 use Rattle.store_msg.specs.declared.ends.SessionEndsOver.{SessionEndsOver}
 use Rattle.store_msg.specs.declared.request.Request.{Request}
@@ -22,10 +23,16 @@ pub record HasPolled {S T R SK TK RK : Type 0} (asks : senders.Ghosts S Request 
   pub in_range : All (λ message. IsOneOf (heard.senders (heard.key before.ends.replies)) message.0) (heard.received before.ends.replies)
       → All (λ message. IsOneOf (heard.senders (heard.key now.ends.replies)) message.0) (heard.received now.ends.replies)
   pub stand : AllStand (heard.about before.ends.replies) (heard.about now.ends.replies)
+  -- where every line was answered nothing is done
+  pub ended : length before.course.answers ≡ length before.course.lines → now.course ≡ before.course
 
--- every line of a session is answered
+-- a session has begun, and every line of it is answered
 abbrev pub IsAllAnswered : {S R : Type 0} → PlainProxy S R → Type 0
-IsAllAnswered proxy = length proxy.course.answers ≡ length proxy.course.lines
+IsAllAnswered proxy = IsTrue (has_begun proxy.course) × (length proxy.course.answers ≡ length proxy.course.lines)
+
+-- and it knows this then
+abbrev pub KnowsAtEnd : {S R : Type 0} → PlainProxy S R → Knowledge → Type 0
+KnowsAtEnd proxy knows = IsAllAnswered proxy × (knows ≡ (state_now proxy.course).knows)
 
 -- its answers and its ends, as it leaves them
 abbrev pub left_by : {S R : Type 0} → PlainProxy S R → List Answer × SessionEndsOver S R

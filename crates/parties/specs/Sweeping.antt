@@ -2,6 +2,7 @@
 use Rattle.std.specs.Prelude.{◌≡◌, ◌⊎◌, ℕ, ◌+◌, ◌-◌, ◌≤◌, Bool, false, IsTrue, List, [], All, length, slice_get, slice_index_or, Option, Some, None}
 use Rattle.mail_contract.specs.Parts.{Parts}
 use Rattle.mail_contract.specs.Takes.{from_sender}
+use Rattle.placement.specs.Config.{IsOneOf}
 use Rattle.session_proxy.specs.State as sessions
 use Rattle.worker_core.specs.State as workers
 use Rattle.run_measure.specs.Steps.{done}
@@ -42,13 +43,32 @@ AreServed at all those =
 abbrev pub IfServedBeside : Parts → Parts → (ℕ → Type 0) → ℕ → List workers.Lists → List sessions.Lists → Type 0 → Type 0
 IfServedBeside requests replies is_beside at all those holds = FreeBoth requests replies → ((place : ℕ) → is_beside place) → AreServed at all those → holds
 
--- every line of the session at a place is answered,
+-- it has begun, and every line of it is answered
+abbrev pub IsAtEnd : sessions.Lists → Type 0
+IsAtEnd its = IsTrue (sessions.has_begun its.course) × (length its.course.answers ≡ length its.course.lines)
+
+-- so the session at a place,
 abbrev pub HasEnded : List sessions.Lists → ℕ → Type 0
-HasEnded those at = (its : sessions.Lists) → slice_get those at ≡ Some its → length its.course.answers ≡ length its.course.lines
+HasEnded those at = (its : sessions.Lists) → slice_get those at ≡ Some its → IsAtEnd its
 
 -- and of all
 abbrev pub AreAnswered : List sessions.Lists → Type 0
 AreAnswered those = (at : ℕ) → HasEnded those at
+
+-- the session at a place has begun
+abbrev pub HasBegun : List sessions.Lists → ℕ → Type 0
+HasBegun those at = (its : sessions.Lists) → slice_get those at ≡ Some its → IsTrue (sessions.has_begun its.course)
+
+-- The session at a place has begun, or it waits for the end of another that has not ended.
+abbrev pub WaitsForOther : List sessions.Lists → ℕ → Type 0
+WaitsForOther those at =
+    (its : sessions.Lists) (session : ℕ) → slice_get those at ≡ Some its → its.course.origin ≡ sessions.WaitsFor session
+    → (other : sessions.Lists) → slice_get those (session - 1) ≡ Some other → IsAtEnd other → ⊥
+
+-- and it waits for an earlier one
+abbrev pub WaitsForEarlier : List sessions.Lists → ℕ → Type 0
+WaitsForEarlier those at =
+    (its : sessions.Lists) (session : ℕ) → slice_get those at ≡ Some its → its.course.origin ≡ sessions.WaitsFor session → IsOneOf at session
 
 -- What each session waits for it did not take,
 abbrev pub AllAwait : List sessions.Lists → Type 0
@@ -67,9 +87,9 @@ rested_of (Some its) = its.rested
 abbrev pub rested_at : List Polled → ℕ → Bool
 rested_at came at = rested_of (slice_get came at)
 
--- A session has moved on, or every line of it is answered.
+-- A session has moved on, or has ended.
 abbrev pub MovesOrEnds : sessions.Lists → sessions.Lists → Type 0
-MovesOrEnds before now = (done before + 1 ≤ done now) ⊎ (length now.course.answers ≡ length now.course.lines)
+MovesOrEnds before now = (done before + 1 ≤ done now) ⊎ IsAtEnd now
 
 -- each session at a place of which something holds has
 abbrev pub EachMoves : (ℕ → Type 0) → List sessions.Lists → List sessions.Lists → Type 0

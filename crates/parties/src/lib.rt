@@ -22,6 +22,7 @@
 //! `run_measure` and `run_waiting` for how far they are and why no session waits in vain.
 #![tactic(auto)]
 
+mod beginning;
 mod pace;
 mod parties;
 mod parting;
@@ -30,6 +31,7 @@ mod session;
 mod showing;
 mod stepping;
 mod steps;
+mod waiting;
 
 pub use pace::{Pace, UntilNothing};
 pub use parties::Parties;
@@ -37,3 +39,4 @@ pub use run::Run;
 pub use session::{Session, SessionOver};
 pub use stepping::{Polled, poll_often, turn_often};
 pub use steps::MOST_POLLS;
+pub use waiting::{Waiting, WaitingOver};

@@ -1,6 +1,7 @@
 //! The parties of a run over one kind of mail.
 ghost use Rattle.std.specs.Prelude.{ℕ};
 
+use crate::beginning::begin_session;
 use crate::parting::part_all;
 use crate::showing::{show_all, show_worker};
 use crate::steps::{poll_session, turn_worker};
@@ -60,6 +61,7 @@ impl<P: Mail> Run for Parties<P> {
     ghost use Rattle.party_turns.specs.Steps.{NoneKept, StepsOn};
     ghost use Rattle.party_turns.specs.Running.{AreRunning};
     ghost use Rattle.parties.specs.Session.{proxy_of};
+    ghost use Rattle.party_turns.proofs.OrderLemmas.{wait_for_earlier};
     ghost use Rattle.party_turns.proofs.StepsLemmas.{steps_go_on, steps_long, steps_still, steps_through};
     ghost use Rattle.party_turns.specs.Ends.{session_lists, worker_lists};
     ghost use Rattle.session_known.specs.declared.script.Script.{Script};
@@ -120,8 +122,16 @@ impl<P: Mail> Run for Parties<P> {
         Ok(())
     }
 
+    fn has_begun(&self, place: usize) -> bool {
+        self.sessions[place].has_begun()
+    }
+
     fn poll_session(&mut self, place: usize, most: u32) -> Result<Polled, NoMemory> {
         poll_session(self, place, most)
+    }
+
+    fn begin_session(&mut self, place: usize) -> Result<(), NoMemory> {
+        begin_session(&mut self.sessions, place)
     }
 
     ghost no_steps = { λ run. steps_still run.workers.items (map proxy_of run.sessions.items) };
@@ -134,6 +144,8 @@ impl<P: Mail> Run for Parties<P> {
     ghost as_many = { λ before now. steps_long
         before.workers.items now.workers.items
         (map proxy_of before.sessions.items) (map proxy_of now.sessions.items) };
+
+    ghost in_order = { λ run. wait_for_earlier run.workers.items (map proxy_of run.sessions.items) };
 
     ghost goes_on = { λ before now. steps_go_on
         before.workers.items now.workers.items

@@ -2,8 +2,8 @@
 ghost use Rattle.std.specs.Prelude.{◌≡◌, ◌≢◌, ◌<◌, ◌≤◌, ℕ, All, IfOk, IsTrue, List, length, OnOk};
 ghost use Rattle.mail_contract.specs.Parts.{Parts};
 ghost use Rattle.parties.specs.Progress.{HasMovedOn, CameAlong};
-ghost use Rattle.parties.specs.Sweeping.{AllToAsks, FreeBoth, HasEnded, HasServedEach, IfServedBeside};
-ghost use Rattle.party_turns.specs.Places.{BothAt, OthersSame};
+ghost use Rattle.parties.specs.Sweeping.{AllAwait, AllToAsks, FreeBoth, HasBegun, HasEnded, HasServedEach, IfServedBeside, WaitsForEarlier, WaitsForOther};
+ghost use Rattle.party_turns.specs.Places.{AtPlace, BothAt, OthersSame};
 ghost use Rattle.run_measure.specs.Steps.{HaveAllGoneOn};
 ghost use Rattle.run_waiting.specs.Told.{AreAllTold};
 ghost use Rattle.run_waiting.specs.Waiting.{AreSigned};
@@ -94,10 +94,17 @@ pub trait Run {
         ensures served { OnOk result
             (HasServedEach place (worker_lists self.new) (session_lists self.new)) };
 
-    /// Polls the session at a place, at most so many times: until it answers NotYet, Rest or Ended, or drops a reply.
+    /// Whether the session at a place has begun. Takes no memory.
+    fn has_begun(&self, place: usize) -> bool
+        requires { place < length (session_lists self.now) }
+        ensures { AtPlace (session_lists self.now) place
+            (λ its. result ≡ sessions.has_begun its.course) };
+
+    /// Polls the session at a place, which has begun, at most so many times: until it answers NotYet, Rest or Ended, or drops a reply.
     /// Tells what came of it. Where all workers have served it and are beside it still, it moves or has ended.
     fn poll_session(&mut self, place: usize, most: u32) -> Result<Polled, NoMemory>
-        requires { place < length (session_lists self.old) }
+        requires within { place < length (session_lists self.old) }
+        requires begun { HasBegun (session_lists self.old) place }
         ensures workers { worker_lists self.new ≡ worker_lists self.old }
         ensures others { OthersSame place (session_lists self.old) (session_lists self.new) }
         ensures beside { (worker other : ℕ) → other ≢ place
@@ -111,6 +118,20 @@ pub trait Run {
             → IfServedBeside keeps_requests keeps_replies (λ worker. are_beside worker place self.old)
             place (worker_lists self.old) (session_lists self.old) (CameAlong result) };
 
+    /// The session at a place begins where it waits for another that has ended: it knows then what that one handed
+    /// over. Else nothing is done.
+    fn begin_session(&mut self, place: usize) -> Result<(), NoMemory>
+        requires { place < length (session_lists self.old) }
+        ensures workers { worker_lists self.new ≡ worker_lists self.old }
+        ensures others { OnOk result
+            (OthersSame place (session_lists self.old) (session_lists self.new)) }
+        ensures steps { OnOk result (step_on self.old self.new) }
+        ensures begun { HasBegun (session_lists self.old) place
+            → OnOk result (session_lists self.new ≡ session_lists self.old) }
+        ensures waits { OnOk result (WaitsForOther (session_lists self.new) place) }
+        ensures await_theirs { AllAwait (session_lists self.old)
+            → OnOk result (AllAwait (session_lists self.new)) };
+
     // Steps may be none, or some and then others.
     ghost no_steps: { (run : Self) → step_on run run };
 
@@ -120,6 +141,9 @@ pub trait Run {
     ghost as_many: { (before now : Self) → step_on before now
         → (length (worker_lists now) ≡ length (worker_lists before))
         × (length (session_lists now) ≡ length (session_lists before)) };
+
+    // In a run each session that waits does so for an earlier one.
+    ghost in_order: { (run : Self) → is_running run → (at : ℕ) → WaitsForEarlier (session_lists run) at };
 
     // A run of which no worker keeps a message is one after steps, too, and all parties have gone on.
     ghost goes_on: { (before now : Self) → step_on before now → is_running before → none_kept before

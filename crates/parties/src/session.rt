@@ -1,25 +1,30 @@
 //! A session of any level.
-ghost use Rattle.std.specs.Prelude.{◌≡◌, ◌≤◌, ◌<◌, ◌^◌, All, IfOk, [], false, length};
+ghost use Rattle.std.specs.Prelude.{◌≡◌, ◌≤◌, ◌<◌, ◌^◌, All, IfOk, IfSome, IsNone, IsTrue, [], false, length};
 ghost use Rattle.mail_contract.specs.OverBoxes as boxes;
 ghost use Rattle.mail_contract.specs.Standing.{AllPart};
 ghost use Rattle.session_known.specs.Script.{AreEnded};
+ghost use Rattle.session_known.specs.Session.{handed};
+ghost use Rattle.session_known.specs.declared.script.Level.TheVariants.{Causal};
 ghost use Rattle.session_proxy.specs.Lines.{AreReplicas, MayRun};
 ghost use Rattle.session_proxy.specs.OverProxies as over;
 ghost use Rattle.session_proxy.specs.Polls.{EndsWhereAnswered};
-ghost use Rattle.session_proxy.specs.State.{IsFixed, opening};
-ghost use Rattle.parties.specs.Session.{proxy_of};
+ghost use Rattle.session_proxy.specs.State.{IsFixed, Knew, WaitsFor, first_origin, has_begun, opening};
+ghost use Rattle.parties.specs.Polling.{IsAllAnswered, KnowsAtEnd};
+ghost use Rattle.parties.specs.Session.{Waits, proxy_of};
 
+use crate::waiting::WaitingOver;
 use lattice_laws::{Items, NoMemory};
 use mail_contract::{Rx, Tx};
 use placement::Placement;
 use session_causal::CausalLevel;
-use session_known::{Answer, Level, Line};
+use session_known::{Answer, Known, Level, Line};
 use session_plain::{CommittedLevel, EventualLevel};
-use session_proxy::{Progress, ProxyOver};
+use session_proxy::{Consistency, Progress, ProxyOver};
 use std::collections::LinkedList;
-use store_msg::{Mail, Meets, Reply, Request, SessionEndsOver};
+use store_msg::{Mail, Meets, Reply, Request, SessionEndsOver, meet_ends};
 
-/// A session of any of the three levels, over the ends that it holds. Contracts see the proxy of its level.
+/// A session of any of the three levels, or one that waits for the end of another, over the ends that it holds.
+/// Contracts see the proxy of its level.
 #[derive(Drop)]
 pub enum SessionOver<T: Tx<Request>, R: Rx<Reply>> {
     /// Its puts go out at once, and a get shows what one replica has.
@@ -28,23 +33,42 @@ pub enum SessionOver<T: Tx<Request>, R: Rx<Reply>> {
     Committed(ProxyOver<CommittedLevel, T, R>),
     /// A reply covers all that it knows of the key, and each put depends on all that it knew.
     Causal(ProxyOver<CausalLevel, T, R>),
+    /// It begins once another has ended, and is causal then.
+    Waiting(WaitingOver<T, R>),
 }
 
-/// A session of any of the three levels over one kind of mail.
+/// What a session that has begun knows, where every line of it is answered.
+fn known_where_ended<C: Consistency, T: Tx<Request>, R: Rx<Reply>>(
+    proxy: &ProxyOver<C, T, R>,
+) -> Option<&Known>
+    ensures known { IfSome result (λ known. KnowsAtEnd proxy.now known.now.knows) }
+    ensures none { IsNone result → IsAllAnswered proxy.now → ⊥ }
+{
+    proxy.attest();
+    if !proxy.has_ended() {
+        return None;
+    }
+    Some(proxy.known())
+}
+
+/// A session over one kind of mail.
 pub type Session<P> = SessionOver<<P as Mail>::ReqTx, <P as Mail>::RepRx>;
 
 impl<T: Tx<Request>, R: Rx<Reply>> SessionOver<T, R> {
-    /// The session of this number, from 1, and of this level, before its first line. Its lines, at most 4,096,
-    /// are such as its level has, on keys of the placement, and each of its transactions is ended. The ends
-    /// are unused, with a sender of requests for each worker of the placement, in ascending order.
+    /// The session of this number, from 1, and of this level, before its first line. Where it comes after another, by
+    /// the number of that one, it is causal, and waits for it. Its lines, at most 4,096, are such as its level has, on
+    /// keys of the placement, and each of its transactions is ended. The ends are unused, with a sender of requests for
+    /// each worker of the placement, in ascending order.
     pub fn new(
         me: u16,
         level: Level,
+        after: Option<u16>,
         lines: Items<Line>,
         placement: Placement,
         ends: SessionEndsOver<T, R>,
     ) -> Result<SessionOver<T, R>, NoMemory>
         requires me { 1 ≤ me }
+        requires causal { IfSome after (λ _. level ≡ Causal) }
         requires few_lines { length lines ≤ 4096 }
         requires lines { All (MayRun placement level) lines }
         requires transactions { AreEnded false lines }
@@ -53,11 +77,17 @@ impl<T: Tx<Request>, R: Rx<Reply>> SessionOver<T, R> {
         requires sent { All (λ sender. T.sent sender ≡ []) ends.requests.items }
         requires received { R.received ends.replies ≡ [] }
         ensures proxy { IfOk result (λ session. proxy_of session ≡ record {
-          course = opening (record { session = me; level = level }) placement lines;
+          course = opening (record { session = me; level = level }) placement lines
+              (first_origin after);
           ends = ends;
         }) }
         ensures share { IfOk result (λ session. over.Share T.Tx R.Rx (proxy_of session)) }
     {
+        if let Some(after) = after {
+            let waiting = WaitingOver::new(me, after, lines, placement, ends);
+            waiting.attest();
+            return Ok(SessionOver::Waiting(waiting));
+        }
         match level {
             Level::Eventual => {
                 Ok(SessionOver::Eventual(ProxyOver::new(me, lines, placement, ends)?))
@@ -79,6 +109,7 @@ impl<T: Tx<Request>, R: Rx<Reply>> SessionOver<T, R> {
     /// `NoMemory` the answers and what was sent are as before, and a reply that was taken is kept: a later
     /// call works on it.
     pub fn poll(&mut self) -> Result<Progress, NoMemory>
+        requires { IsTrue (has_begun (proxy_of self.old).course) }
         ensures share { over.Share T.Tx R.Rx (proxy_of self.new) }
         ensures fixed { IsFixed (proxy_of self.old).course (proxy_of self.new).course }
         ensures keys { over.KeysStay T.Tx R.Rx (proxy_of self.old) (proxy_of self.new) }
@@ -91,6 +122,63 @@ impl<T: Tx<Request>, R: Rx<Reply>> SessionOver<T, R> {
             SessionOver::Eventual(proxy) => proxy.poll(),
             SessionOver::Committed(proxy) => proxy.poll(),
             SessionOver::Causal(proxy) => proxy.poll(),
+            SessionOver::Waiting(_) => unreachable!(),
+        }
+    }
+
+    /// Whether it has begun. Takes no memory.
+    pub fn has_begun(&self) -> bool
+        ensures { result ≡ has_begun (proxy_of self.now).course }
+    {
+        match self {
+            SessionOver::Eventual(proxy) => proxy.attest(),
+            SessionOver::Committed(proxy) => proxy.attest(),
+            SessionOver::Causal(proxy) => proxy.attest(),
+            SessionOver::Waiting(_) => return false,
+        }
+        true
+    }
+
+    /// The number of the session that it waits for, where it has not begun. Takes no memory.
+    pub fn waits_for(&self) -> Option<u16>
+        ensures waits { IfSome result (λ after. Waits self.now
+            × ((proxy_of self.now).course.origin ≡ WaitsFor after)) }
+        ensures begun { IsNone result → IsTrue (has_begun (proxy_of self.now).course) }
+    {
+        match self {
+            SessionOver::Eventual(proxy) => proxy.attest(),
+            SessionOver::Committed(proxy) => proxy.attest(),
+            SessionOver::Causal(proxy) => proxy.attest(),
+            SessionOver::Waiting(waiting) => return Some(waiting.after()),
+        }
+        None
+    }
+
+    /// What the session knows, where it has begun and every line is answered. Takes no memory.
+    pub fn known_at_end(&self) -> Option<&Known>
+        ensures known { IfSome result (λ known. KnowsAtEnd (proxy_of self.now) known.now.knows) }
+        ensures none { IsNone result → IsAllAnswered (proxy_of self.now) → ⊥ }
+    {
+        match self {
+            SessionOver::Eventual(proxy) => known_where_ended(proxy),
+            SessionOver::Committed(proxy) => known_where_ended(proxy),
+            SessionOver::Causal(proxy) => known_where_ended(proxy),
+            SessionOver::Waiting(_) => None,
+        }
+    }
+
+    /// It begins, where the session that it waits for knew this at its end.
+    pub fn begin(self, end: &Known) -> Result<SessionOver<T, R>, NoMemory>
+        requires { Waits self }
+        ensures proxy { IfOk result (λ session. proxy_of session ≡ record {
+          course = record (proxy_of self).course { origin = Knew (handed end.now.knows) };
+          ends = (proxy_of self).ends;
+        }) }
+        ensures share { IfOk result (λ session. over.Share T.Tx R.Rx (proxy_of session)) }
+    {
+        match self {
+            SessionOver::Waiting(waiting) => Ok(SessionOver::Causal(waiting.begin(end)?)),
+            _ => unreachable!(),
         }
     }
 
@@ -102,6 +190,7 @@ impl<T: Tx<Request>, R: Rx<Reply>> SessionOver<T, R> {
             SessionOver::Eventual(proxy) => proxy.answers(),
             SessionOver::Committed(proxy) => proxy.answers(),
             SessionOver::Causal(proxy) => proxy.answers(),
+            SessionOver::Waiting(_) => &[],
         }
     }
 
@@ -113,6 +202,7 @@ impl<T: Tx<Request>, R: Rx<Reply>> SessionOver<T, R> {
             SessionOver::Eventual(proxy) => proxy.waits(),
             SessionOver::Committed(proxy) => proxy.waits(),
             SessionOver::Causal(proxy) => proxy.waits(),
+            SessionOver::Waiting(_) => false,
         }
     }
 
@@ -134,12 +224,16 @@ impl<T: Tx<Request>, R: Rx<Reply>> SessionOver<T, R> {
             SessionOver::Eventual(proxy) => proxy.apart(),
             SessionOver::Committed(proxy) => proxy.apart(),
             SessionOver::Causal(proxy) => proxy.apart(),
+            SessionOver::Waiting(waiting) => {
+                waiting.ends.replies.apart();
+                waiting.attest();
+            }
         }
     }
 
     /// The answers and the ends; every line is answered. Takes no memory.
     pub fn finish(self) -> (Items<Answer>, SessionEndsOver<T, R>)
-        requires { length (proxy_of self).course.answers ≡ length (proxy_of self).course.lines }
+        requires { IsAllAnswered (proxy_of self) }
         ensures share { over.Share T.Tx R.Rx (proxy_of self) }
         ensures answers { result.0 ≡ (proxy_of self).course.answers }
         ensures ends { result.1 ≡ (proxy_of self).ends }
@@ -148,6 +242,7 @@ impl<T: Tx<Request>, R: Rx<Reply>> SessionOver<T, R> {
             SessionOver::Eventual(proxy) => proxy.finish(),
             SessionOver::Committed(proxy) => proxy.finish(),
             SessionOver::Causal(proxy) => proxy.finish(),
+            SessionOver::Waiting(_) => unreachable!(),
         }
     }
 }
@@ -208,6 +303,9 @@ impl<T: Tx<Request>, R: Rx<Reply>, Q: Rx<Request, From = T>> Meets<Q, R::From>
             SessionOver::Eventual(proxy) => proxy.meet(worker, requests, replies),
             SessionOver::Committed(proxy) => proxy.meet(worker, requests, replies),
             SessionOver::Causal(proxy) => proxy.meet(worker, requests, replies),
+            SessionOver::Waiting(waiting) => {
+                meet_ends(&mut waiting.ends, worker, requests, replies)
+            }
         }
     }
 }

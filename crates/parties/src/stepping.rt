@@ -6,6 +6,7 @@ ghost use Rattle.parties.specs.Progress.{MovesOn, WaitsUnmoved};
 ghost use Rattle.parties.specs.Session.{proxy_of};
 ghost use Rattle.parties.specs.Turning.{HasTurned};
 ghost use Rattle.party_turns.specs.OverWorkers as turned;
+ghost use Rattle.session_proxy.specs.State.{has_begun};
 
 use crate::{Pace, SessionOver};
 use lattice_laws::NoMemory;
@@ -49,7 +50,7 @@ pub struct Polled {
     pub rested: bool,
 }
 
-/// Polls a session at a pace, at most so many times: until it answers Rest or Ended, or NotYet and is not to try
+/// Polls a session that has begun at a pace, at most so many times: until it answers Rest or Ended, or NotYet and is not to try
 /// again, or a reply was dropped.
 ///
 /// A reply is dropped that is not the awaited one. None comes so, since each answers an ask that was sent; but as
@@ -60,6 +61,7 @@ pub fn poll_often<S: Tx<Request>, R: Rx<Reply>, A: Pace>(
     session: &mut SessionOver<S, R>,
     most: u32,
 ) -> Result<Polled, NoMemory>
+    requires { IsTrue (has_begun (proxy_of session.old).course) }
     ensures counted { RoseAtMost most (A.steps pace.old) (A.steps pace.new) }
     ensures polled { HasPolled S.Tx R.Rx (proxy_of session.old) (proxy_of session.new) }
     ensures ended { IfOk result (λ polled. IsTrue polled.ended

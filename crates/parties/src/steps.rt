@@ -6,6 +6,7 @@ ghost use Rattle.parties.specs.Session.{proxy_of};
 ghost use Rattle.parties.specs.Turning.{HasRested};
 ghost use Rattle.party_turns.specs.OverWorkers as turned;
 ghost use Rattle.party_turns.specs.Places.{AtPlace, BothAt, OthersSame};
+ghost use Rattle.session_proxy.specs.State.{has_begun};
 
 use crate::parties::{Parties, Words};
 use crate::{Polled, Run, UntilNothing, poll_often};
@@ -32,14 +33,16 @@ pub(crate) fn turn_worker<P: Mail>(parties: &mut Parties<P>, place: usize) -> Re
     Ok(())
 }
 
-/// Polls the session at a place until it answers NotYet, Rest or Ended, or drops a reply, at most so many times.
+/// Polls the session at a place, which has begun, until it answers NotYet, Rest or Ended, or drops a reply, at most so many times.
 /// Tells whether it has ended, whether it did anything, and where not, what its ends told.
 pub(crate) fn poll_session<P: Mail>(
     parties: &mut Parties<P>,
     place: usize,
     most: u32,
 ) -> Result<Polled, NoMemory>
-    requires { place < length parties.old.sessions.items }
+    requires within { place < length parties.old.sessions.items }
+    requires begun { AtPlace (map proxy_of parties.old.sessions.items) place
+        (λ proxy. IsTrue (has_begun proxy.course)) }
     ensures workers { parties.new.workers ≡ parties.old.workers }
     ensures others { OthersSame place
         (map proxy_of parties.old.sessions.items) (map proxy_of parties.new.sessions.items) }

@@ -1,16 +1,18 @@
 -- The parties that are made over all ends are those of a run.
-use Rattle.std.specs.Prelude.{◌≡◌, ℕ, ◌+◌, true, false, List, [], ◌∷◌, ◌++◌, All, length, map, slice_get, Some, None, Result, Ok, Err, IfOk}
-use Rattle.std.proofs.Common.{◌∙◌, sym, ap, subst, inl, inr, arith, length-append}
+use Rattle.std.specs.Prelude.{◌≡◌, ℕ, ◌+◌, true, false, List, [], ◌∷◌, ◌++◌, All, length, map, take, slice_get, MatchOption, Option, Some, None, Result, Ok, Err, IfOk, IfSome, ⊤}
+use Rattle.std.proofs.Common.{◌∙◌, refl, sym, ap, subst, inl, inr, arith, length-append}
 use Rattle.std.proofs.lemmas.List.{length-map, map-id}
 use Rattle.std.proofs.lemmas.List.Elements.{All-nil}
 use Rattle.std.proofs.lemmas.Option.{same_Some, slice_get_within}
 use Rattle.placement.specs.Config.{IsOneOf}
-use Rattle.session_known.specs.Script.{IsValidScript}
+use Rattle.session_known.specs.Script.{IsValidScript, MayComeAfter}
+use Rattle.session_known.specs.declared.script.Level.{Level}
+use Rattle.session_known.specs.declared.script.Level.TheVariants.{Causal}
 use Rattle.session_known.specs.declared.script.Line.{Line}
 use Rattle.session_known.specs.declared.script.Script.{Script}
 use Rattle.session_known.specs.declared.script.SessionPlan.{SessionPlan}
 use Rattle.session_proxy.specs.Share.{Share}
-use Rattle.session_proxy.specs.State.{PlainProxy, lists_of, opening}
+use Rattle.session_proxy.specs.State.{Course, PlainProxy, first_origin, lists_of, opening}
 use Rattle.store_msg.specs.Reply.{PlainReply}
 use Rattle.store_msg.specs.declared.ends.SessionEndsOver.{SessionEndsOver}
 use Rattle.store_msg.specs.declared.ends.WorkerEndsOver.{WorkerEndsOver}
@@ -19,7 +21,7 @@ use Rattle.worker_core.specs.State.{PlainWorker}
 use Rattle.party_turns.proofs.ItemsLemmas.{all_there, at_its_place, made_of_made, mapped, there_is, there_too, same_made}
 use Rattle.party_turns.specs.Making.{AreOfOneMaking, IsBoxOf, IsWeakBoxOf}
 use Rattle.party_turns.specs.Mates.{IsMate}
-use Rattle.party_turns.specs.Running.{AreRunning, HaveEnds}
+use Rattle.party_turns.specs.Running.{AreRunning, BeginsAs, HaveEnds, courses_of}
 use Rattle.party_ends.specs.AllEnds.{AreAllEnds}
 use Rattle.party_ends.specs.Parties.{AreMadeOf, AreUnusedOfSession, AreUnusedOfWorker, IsNewSession, IsNewWorker}
 use Rattle.party_ends.proofs.AllEndsLemmas.{making_over}
@@ -47,15 +49,28 @@ one_more {IsMadeOf = IsMadeOf} items made item its so_far is = record {
 -- A session that was made with the plan at its place is new.
 pub session_is_new : {S R X E : Type 0} (asked : S → List Request) (heard : R → List (ℕ × PlainReply)) (proxy_of : X → PlainProxy S R) (script : Script) (table : List (List ℕ)) (place : ℕ)
     (ends : SessionEndsOver S R) (plan : SessionPlan) (lines : List Line) (copy : List (List ℕ)) (result : Result X E) → slice_get script.sessions place ≡ Some plan → lines ≡ plan.lines → copy ≡ table
-    → IfOk result (λ session. proxy_of session ≡ record { course = opening (record { session = place + 1; level = plan.level }) copy lines; ends = ends })
+    → IfOk result (λ session. proxy_of session ≡ record { course = opening (record { session = place + 1; level = plan.level }) copy lines (first_origin plan.after); ends = ends })
     → IfOk result (λ session. Share (lists_of asked heard (proxy_of session))) → IfOk result (λ session. IsNewSession asked heard script table place ends (proxy_of session))
 session_is_new asked heard proxy_of script table place ends plan lines copy (Ok session) there lines_are copied is share = record {
   proxy_is = λ other also.
       let same = same_Some plan other (sym there ∙ also) in
-      is ∙ (λ j. record { course = opening (record { session = place + 1; level = (same j).level }) (copied j) ((lines_are ∙ ap (λ (one : SessionPlan). one.lines) same) j); ends = ends });
+      is ∙ (λ j. record { course = opening (record { session = place + 1; level = (same j).level }) (copied j) ((lines_are ∙ ap (λ (one : SessionPlan). one.lines) same) j) (first_origin (same j).after); ends = ends });
   share = share;
 }
 session_is_new asked heard proxy_of script table place ends plan lines copy (Err error) there lines_are copied is share = tt
+
+-- a session that comes after another is causal
+causal_after : (version : ℕ) (earlier : List SessionPlan) (level : Level) (after : Option ℕ) → MatchOption after ⊤ (MayComeAfter version earlier level) → IfSome after (λ _. level ≡ Causal)
+causal_after version earlier level None may = tt
+causal_after version earlier level (Some after) may = may.causal
+
+pub plan_is_causal : (script : Script) (table : List (List ℕ)) → IsValidScript script table → (place : ℕ) (plan : SessionPlan) → slice_get script.sessions place ≡ Some plan → IfSome plan.after (λ _. plan.level ≡ Causal)
+plan_is_causal script table valid place plan there = causal_after script.version (take place script.sessions) plan.level plan.after (valid.orders place plan there)
+
+-- before the first line each begins, or waits, as its plan says
+begins_first : (courses : List Course) (after : Option ℕ) → BeginsAs courses after (first_origin after)
+begins_first courses None = refl
+begins_first courses (Some after) = refl
 
 -- What is made of items at their places has those as a part of each, where it has so at each place.
 parts_are : {X Y : Type 0} (part : Y → X) (items : List X) (made : List Y) → length made ≡ length items
@@ -187,6 +202,10 @@ module _ {S T O Q G R SK TK OK QK GK RK : Type 0}
               subst (All (λ message. IsOneOf script.config.workers message.0)) (sym (ap (λ (one : PlainProxy S R). mail.reply_rx.received one.ends.replies) is ∙ unused.none_heard))
               (All-nil (λ (message : ℕ × PlainReply). IsOneOf script.config.workers message.0));
         };
+    begins = λ place plan proxy plan_there there.
+        let its = there_too session_ends sessions place proxy sessions_new.long there in
+        subst (BeginsAs (courses_of sessions) plan.after) (sym (ap (λ (one : PlainProxy S R). one.course.origin) ((sessions_new.each place its.0 proxy its.1 there).proxy_is plan plan_there)))
+        (begins_first (courses_of sessions) plan.after);
     ends = have_ends ends workers sessions
         (parts_are (λ (one : PlainWorker Q T O G). one.ends) worker_ends workers workers_new.long (λ place item its there here. ap (λ (one : PlainWorker Q T O G). one.ends) (workers_new.each place item its there here)))
         (parts_are (λ (one : PlainProxy S R). one.ends) session_ends sessions sessions_new.long (λ place item its there here.

@@ -7,7 +7,7 @@ use Rattle.session_known.specs.Accepted.{client_of}
 use Rattle.session_known.specs.declared.script.Script.{Script}
 use Rattle.session_known.specs.declared.script.SessionPlan.{SessionPlan}
 use Rattle.session_proxy.specs.Share.{Share}
-use Rattle.session_proxy.specs.State.{PlainProxy, lists_of, opening}
+use Rattle.session_proxy.specs.State.{PlainProxy, first_origin, lists_of, opening}
 use Rattle.store_msg.specs.Reply.{PlainReply}
 use Rattle.store_msg.specs.declared.ends.SessionEndsOver.{SessionEndsOver}
 use Rattle.store_msg.specs.declared.ends.WorkerEndsOver.{WorkerEndsOver}
@@ -47,5 +47,5 @@ IsNewWorker script table place ends worker =
 -- The session of a script at a place, from 0, over its ends, before its first line.
 pub record IsNewSession {S R : Type 0} (asked : S → List Request) (heard : R → List (ℕ × PlainReply)) (script : Script) (table : List (List ℕ)) (place : ℕ)
     (ends : SessionEndsOver S R) (proxy : PlainProxy S R) : Type 0 where
-  pub proxy_is : (plan : SessionPlan) → slice_get script.sessions place ≡ Some plan → proxy ≡ record { course = opening (client_of (place + 1) plan) table plan.lines; ends = ends }
+  pub proxy_is : (plan : SessionPlan) → slice_get script.sessions place ≡ Some plan → proxy ≡ record { course = opening (client_of (place + 1) plan) table plan.lines (first_origin plan.after); ends = ends }
   pub share : Share (lists_of asked heard proxy)

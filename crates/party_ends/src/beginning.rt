@@ -88,7 +88,8 @@ fn new_session<S: Tx<Request>, R: Rx<Reply>>(
 {
     let plan = &script.sessions.as_slice()[place];
     let lines = copy_lines(alloc, plan.lines.as_slice())?;
-    SessionOver::new(place as u16 + 1, plan.level, lines, placement.copy()?, ends)
+    let copy = placement.copy()?;
+    SessionOver::new(place as u16 + 1, plan.level, plan.after, lines, copy, ends)
 }
 
 /// The sessions of a script, each over the ends at its place.

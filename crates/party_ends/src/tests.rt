@@ -1,5 +1,5 @@
 //! All ends, and all parties, over plain mail; and mail for threads.
-ghost use Rattle.std.specs.Prelude.{◌≡◌, All, length, IfOk};
+ghost use Rattle.std.specs.Prelude.{◌≡◌, All, None, length, IfOk};
 ghost use Rattle.placement.specs.Config.{IsValidConfig, placed};
 ghost use Rattle.placement.specs.Name.{IsName};
 ghost use Rattle.session_known.specs.Script.{IsValidScript};
@@ -184,11 +184,13 @@ fn plan(name: &[u8], level: Level, lines: Vec<Line>) -> Result<SessionPlan, Fail
     ensures name { IfOk result (λ plan. plan.name ≡ name.now) }
     ensures named { IfOk result (λ plan. IsName plan.name) }
     ensures level { IfOk result (λ plan. plan.level ≡ level) }
+    ensures after { IfOk result (λ plan. plan.after ≡ None) }
     ensures lines { IfOk result (λ plan. plan.lines ≡ lines.items) }
 {
     Ok(SessionPlan {
         name: Name::of(name)?,
         level,
+        after: None,
         lines: Items::new(lines),
     })
 }

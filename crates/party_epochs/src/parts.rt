@@ -43,7 +43,7 @@ impl<Q: Rx<Request>, T: Tx<Reply>, O: Tx<Batch>, G: GossipRx<Batch, From = O>> P
     }
 }
 
-/// A session, as it takes its part in an epoch.
+/// A session, as it takes its part in an epoch. One that waits for the end of another takes no turn.
 #[derive(Drop)]
 pub struct PolledOver<S: Tx<Request>, R: Rx<Reply>> {
     pub session: SessionOver<S, R>,
@@ -76,6 +76,15 @@ impl<S: Tx<Request>, R: Rx<Reply>> Piece for PolledOver<S, R> {
         × RoseAtMost 128 before.turns now.turns };
 
     fn part<E: Gate>(&mut self, gate: &E, activity: &Activity) -> Result<(), NoMemory> {
+        if !self.session.has_begun() {
+            activity.leave();
+            self.polled = Polled {
+                ended: false,
+                moved: false,
+                rested: false,
+            };
+            return Ok(());
+        }
         let mut pace = EpochPace::new(gate, activity, self.party, self.turns);
         let polled = poll_often(&mut pace, &mut self.session, MOST_TURNS);
         self.turns = pace.leave();

@@ -1,3 +1,4 @@
+pub mod BegunLemmas
 pub use Rattle.party_ends.proofs.FreshLemmas
 pub mod FinishedLemmas
 pub mod NumberedLemmas

@@ -1,17 +1,19 @@
 -- What a round tells of the sessions, by what its epoch and its sweep tell.
 use Rattle.std.specs.Prelude.{◌≡◌, ◌⊎◌, ℕ, zero, suc, ◌+◌, ◌≤◌, false, IsTrue, List, [], ◌∷◌, All, length, map, slice_get, sum_by, Some, ⊤, Result, Ok, Err, IfOk, OnOk}
-use Rattle.std.proofs.Common.{◌∙◌, ap, arith, inl, inr, refl, sym}
+use Rattle.std.proofs.Common.{◌∙◌, ap, arith, inl, inr, refl, subst, sym}
+use Rattle.std.proofs.lemmas.Option.{same_Some}
 use Rattle.std.proofs.lemmas.Bool.{both_ways, cases_Bool}
-use Rattle.session_proxy.specs.State.{Lists, PlainProxy}
+use Rattle.session_proxy.specs.State.{Lists, PlainProxy, has_begun}
 use Rattle.party_turns.proofs.ItemsLemmas.{all_there, at_its_place, of_mapped, there_too}
 use Rattle.party_turns.specs.Ends.{Ends, session_lists}
-use Rattle.run_measure.proofs.DoneLemmas.{done_rises}
+use Rattle.run_measure.proofs.DoneLemmas.{begun_still, done_rises}
 use Rattle.run_measure.specs.Steps.{HasDone, done}
 use Rattle.parties.specs.Waiting.{AreSigned, AreToAsks, AwaitsMissing}
 use Rattle.party_turns.proofs.TogetherLemmas.{done_more, done_no_less}
 use Rattle.parties.specs.Progress.{HasMovedOn}
 use Rattle.parties.specs.declared.stepping.Polled.{Polled}
-use Rattle.parties.specs.Sweeping.{AllAwait, AllToAsks, EachMoves, rested_at, rested_of}
+use Rattle.parties.specs.Sweeping.{AllAwait, AllToAsks, EachMoves, HasBegun, rested_at, rested_of}
+use Rattle.party_run.specs.Ready.{IsPolled}
 
 -- What holds of a value holds of it still, where it also says which steps were taken.
 pub by_steps : {X E : Type 0} (result : Result X E) (Steps : Type 0) (P P_still : X → Type 0) → OnOk result Steps → IfOk result P → (Steps → (x : X) → P x → P_still x) → IfOk result P_still
@@ -66,10 +68,10 @@ module _ (came : List Polled) (before then : List Lists) (of_each : length befor
       let moved = each at its was.0 is.0 there was.1 is.1 in
       done_more before then long goes at was.0 is.0 was.1 is.1 (moved.moved (moved.rested rested))
 
-  -- and where those move or are answered after it of which no ask came to nothing in it, each has moved or is answered since before it
+  -- and where those move or end after it that are polled then, each that had begun before it has moved since, or has ended
   pub all_move : (now : List Lists) → ((at : ℕ) (was is : Lists) → slice_get then at ≡ Some was → slice_get now at ≡ Some is → HasDone was is)
-      → EachMoves (λ at. rested_at came at ≡ false) then now → EachMoves (λ at. ⊤) before now
-  all_move now go_on moves at was is of there here =
+      → EachMoves (IsPolled came then) then now → EachMoves (HasBegun before) before now
+  all_move now go_on moves at was is begun there here =
       let between = there_too then before at was (sym long) there in
       let its = there_too came before at was of_each there in
       let moved = each at its.0 was between.0 its.1 there between.1 in
@@ -77,9 +79,9 @@ module _ (came : List Polled) (before then : List Lists) (of_each : length befor
       let rest = done_rises between.0 is (go_on at between.0 is between.1 here) in
       elim (cases_Bool its.0.rested) [
         | inl rested ↦ let more = moved.moved (moved.rested rested) in inl (omega (arith, more, rest))
-        | inr not_rested ↦ elim (moves at between.0 is (ap rested_of its.1 ∙ not_rested) between.1 here) [
+        | inr not_rested ↦ elim (moves at between.0 is (ap rested_of its.1 ∙ not_rested, λ it is_there. subst (λ (it : Lists). IsTrue (has_begun it.course)) (same_Some between.0 it (sym between.1 ∙ is_there)) (begun_still was between.0 moved.goes_on (begun was there))) between.1 here) [
           | inl more ↦ inl (omega (arith, first, more))
-          | inr answered ↦ inr answered
+          | inr ended ↦ inr ended
         ]
       ]
 

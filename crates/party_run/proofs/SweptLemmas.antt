@@ -13,32 +13,32 @@ use Rattle.parties.specs.Progress.{HasMovedOn}
 use Rattle.parties.specs.Sweeping.{AllAwait, AllServed, AllToAsks, AreServed, HasEnded, MovesOrEnds, rested_at}
 use Rattle.parties.specs.declared.stepping.Polled.{Polled}
 use Rattle.parties.specs.declared.run.Run.{Ghosts}
-use Rattle.party_run.specs.Ready.{HasSwept, IsServed}
+use Rattle.party_run.specs.Ready.{HasPolledAll, IsPassed, IsPolled, IsServed, SomeWaits}
 
--- The sessions up to a place were polled of which no ask came to nothing, by whether all of these have ended.
+-- The sessions up to a place were polled that had begun and of which no ask came to nothing, by whether all up to it have ended.
 pub record SweptTo (came : List Polled) (place : ℕ) (all_ended : Bool) (before now : List Lists) : Type 0 where
   pub await_theirs : (at : ℕ) (its : Lists) → at < place → slice_get now at ≡ Some its → AwaitsMissing its
-  pub moved : (at : ℕ) (was is : Lists) → at < place → rested_at came at ≡ false → slice_get before at ≡ Some was → slice_get now at ≡ Some is → MovesOrEnds was is
-  pub done_more : all_ended ≡ false → ((at : ℕ) → rested_at came at ≡ false) → sum_by done before + 1 ≤ sum_by done now
+  pub moved : (at : ℕ) (was is : Lists) → at < place → IsPolled came before at → slice_get before at ≡ Some was → slice_get now at ≡ Some is → MovesOrEnds was is
+  pub done_more : all_ended ≡ false → ((at : ℕ) → rested_at came at ≡ false) → (sum_by done before + 1 ≤ sum_by done now) ⊎ SomeWaits before
 
 -- at first none,
 pub none_swept : (came : List Polled) (before : List Lists) → SweptTo came 0 true before before
 none_swept came before = record {
   await_theirs = λ at its below there. absurd (omega (arith, below));
-  moved = λ at was is below awake there also. absurd (omega (arith, below));
+  moved = λ at was is below polled there also. absurd (omega (arith, below));
   done_more = λ not_all none. absurd (false≢true (sym not_all));
 }
 
 -- and in the end all
-pub all_swept : (came : List Polled) (place : ℕ) (all_ended : Bool) (before now : List Lists) → length now ≤ place → SweptTo came place all_ended before now
-    → HasSwept came all_ended before now
-all_swept came place all_ended before now low so_far = record {
+pub all_polled : (came : List Polled) (place : ℕ) (all_ended : Bool) (before now : List Lists) → length now ≤ place → SweptTo came place all_ended before now
+    → HasPolledAll came all_ended before now
+all_polled came place all_ended before now low so_far = record {
   await_theirs = all_there AwaitsMissing now (λ at its there.
       let within = slice_get_within now at its there in
       so_far.await_theirs at its (omega (arith, within, low)) there);
-  moved = λ at was is awake there also.
+  moved = λ at was is polled there also.
       let within = slice_get_within now at is also in
-      so_far.moved at was is (omega (arith, within, low)) awake there also;
+      so_far.moved at was is (omega (arith, within, low)) polled there also;
   done_more = so_far.done_more;
 }
 
@@ -51,19 +51,32 @@ served_still all all_now those those_now at same stays await served its there =
       λ place worker here. served place at worker its (ap (λ those. slice_get those place) (sym same) ∙ here) at_first,
     )
 
--- A session of which an ask came to nothing is left as it is.
-pub one_rested : (came : List Polled) (place : ℕ) (all_ended : Bool) (before now : List Lists) → AllAwait before → slice_get now place ≡ slice_get before place
-    → IsTrue (rested_at came place) → SweptTo came place all_ended before now → SweptTo came (place + 1) false before now
-one_rested came place all_ended before now await later rests so_far = record {
+-- A session is passed over as it was, where it stays so.
+pub passed_still : (came : List Polled) (before now : List Lists) (place : ℕ) → slice_get now place ≡ slice_get before place → IsPassed came now place → IsPassed came before place
+passed_still came before now place same passed = elim passed [
+  | inl rests ↦ inl rests
+  | inr waits ↦ inr (waits.0, sym same ∙ waits.1, waits.2)
+]
+
+-- One that is passed over is left as it is.
+pub one_left : (came : List Polled) (place : ℕ) (all_ended : Bool) (before now : List Lists) → AllAwait before → slice_get now place ≡ slice_get before place
+    → IsPassed came before place → SweptTo came place all_ended before now → SweptTo came (place + 1) false before now
+one_left came place all_ended before now await later passed so_far = record {
   await_theirs = λ at its below there. elim (cases_eq at place) [
     | inl here ↦ at_its_place AwaitsMissing before at its await (subst (λ n. slice_get before n ≡ Some its) (sym here) (sym later ∙ subst (λ n. slice_get now n ≡ Some its) here there))
     | inr apart ↦ so_far.await_theirs at its (omega (arith, below, apart)) there
   ];
-  moved = λ at was is below awake there also. elim (cases_eq at place) [
-    | inl here ↦ absurd (false≢true (sym awake ∙ ap (rested_at came) here ∙ rests))
-    | inr apart ↦ so_far.moved at was is (omega (arith, below, apart)) awake there also
+  moved = λ at was is below polled there also. elim (cases_eq at place) [
+    | inl here ↦ elim passed [
+      | inl rests ↦ absurd (false≢true (sym polled.0 ∙ ap (rested_at came) here ∙ rests))
+      | inr waits ↦ absurd (false≢true (sym waits.2 ∙ polled.1 waits.0 (subst (λ n. slice_get before n ≡ Some waits.0) (sym here) waits.1)))
+    ]
+    | inr apart ↦ so_far.moved at was is (omega (arith, below, apart)) polled there also
   ];
-  done_more = λ not_all none. absurd (false≢true (sym (none place) ∙ rests));
+  done_more = λ not_all none. elim passed [
+    | inl rests ↦ absurd (false≢true (sym (none place) ∙ rests))
+    | inr waits ↦ inr (record { at = place; its = waits.0; there = waits.1; waits = waits.2 })
+  ];
 }
 
 module _ (came : List Polled) (place : ℕ) (all_ended all_now : Bool) (before mid now : List Lists) (its : Polled) (await : AllAwait before) (to_asks : AllToAsks before)
@@ -85,25 +98,25 @@ module _ (came : List Polled) (place : ℕ) (all_ended all_now : Bool) (before m
           (at_its_place (λ its. AreToAsks its × AreSigned its) before place was.0 to_asks at_first).0
       | inr apart ↦ so_far.await_theirs at is (omega (arith, below, apart)) (sym (others at apart) ∙ there)
     ];
-    moved = λ at was is below awake there also. elim (cases_eq at place) [
+    moved = λ at was is below polled there also. elim (cases_eq at place) [
       | inl here ↦
           let now_there = subst (λ n. slice_get now n ≡ Some is) here also in
           elim (cases_Bool its.ended) [
             | inl over ↦ inr (ended over is now_there)
             | inr on ↦ inl ((moves was is (later ∙ subst (λ n. slice_get before n ≡ Some was) here there) now_there).moved (served on))
           ]
-      | inr apart ↦ so_far.moved at was is (omega (arith, below, apart)) awake there (sym (others at apart) ∙ also)
+      | inr apart ↦ so_far.moved at was is (omega (arith, below, apart)) polled there (sym (others at apart) ∙ also)
     ];
     done_more = λ not_all none. elim (both not_all) [
-      | inl already ↦
-          let more = so_far.done_more already none in
-          let after = done_no_less mid now long goes in
-          omega (arith, more, after)
+      | inl already ↦ elim (so_far.done_more already none) [
+        | inl more ↦ let after = done_no_less mid now long goes in inl (omega (arith, more, after))
+        | inr waits ↦ inr waits
+      ]
       | inr on ↦
           let was = there_is mid place within in
           let is = there_is now place (omega (arith, within, long)) in
           let more = done_more mid now long goes place was.0 is.0 was.1 is.1 ((moves was.0 is.0 was.1 is.1).moved (served on)) in
-          omega (arith, more, first)
+          inl (omega (arith, more, first))
     ];
   }
 
@@ -131,10 +144,10 @@ module _ {R : Type 0} (run : Ghosts R) (came : List Polled) where
     swept = λ served. none_swept came (run.session_lists before);
   }
 
-  -- one of which an ask came to nothing is passed over,
-  pub one_passed : (place : ℕ) (all_ended : Bool) (before now : R) → IsTrue (rested_at came place) → PolledTo run came place all_ended before now
+  -- some are passed over,
+  pub one_passed : (place : ℕ) (all_ended : Bool) (before now : R) → IsPassed came (run.session_lists before) place → PolledTo run came place all_ended before now
       → PolledTo run came (place + 1) false before now
-  one_passed place all_ended before now rests so_far = record {
+  one_passed place all_ended before now passed so_far = record {
     workers = so_far.workers;
     steps = so_far.steps;
     later = λ at low. so_far.later at (omega (arith, low));
@@ -145,7 +158,7 @@ module _ {R : Type 0} (run : Ghosts R) (came : List Polled) where
     ];
     ended = λ all. absurd (false≢true all);
     swept = λ served.
-        one_rested came place all_ended (run.session_lists before) (run.session_lists now) served.ready.await_theirs (so_far.later place (omega arith)) rests (so_far.swept served);
+        one_left came place all_ended (run.session_lists before) (run.session_lists now) served.ready.await_theirs (so_far.later place (omega arith)) passed (so_far.swept served);
   }
 
   -- and another one is polled

@@ -1,8 +1,8 @@
 //! The rounds of a run: an epoch, and a sweep over all parties after it.
-ghost use Rattle.std.specs.Prelude.{◌≡◌, ◌+◌, ◌≤◌, false, sum_by, IfOk, IsTrue, OnOk, ⊤};
+ghost use Rattle.std.specs.Prelude.{◌≡◌, ◌+◌, ◌≤◌, ℕ, false, sum_by, IfOk, IsTrue, OnOk};
 ghost use Rattle.drain_ledger.specs.OverBoxes as boxes;
 ghost use Rattle.drain_ledger.specs.Ready.{FreesPlaces};
-ghost use Rattle.parties.specs.Sweeping.{AllAwait, AllToAsks, AreAnswered, EachMoves, FreeBoth};
+ghost use Rattle.parties.specs.Sweeping.{AllAwait, AllToAsks, AreAnswered, EachMoves, FreeBoth, HasBegun, WaitsForOther};
 ghost use Rattle.party_ends.specs.OverBoxes as made;
 ghost use Rattle.placement.specs.Config.{placed};
 ghost use Rattle.run_measure.specs.Steps.{done};
@@ -54,8 +54,8 @@ where
 
 /// Makes rounds until every line of every session is answered.
 ///
-/// In each round every session moves that has a line not answered: so what is left to do falls in each, and the
-/// rounds end.
+/// In each round every session moves that has begun and has a line not answered, and where all of these have ended
+/// one begins, if any waits: so what is left to do falls in each, and the rounds end.
 pub fn run_rounds<P: Mail, E: Gate + Sync, H: Threads + Sync>(
     rt: &H,
     gate: &E,
@@ -87,7 +87,8 @@ where
 
 /// Makes one round: an epoch, and a sweep after it. Tells whether every session has ended.
 ///
-/// Each session answers a line, sends a request or takes a reply in it, or every line of it is answered.
+/// Each session that has begun answers a line, sends a request or takes a reply in it, or every line of it is answered.
+/// And each that waits after it does so for one that has not ended.
 pub fn round<P: Mail, E: Gate + Sync, H: Threads + Sync>(
     rt: &H,
     gate: &E,
@@ -108,9 +109,11 @@ where
     requires await_theirs { AllAwait (⟦<Parties<P> as Run>⟧.session_lists parties.old) }
     requires to_asks { AllToAsks (⟦<Parties<P> as Run>⟧.session_lists parties.old) }
     ensures steps { OnOk result (⟦<Parties<P> as Run>⟧.step_on parties.old parties.new) }
-    ensures moved { OnOk result (EachMoves (λ at. ⊤)
+    ensures moved { OnOk result (EachMoves (HasBegun (⟦<Parties<P> as Run>⟧.session_lists parties.old))
         (⟦<Parties<P> as Run>⟧.session_lists parties.old)
         (⟦<Parties<P> as Run>⟧.session_lists parties.new)) }
+    ensures waits { OnOk result ((at : ℕ)
+        → WaitsForOther (⟦<Parties<P> as Run>⟧.session_lists parties.new) at) }
     ensures done { IfOk result (λ ended. ended ≡ false
         → sum_by done (⟦<Parties<P> as Run>⟧.session_lists parties.old) + 1
         ≤ sum_by done (⟦<Parties<P> as Run>⟧.session_lists parties.new)) }

@@ -7,7 +7,7 @@ ghost use Rattle.placement.specs.Config.{placed};
 ghost use Rattle.session_known.specs.Script.{IsValidScript};
 
 use crate::finishing::finish_run;
-use crate::sweeping::poll_sessions;
+use crate::sweeping::{begin_sessions, poll_sessions};
 use drain_ledger::{Drained, drain};
 use lattice_laws::NoMemory;
 use parties::{Parties, Run};
@@ -49,7 +49,7 @@ where
     drain(by, script, workers, left)
 }
 
-/// Makes epochs, and polls all sessions after each, until every line of every session is answered. It may wait.
+/// Makes epochs, and polls all sessions that have begun after each, until every line of every session is answered. It may wait.
 fn run_epochs<P: Mail, E: Gate + Sync, H: Threads + Sync, W: Wait>(
     rt: &H,
     by: &Waiting<W>,
@@ -73,6 +73,7 @@ where
         if poll_sessions(&[], parties)? {
             return Ok(());
         }
+        begin_sessions(parties)?;
     }
     unreachable!()
 }

@@ -10,9 +10,9 @@ use Rattle.session_proxy.specs.State as sessions
 use Rattle.store_msg.specs.Reply.{PlainReply}
 use Rattle.store_msg.specs.declared.request.Request.{Request}
 use Rattle.worker_core.specs.State as workers
-use Rattle.party_turns.proofs.ItemsLemmas.{also_there, long_alike}
+use Rattle.party_turns.proofs.ItemsLemmas.{also_there, long_alike, made_of_made}
 use Rattle.party_turns.specs.Making.{IsOfScript}
-use Rattle.party_turns.specs.Running.{GoesOn, HaveEnds, IsSessionOf}
+use Rattle.party_turns.specs.Running.{BeginsAs, GoesOn, HaveEnds, IsSessionOf, courses_of}
 use Rattle.party_turns.specs.Ends.{Ends, session_lists, worker_lists}
 
 -- a session of which the same is told is one of the same plan
@@ -87,6 +87,11 @@ module _ {S T O Q G R SK TK OK QK GK RK : Type 0}
           sessions_are = λ place plan proxy plan_is there.
               let was = also_there its_sessions proxies proxies_now same_sessions place proxy there in
               session_still was.0 proxy was.2 (run.sessions_are place plan was.0 plan_is was.1);
+          begins = λ place plan proxy plan_is there.
+              let was = also_there its_sessions proxies proxies_now same_sessions place proxy there in
+              let courses = sym (made_of_made its_sessions (λ its. its.course) proxies) ∙ sym (ap (map (λ its. its.course)) same_sessions) ∙ made_of_made its_sessions (λ its. its.course) proxies_now in
+              subst (λ those. BeginsAs those plan.after proxy.course.origin) courses
+              (subst (BeginsAs (courses_of proxies) plan.after) (ap (λ its. its.course.origin) was.2) (run.begins place plan was.0 plan_is was.1));
           ends = ends run.ends;
         };
       }

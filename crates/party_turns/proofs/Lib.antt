@@ -1,3 +1,4 @@
+pub mod BeginsLemmas
 pub mod DueLemmas
 pub mod GoesOnLemmas
 pub mod GoingOnLemmas
@@ -6,6 +7,7 @@ pub mod HandedOutLemmas
 pub mod ItemsLemmas
 pub mod MakingLemmas
 pub mod MatesLemmas
+pub mod OrderLemmas
 pub mod PairLemmas
 pub mod PairListsLemmas
 pub mod PairPlacesLemmas

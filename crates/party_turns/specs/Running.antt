@@ -1,12 +1,13 @@
 -- The parties of a run while it goes on: its workers, and its sessions of whichever level.
-use Rattle.std.specs.Prelude.{◌≡◌, ℕ, ◌+◌, false, true, List, All, length, map, slice_get, Some}
+use Rattle.std.specs.Prelude.{◌≡◌, ℕ, ◌+◌, ◌-◌, false, true, IsTrue, List, All, length, map, slice_get, Option, Some, None}
 use Rattle.placement.specs.Config.{IsOneOf}
 use Rattle.session_known.specs.Accepted.{client_of}
 use Rattle.session_known.specs.Script.{IsValidScript}
+use Rattle.session_known.specs.Session.{Knowledge, handed, nothing_known}
 use Rattle.session_known.specs.declared.script.Script.{Script}
 use Rattle.session_known.specs.declared.script.SessionPlan.{SessionPlan}
 use Rattle.session_proxy.specs.Share.{Share}
-use Rattle.session_proxy.specs.State.{PlainProxy, lists_of}
+use Rattle.session_proxy.specs.State.{Course, Knew, Origin, PlainProxy, WaitsFor, has_begun, lists_of, state_now}
 use Rattle.store_msg.specs.Reply.{PlainReply}
 use Rattle.store_msg.specs.declared.request.Request.{Request}
 use Rattle.worker_core.specs.State.{PlainWorker}
@@ -23,6 +24,25 @@ pub record IsSessionOf {S R : Type 0} (asked : S → List Request) (received : R
   pub senders : length proxy.ends.requests.items ≡ workers
   pub share : Share (lists_of asked received proxy)
   pub of_workers : All (λ message. IsOneOf workers message.0) (received proxy.ends.replies)
+
+-- how far each session is
+abbrev pub courses_of : {S R : Type 0} → List (PlainProxy S R) → List Course
+courses_of = map (λ proxy. proxy.course)
+
+-- The session of a number, from 1, has ended: it has begun, and all its lines are answered. It hands this over.
+pub record HandsOver (courses : List Course) (session : ℕ) (known : Knowledge) : Type 0 where
+  pub course : Course
+  pub there : slice_get courses (session - 1) ≡ Some course
+  pub begun : IsTrue (has_begun course)
+  pub answered : length course.answers ≡ length course.lines
+  pub known_is : known ≡ handed (state_now course).knows
+
+-- A session has begun, or waits, as its plan says: one that comes after no other knew nothing at its start; one that comes after another waits for that one,
+-- or knew then what that one handed over.
+abbrev pub BeginsAs : List Course → Option ℕ → Origin → Type 0
+BeginsAs courses None origin = origin ≡ Knew nothing_known
+BeginsAs courses (Some after) (Knew known) = HandsOver courses after known
+BeginsAs courses (Some after) (WaitsFor session) = session ≡ after
 
 -- The ends of all parties are of one making, and each box has messages of the parties alone; each worker has the number after its place.
 pub record HaveEnds {S T O Q G R SK TK OK QK GK RK : Type 0}
@@ -52,6 +72,8 @@ pub record AreRunning {S T O Q G R SK TK OK QK GK RK : Type 0}
   pub as_many_sessions : length sessions ≡ length script.sessions
   pub sessions_are : (place : ℕ) (plan : SessionPlan) (proxy : PlainProxy S R) → slice_get script.sessions place ≡ Some plan → slice_get sessions place ≡ Some proxy
       → IsSessionOf mail.request_tx.sent mail.reply_rx.received table script.config.workers place plan proxy
+  pub begins : (place : ℕ) (plan : SessionPlan) (proxy : PlainProxy S R) → slice_get script.sessions place ≡ Some plan → slice_get sessions place ≡ Some proxy
+      → BeginsAs (courses_of sessions) plan.after proxy.course.origin
   pub ends : HaveEnds mail workers sessions
 
 -- A run goes on: there are as many workers and sessions as before, each worker has its box of gossip, and what held of their ends and of them all still does.

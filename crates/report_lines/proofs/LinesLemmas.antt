@@ -30,7 +30,7 @@ use Rattle.report_lines.proofs.ClocksLemmas.{clock_counted, clock_passes, needs_
 use Rattle.report_lines.proofs.NamesLemmas.{TellsNames, spelled_made, decimal_spelled, session_spelled, key_spelled}
 use Rattle.report_lines.proofs.RenderingLemmas.{Passes, word_marks, in_word, IsLine, both_pass}
 use Rattle.report_lines.proofs.RowsLemmas.{all_map, both_all}
-use Rattle.report_lines.specs.Text.{clock_word, worker_word, kind_word, level_word, cell_words, needs_words, shown_words, again_words, answer_words, answers_lines, key_words, placed_words, head_lines, sessions_lines, final_words, report_lines}
+use Rattle.report_lines.specs.Text.{clock_word, worker_word, kind_word, level_word, cell_words, needs_words, shown_words, again_words, answer_words, answers_lines, key_words, placed_words, head_lines, after_words, session_words, sessions_lines, final_words, report_lines}
 use Rattle.report_lines.proofs.ValuesLemmas.{value_passes}
 
 -- words whose bytes are those of words
@@ -139,9 +139,14 @@ module _ (script : Script) (names : TellsNames script) where
   pub head_are : AllByRecursion IsLine (head_lines script)
   head_are = ((refl, (refl, (number_passes script.version, tt))), keys_are_if (nat_le 2 script.version) (range_with_len 1 (length script.config.keys)))
 
+  -- the words of the session that one comes after
+  after_passes : (after : Option ℕ) → AreWords (after_words script after)
+  after_passes None = tt
+  after_passes (Some session) = (refl, (session_passes session, tt))
+
   -- the words of a session
-  pub session_line : (plan : SessionPlan) → IsName plan.name → IsLine (codes "session" ∷ plan.name ∷ level_word plan.level ∷ [])
-  session_line plan named = (refl, (spelled_made word_marks plan.name (list_all-from_AllPass is_spelling_byte plan.name named.allowed), (level_passes plan.level, tt)))
+  pub session_line : (plan : SessionPlan) → IsName plan.name → IsLine (session_words script plan)
+  session_line plan named = (refl, (spelled_made word_marks plan.name (list_all-from_AllPass is_spelling_byte plan.name named.allowed), (level_passes plan.level, after_passes plan.after)))
 
   -- the words of a final cell
   pub final_line : (cell : FinalCell) → IsFinalIn script cell → IsLine (final_words script cell)

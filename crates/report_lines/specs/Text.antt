@@ -218,13 +218,18 @@ abbrev pub answers_lines : Script → List Line → List Answer → List (List (
 answers_lines script (line ∷ lines) (answer ∷ answers) = answer_words script line answer ∷ answers_lines script lines answers
 answers_lines script lines answers = []
 
--- the line that a session begins with: `session NAME LEVEL`
-abbrev pub session_words : SessionPlan → List (List ℕ)
-session_words plan = codes "session" ∷ plan.name ∷ level_word plan.level ∷ []
+-- the session that a session comes after, where it comes after one: `after NAME`
+abbrev pub after_words : Script → Option ℕ → List (List ℕ)
+after_words script None = []
+after_words script (Some session) = codes "after" ∷ session_name script session ∷ []
+
+-- the line that a session begins with: `session NAME LEVEL`, and what it comes after
+abbrev pub session_words : Script → SessionPlan → List (List ℕ)
+session_words script plan = codes "session" ∷ plan.name ∷ level_word plan.level ∷ after_words script plan.after
 
 -- the lines of the sessions
 abbrev pub sessions_lines : Script → List SessionPlan → List (List Answer) → List (List (List ℕ))
-sessions_lines script (plan ∷ plans) (answers ∷ others) = session_words plan ∷ (answers_lines script plan.lines answers ++ sessions_lines script plans others)
+sessions_lines script (plan ∷ plans) (answers ∷ others) = session_words script plan ∷ (answers_lines script plan.lines answers ++ sessions_lines script plans others)
 sessions_lines script plans others = []
 
 -- the line of a final cell: `K @W CELL`

@@ -59,10 +59,10 @@ finals_have [] = tt
 finals_have (place ∷ places) = (tt, finals_have places)
 
 -- the line of a session has words
-sessions_have : (script : Script) → TellsNames script → (plans : List SessionPlan) → AllByRecursion (λ plan. IsName plan.name) plans → AllByRecursion HasWords (flat_map session_dues plans)
+sessions_have : (script : Script) → TellsNames script → (plans : List SessionPlan) → AllByRecursion (λ plan. IsName plan.name) plans → AllByRecursion HasWords (flat_map (session_dues script) plans)
 sessions_have script names [] named = tt
 sessions_have script names (plan ∷ plans) named =
-    (session_line script names plan named.0, both_all HasWords (map (Answered plan.level) plan.lines) (flat_map session_dues plans) (answers_have plan.level plan.lines) (sessions_have script names plans named.1))
+    (session_line script names plan named.0, both_all HasWords (map (Answered plan.level) plan.lines) (flat_map (session_dues script) plans) (answers_have plan.level plan.lines) (sessions_have script names plans named.1))
 
 -- lines of which all words are known
 exact_have : (lines : List (List (List ℕ))) → AllByRecursion IsLine lines → AllByRecursion HasWords (exact_dues lines)
@@ -73,7 +73,7 @@ exact_have (words ∷ lines) all = (all.0, exact_have lines all.1)
 pub dues_have : (script : Script) (table : List (List ℕ)) → TellsNames script → AllByRecursion HasWords (report_dues script table)
 dues_have script table names =
     both_all HasWords (exact_dues (head_lines script)) _ (exact_have (head_lines script) (head_are script names))
-    (both_all HasWords (flat_map session_dues script.sessions) _ (sessions_have script names script.sessions (recursion_from_All (λ (plan : SessionPlan). IsName plan.name) script.sessions names.sessions_named))
+    (both_all HasWords (flat_map (session_dues script) script.sessions) _ (sessions_have script names script.sessions (recursion_from_All (λ (plan : SessionPlan). IsName plan.name) script.sessions names.sessions_named))
     ((refl, tt), both_all HasWords (finals_dues (final_places script table)) (Exactly (codes "end" ∷ []) ∷ []) (finals_have (final_places script table)) ((refl, tt), tt)))
 
 module _ (script : Script) where
@@ -87,12 +87,12 @@ module _ (script : Script) where
   answers_due level (line ∷ lines) (answer ∷ answers) fit = ((answer, fit.0, refl), answers_due level lines answers fit.1)
 
   -- the lines of the sessions
-  pub sessions_due : (plans : List SessionPlan) (answers : List (List Answer)) → AllZip (AreAnswers script) plans answers → AllZip (IsDue script) (flat_map session_dues plans) (sessions_lines script plans answers)
+  pub sessions_due : (plans : List SessionPlan) (answers : List (List Answer)) → AllZip (AreAnswers script) plans answers → AllZip (IsDue script) (flat_map (session_dues script) plans) (sessions_lines script plans answers)
   sessions_due [] [] fit = tt
   sessions_due [] (answers ∷ others) fit = absurd fit
   sessions_due (plan ∷ plans) [] fit = absurd fit
   sessions_due (plan ∷ plans) (answers ∷ others) fit =
-      (refl, both_zip (IsDue script) (map (Answered plan.level) plan.lines) (flat_map session_dues plans) (answers_lines script plan.lines answers) (sessions_lines script plans others) (answers_due plan.level plan.lines answers fit.0) (sessions_due plans others fit.1))
+      (refl, both_zip (IsDue script) (map (Answered plan.level) plan.lines) (flat_map (session_dues script) plans) (answers_lines script plan.lines answers) (sessions_lines script plans others) (answers_due plan.level plan.lines answers fit.0) (sessions_due plans others fit.1))
 
   -- the lines of the final cells
   pub finals_due : (cells : List FinalCell) → AllByRecursion (IsFinalIn script) cells → AllZip (IsDue script) (finals_dues (map place_of cells)) (map (final_words script) cells)
@@ -109,7 +109,7 @@ module _ (script : Script) where
   report_due table report form =
       let finals = subst (λ places. AllZip (IsDue script) (finals_dues places) (map (final_words script) report.finals)) form.places (finals_due report.finals (recursion_from_All (IsFinalIn script) report.finals form.finals)) in
       both_zip (IsDue script) (exact_dues (head_lines script)) _ (head_lines script) _ (exact_due (head_lines script))
-      (both_zip (IsDue script) (flat_map session_dues script.sessions) _ (sessions_lines script script.sessions report.answers) _ (sessions_due script.sessions report.answers form.answers)
+      (both_zip (IsDue script) (flat_map (session_dues script) script.sessions) _ (sessions_lines script script.sessions report.answers) _ (sessions_due script.sessions report.answers form.answers)
       (refl, both_zip (IsDue script) (finals_dues (final_places script table)) (Exactly (codes "end" ∷ []) ∷ []) (map (final_words script) report.finals) ((codes "end" ∷ []) ∷ []) finals (refl, tt)))
 
   -- ---- lines that are due are those of a report in form
@@ -124,12 +124,12 @@ module _ (script : Script) where
       (are.0.0 ∷ rest.0, (are.0.1, rest.1), λ i. are.0.2 i ∷ rest.2 i)
 
   -- answers of sessions with these lines
-  sessions_of : (plans : List SessionPlan) (given : List (List (List ℕ))) → AllZip (IsDue script) (flat_map session_dues plans) given → (answers : List (List Answer)) × AllZip (AreAnswers script) plans answers × (given ≡ sessions_lines script plans answers)
+  sessions_of : (plans : List SessionPlan) (given : List (List (List ℕ))) → AllZip (IsDue script) (flat_map (session_dues script) plans) given → (answers : List (List Answer)) × AllZip (AreAnswers script) plans answers × (given ≡ sessions_lines script plans answers)
   sessions_of [] [] are = ([], tt, refl)
   sessions_of [] (words ∷ given) are = absurd are
   sessions_of (plan ∷ plans) [] are = absurd are
   sessions_of (plan ∷ plans) (words ∷ given) are =
-      let parts = zip_parts (IsDue script) (map (Answered plan.level) plan.lines) (flat_map session_dues plans) given are.1 in
+      let parts = zip_parts (IsDue script) (map (Answered plan.level) plan.lines) (flat_map (session_dues script) plans) given are.1 in
       let first = answers_of plan.level plan.lines parts.0 parts.3 in
       let rest = sessions_of plans parts.1 parts.4 in
       let lines : given ≡ answers_lines script plan.lines first.0 ++ sessions_lines script plans rest.0 = parts.2 ∙ (λ i. first.2 i ++ rest.2 i) in
@@ -173,7 +173,7 @@ module _ (script : Script) where
   report_of table given are =
       let first = zip_parts (IsDue script) (exact_dues (head_lines script)) _ given are in
       let head = exact_of (head_lines script) first.0 first.3 in
-      let parts = zip_parts (IsDue script) (flat_map session_dues script.sessions) _ first.1 first.4 in
+      let parts = zip_parts (IsDue script) (flat_map (session_dues script) script.sessions) _ first.1 first.4 in
       let sessions = sessions_of script.sessions parts.0 parts.3 in
       let last = last_of (final_places script table) parts.1 parts.4 in
       let report : Report = record { answers = sessions.0; finals = last.0 } in

@@ -126,17 +126,17 @@ answers_push script R (a ∷ xs) x [] y all = absurd all
 answers_push script R (a ∷ xs) x (b ∷ ys) y all = ap (λ lines. answer_words script a b ∷ lines) (answers_push script R xs x ys y all.1)
 
 -- the lines of one more session
-sessions_push : (script : Script) (R : SessionPlan → List Answer → Type 0) (xs : List SessionPlan) (x : SessionPlan) (ys : List (List Answer)) (y : List Answer) → AllZip R xs ys → sessions_lines script (xs ++ x ∷ []) (ys ++ y ∷ []) ≡ sessions_lines script xs ys ++ (session_words x ∷ answers_lines script x.lines y)
-sessions_push script R [] x [] y all = ap (λ lines. session_words x ∷ lines) (append-nil (answers_lines script x.lines y))
+sessions_push : (script : Script) (R : SessionPlan → List Answer → Type 0) (xs : List SessionPlan) (x : SessionPlan) (ys : List (List Answer)) (y : List Answer) → AllZip R xs ys → sessions_lines script (xs ++ x ∷ []) (ys ++ y ∷ []) ≡ sessions_lines script xs ys ++ (session_words script x ∷ answers_lines script x.lines y)
+sessions_push script R [] x [] y all = ap (λ lines. session_words script x ∷ lines) (append-nil (answers_lines script x.lines y))
 sessions_push script R [] x (b ∷ ys) y all = absurd all
 sessions_push script R (a ∷ xs) x [] y all = absurd all
 sessions_push script R (a ∷ xs) x (b ∷ ys) y all =
-    ap (λ lines. session_words a ∷ lines)
-    (ap (λ lines. answers_lines script a.lines b ++ lines) (sessions_push script R xs x ys y all.1) ∙ sym (append_assoc (answers_lines script a.lines b) (sessions_lines script xs ys) (session_words x ∷ answers_lines script x.lines y)))
+    ap (λ lines. session_words script a ∷ lines)
+    (ap (λ lines. answers_lines script a.lines b ++ lines) (sessions_push script R xs x ys y all.1) ∙ sym (append_assoc (answers_lines script a.lines b) (sessions_lines script xs ys) (session_words script x ∷ answers_lines script x.lines y)))
 
 -- what is due of one more session
-dues_push : (xs : List SessionPlan) (x : SessionPlan) → sessions_dues (xs ++ x ∷ []) ≡ sessions_dues xs ++ session_dues x
-dues_push xs x = flat_map-append session_dues xs (x ∷ []) ∙ ap (λ dues. sessions_dues xs ++ dues) (append-nil (session_dues x))
+dues_push : (script : Script) (xs : List SessionPlan) (x : SessionPlan) → sessions_dues script (xs ++ x ∷ []) ≡ sessions_dues script xs ++ session_dues script x
+dues_push script xs x = flat_map-append (session_dues script) xs (x ∷ []) ∙ ap (λ dues. sessions_dues script xs ++ dues) (append-nil (session_dues script x))
 
 -- the answers to some lines of a session
 pub record AreAnswersFor (script : Script) (level : Level) (commands : List Line) (before now : List ℕ × ℕ) (answers : List Answer) : Type 0 where
@@ -181,29 +181,29 @@ AreSessionsSo script plans before count now answers = AreSessionsFor script (tak
 pub sessions_next : (script : Script) (plans : List SessionPlan) (before : List ℕ × ℕ) (count : ℕ) (now after : List ℕ × ℕ) (others pushed : List (List Answer)) (plan : SessionPlan) (answers : List Answer) → count < length plans → plan ≡ get_or plans count plan → AreSessionsSo script plans before count now others → AreAnswers script plan answers → HasGotSession script plan now after answers → pushed ≡ others ++ answers ∷ [] → AreSessionsSo script plans before (count + 1) after pushed
 sessions_next script plans before count now after others pushed plan answers within is so fit got push =
     let front = take count plans in
-    let lines : List (List (List ℕ)) = session_words plan ∷ answers_lines script plan.lines answers in
+    let lines : List (List (List ℕ)) = session_words script plan ∷ answers_lines script plan.lines answers in
     let first : front ++ plan ∷ [] ≡ take (count + 1) plans = ap (λ plan. take count plans ++ plan ∷ []) is ∙ sym (take_more plans count plan within) in
-    let both = got_both script (sessions_dues front) (session_dues plan) (sessions_lines script front others) lines before now after so.got got in
-    let all : HasGot script (sessions_dues (front ++ plan ∷ [])) (sessions_lines script (front ++ plan ∷ []) (others ++ answers ∷ [])) before after =
-    subst (λ lines. HasGot script (sessions_dues (front ++ plan ∷ [])) lines before after) (sym (sessions_push script (AreAnswers script) front plan others answers so.fit))
-    (subst (λ dues. HasGot script dues (sessions_lines script front others ++ lines) before after) (sym (dues_push front plan)) both) in
+    let both = got_both script (sessions_dues script front) (session_dues script plan) (sessions_lines script front others) lines before now after so.got got in
+    let all : HasGot script (sessions_dues script (front ++ plan ∷ [])) (sessions_lines script (front ++ plan ∷ []) (others ++ answers ∷ [])) before after =
+    subst (λ lines. HasGot script (sessions_dues script (front ++ plan ∷ [])) lines before after) (sym (sessions_push script (AreAnswers script) front plan others answers so.fit))
+    (subst (λ dues. HasGot script dues (sessions_lines script front others ++ lines) before after) (sym (dues_push script front plan)) both) in
     subst (AreSessionsSo script plans before (count + 1) after) (sym push)
     (subst (λ front. AreSessionsFor script front before after (others ++ answers ∷ [])) first (record { fit = zip_push (AreAnswers script) front plan others answers so.fit fit; got = all }))
 
 -- the numbers of the lines of one more stay within those of all
-pub sessions_room : (script : Script) (plans : List SessionPlan) (before : List ℕ × ℕ) (count : ℕ) (now : List ℕ × ℕ) (others : List (List Answer)) (plan : SessionPlan) (most : ℕ) → count < length plans → plan ≡ get_or plans count plan → AreSessionsSo script plans before count now others → before.1 + length (sessions_dues plans) < most → now.1 + length (session_dues plan) < most
+pub sessions_room : (script : Script) (plans : List SessionPlan) (before : List ℕ × ℕ) (count : ℕ) (now : List ℕ × ℕ) (others : List (List Answer)) (plan : SessionPlan) (most : ℕ) → count < length plans → plan ≡ get_or plans count plan → AreSessionsSo script plans before count now others → before.1 + length (sessions_dues script plans) < most → now.1 + length (session_dues script plan) < most
 sessions_room script plans before count now others plan most within is so room =
-    let dues = ap (λ plan. length (session_dues plan)) is in
-    omega (arith, so.got.number, length-flat_map-take session_dues plans count plan within, dues, room)
+    let dues = ap (λ plan. length (session_dues script plan)) is in
+    omega (arith, so.got.number, length-flat_map-take (session_dues script) plans count plan within, dues, room)
 
 -- where one of the lines of a session is out of form
-pub sessions_fault : (script : Script) (plans : List SessionPlan) (before : List ℕ × ℕ) (count : ℕ) (now : List ℕ × ℕ) (others : List (List Answer)) (plan : SessionPlan) (fault : ReportFault) → count < length plans → plan ≡ get_or plans count plan → AreSessionsSo script plans before count now others → IsPartFault script (session_dues plan) now fault → IsPartFault script (sessions_dues plans) before fault
+pub sessions_fault : (script : Script) (plans : List SessionPlan) (before : List ℕ × ℕ) (count : ℕ) (now : List ℕ × ℕ) (others : List (List Answer)) (plan : SessionPlan) (fault : ReportFault) → count < length plans → plan ≡ get_or plans count plan → AreSessionsSo script plans before count now others → IsPartFault script (session_dues script plan) now fault → IsPartFault script (sessions_dues script plans) before fault
 sessions_fault script plans before count now others plan fault within is so out =
     let front = take count plans in
-    let here = fault_after script (sessions_dues front) (session_dues plan) (sessions_lines script front others) before now fault so.got out in
-    let more = fault_before script (sessions_dues front ++ session_dues plan) (sessions_dues (drop (suc count) plans)) before fault here in
-    let dues : (sessions_dues front ++ session_dues plan) ++ sessions_dues (drop (suc count) plans) ≡ sessions_dues plans =
-    ap (λ dues. dues ++ sessions_dues (drop (suc count) plans)) (sym (dues_push front plan)) ∙ sym (flat_map-append session_dues (front ++ plan ∷ []) (drop (suc count) plans)) ∙ ap (flat_map session_dues) (parts_of plans count plan within is) in
+    let here = fault_after script (sessions_dues script front) (session_dues script plan) (sessions_lines script front others) before now fault so.got out in
+    let more = fault_before script (sessions_dues script front ++ session_dues script plan) (sessions_dues script (drop (suc count) plans)) before fault here in
+    let dues : (sessions_dues script front ++ session_dues script plan) ++ sessions_dues script (drop (suc count) plans) ≡ sessions_dues script plans =
+    ap (λ dues. dues ++ sessions_dues script (drop (suc count) plans)) (sym (dues_push script front plan)) ∙ sym (flat_map-append (session_dues script) (front ++ plan ∷ []) (drop (suc count) plans)) ∙ ap (flat_map (session_dues script)) (parts_of plans count plan within is) in
     subst (λ dues. IsPartFault script dues before fault) dues more
 
 -- ---- cell by cell

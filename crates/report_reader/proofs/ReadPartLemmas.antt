@@ -1,5 +1,5 @@
 -- The parts of a report got one after another, where its final cells stand, and how many lines it has.
-use Rattle.std.specs.Prelude.{◌≡◌, ℕ, ◌+◌, ◌*◌, ◌≤◌, ◌==◌, nat_le, Bool, true, false, cond, List, [], ◌∷◌, ◌++◌, filter, length, map, take, get_or, ◌<◌, decimal, codes, sum_by, Result, Ok, Err, IfErr}
+use Rattle.std.specs.Prelude.{◌≡◌, ℕ, ◌+◌, ◌*◌, ◌≤◌, ◌==◌, nat_le, Bool, true, false, cond, List, [], ◌∷◌, ◌++◌, filter, length, map, take, get_or, ◌<◌, decimal, codes, sum_by, Option, Some, None, Result, Ok, Err, IfErr}
 use Rattle.std.specs.Fmt.{digits}
 use Rattle.std.specs.List.{flat_map, join_with_byte, list_any, range_with_len}
 use Rattle.std.proofs.Common.{refl, sym, ap, ◌∙◌, arith}
@@ -16,7 +16,7 @@ use Rattle.placement.specs.Name.{IsName}
 use Rattle.placement.proofs.ConfigLemmas.{placement_is}
 use Rattle.placement.proofs.RingPoints.{range_more}
 use Rattle.session_known.specs.Form.{final_places, replicas_ascending}
-use Rattle.session_known.specs.Script.{IsValidScript, key_name}
+use Rattle.session_known.specs.Script.{IsValidScript, key_name, session_name}
 use Rattle.placement.specs.Asked.{replicas_of}
 use Rattle.session_known.specs.declared.script.Script.{Script}
 use Rattle.session_known.specs.declared.script.SessionPlan.{SessionPlan}
@@ -25,7 +25,7 @@ use Rattle.report_lines.proofs.NamesLemmas.{TellsNames}
 use Rattle.report_reader.specs.ReadLines.{Due, Exactly, Answered, IsOut, IsNotNext, HasGot, HasGotExactly, IsPartFault, session_dues, sessions_dues, finals_dues, report_dues, exact_dues, replicas_within, places_at}
 use Rattle.report_reader.specs.Cuts.{has_byte}
 use Rattle.report_lines.proofs.RenderingLemmas.{bare_is, line_after, spaced-append, spaced-one}
-use Rattle.report_lines.specs.Text.{head_lines, kind_word, key_words, placed_words, session_words, bare_line, spaced}
+use Rattle.report_lines.specs.Text.{head_lines, kind_word, level_word, key_words, placed_words, after_words, session_words, bare_line, spaced}
 use Rattle.report_reader.specs.declared.ReportFault.{ReportFault}
 use Rattle.report_reader.specs.declared.ReportFault.TheVariants.{Form}
 use Rattle.report_reader.proofs.ReadLineLemmas.{is_not, line_lacks, got_both, fault_first, fault_before, fault_after}
@@ -39,9 +39,9 @@ wanted_out script words wanted bytes is none rest line =
     none rest (line.begin ∙ line_after line.words rest ∙ ap (λ text. text ++ 10 ∷ rest) (ap (join_with_byte 32) line.is_due ∙ sym is))
 
 -- the line of a session has no line feed
-pub session_lacks : (script : Script) → TellsNames script → (plan : SessionPlan) → IsName plan.name → has_byte 10 (bare_line (session_words plan)) ≡ false
+pub session_lacks : (script : Script) → TellsNames script → (plan : SessionPlan) → IsName plan.name → has_byte 10 (bare_line (session_words script plan)) ≡ false
 session_lacks script names plan named =
-    lacks_failing (is_not 10) 10 refl (bare_line (session_words plan)) (line_lacks (session_words plan) (session_line script names plan named))
+    lacks_failing (is_not 10) 10 refl (bare_line (session_words script plan)) (line_lacks (session_words script plan) (session_line script names plan named))
 
 -- what follows from what is said of a fault
 pub fault_so : {X E : Type 0} (r : Result X E) (P Q : E → Type 0) → IfErr r Q → ((fault : E) → Q fault → P fault) → IfErr r P
@@ -103,10 +103,10 @@ places_next script table keys items pushed replicas so are push =
 -- ---- how many lines there are
 
 -- those of the sessions
-pub sessions_length : (plans : List SessionPlan) → length (sessions_dues plans) ≡ length plans + sum_by (λ plan. length plan.lines) plans
-sessions_length [] = omega arith
-sessions_length (plan ∷ plans) =
-    omega (arith, length-append (session_dues plan) (sessions_dues plans), length-map plan.lines (Answered plan.level), sessions_length plans, sum_by-cons (λ (plan : SessionPlan). length plan.lines) plan plans)
+pub sessions_length : (script : Script) (plans : List SessionPlan) → length (sessions_dues script plans) ≡ length plans + sum_by (λ plan. length plan.lines) plans
+sessions_length script [] = omega arith
+sessions_length script (plan ∷ plans) =
+    omega (arith, length-append (session_dues script plan) (sessions_dues script plans), length-map plan.lines (Answered plan.level), sessions_length script plans, sum_by-cons (λ (plan : SessionPlan). length plan.lines) plan plans)
 
 -- those of the final cells
 places_length : (script : Script) (table : List (List ℕ)) → script.config.workers ≤ 8 → (keys : List ℕ) → length (flat_map (places_of_key script table) keys) ≤ length keys * 8
@@ -117,11 +117,11 @@ places_length script table few (key ∷ keys) =
     omega (arith, length-append (places_of_key script table key) (flat_map (places_of_key script table) keys), length-map {B = ℕ × ℕ} (replicas_ascending script table key) (λ worker. (key, worker)), places_length script table few keys, workers, replicas, few)
 
 -- A report has few lines.
-pub few_lines : (script : Script) (table : List (List ℕ)) → IsValidScript script table → (length (sessions_dues script.sessions) ≤ 4112) × (length (final_places script table) ≤ 1024)
+pub few_lines : (script : Script) (table : List (List ℕ)) → IsValidScript script table → (length (sessions_dues script script.sessions) ≤ 4112) × (length (final_places script table) ≤ 1024)
 few_lines script table valid =
     let keys = length-range_with_len 1 (length script.config.keys) in
     let places = places_length script table valid.config.workers_most (range_with_len 1 (length script.config.keys)) in
-    (omega (arith, sessions_length script.sessions, valid.few_sessions, valid.few_lines), omega (arith, places, keys, valid.config.keys_most))
+    (omega (arith, sessions_length script script.sessions, valid.few_sessions, valid.few_lines), omega (arith, places, keys, valid.config.keys_most))
 
 -- ---- the parts of a report
 
@@ -181,6 +181,30 @@ key_line_is script key workers kind line kind_is is =
     ∙ ap (λ kind. codes "key " ++ (name ++ (codes " " ++ (kind_word kind ++ (codes " on" ++ numbers))))) kind_is
     ∙ bare_is (codes "key") (name ∷ kind_word (kind_at script.kinds key) ∷ codes "on" ∷ map decimal workers)
 
+-- what a session comes after, piece by piece
+pub after_is : (script : Script) (session : ℕ) (after : Option ℕ) (before line : List ℕ) → after ≡ Some session → line ≡ (before ++ codes " after ") ++ session_name script session → line ≡ before ++ spaced (after_words script after)
+unfolding spaced
+after_is script session after before line after_some is =
+    let name = session_name script session in
+    is ∙ append_assoc before (codes " after ") name ∙ ap (λ name. before ++ (codes " after " ++ name)) (sym (append-nil name)) ∙ ap (λ after. before ++ spaced (after_words script after)) (sym after_some)
+
+-- and where it comes after none
+pub after_none : (script : Script) (after : Option ℕ) (before : List ℕ) → after ≡ None → before ≡ before ++ spaced (after_words script after)
+unfolding spaced
+after_none script after before none = sym (append-nil before) ∙ ap (λ after. before ++ spaced (after_words script after)) (sym none)
+
+-- the line of a session
+pub session_line_is : (script : Script) (plan : SessionPlan) (line : List ℕ) → line ≡ (((codes "session " ++ plan.name) ++ codes " ") ++ level_word plan.level) ++ spaced (after_words script plan.after) → line ≡ bare_line (session_words script plan)
+unfolding spaced
+session_line_is script plan line is =
+    let level = level_word plan.level in
+    let after = spaced (after_words script plan.after) in
+    is
+    ∙ append_assoc ((codes "session " ++ plan.name) ++ codes " ") level after
+    ∙ append_assoc (codes "session " ++ plan.name) (codes " ") (level ++ after)
+    ∙ append_assoc (codes "session ") plan.name (codes " " ++ (level ++ after))
+    ∙ bare_is (codes "session") (plan.name ∷ level ∷ after_words script plan.after)
+
 -- the first line
 abbrev pub first_words : ℕ → List (List ℕ)
 first_words version = codes "anna" ∷ codes "report" ∷ decimal version ∷ []
@@ -228,17 +252,17 @@ module _ (script : Script) (table : List (List ℕ)) (before first : List ℕ ×
   final_after = Exactly final_word ∷ cells_after
 
   -- a fault after the head
-  after_head : (fault : ReportFault) → IsPartFault script (sessions_dues script.sessions ++ final_after) first fault → IsPartFault script (report_dues script table) before fault
-  after_head fault out = fault_after script head (sessions_dues script.sessions ++ final_after) (head_lines script) before first fault head_got out
+  after_head : (fault : ReportFault) → IsPartFault script (sessions_dues script script.sessions ++ final_after) first fault → IsPartFault script (report_dues script table) before fault
+  after_head fault out = fault_after script head (sessions_dues script script.sessions ++ final_after) (head_lines script) before first fault head_got out
 
   -- where a line of a session is out of form
-  pub fault_in_sessions : (fault : ReportFault) → IsPartFault script (sessions_dues script.sessions) first fault → IsPartFault script (report_dues script table) before fault
-  fault_in_sessions fault out = after_head fault (fault_before script (sessions_dues script.sessions) final_after first fault out)
+  pub fault_in_sessions : (fault : ReportFault) → IsPartFault script (sessions_dues script script.sessions) first fault → IsPartFault script (report_dues script table) before fault
+  fault_in_sessions fault out = after_head fault (fault_before script (sessions_dues script script.sessions) final_after first fault out)
 
-  module _ (sessions : List (List (List ℕ))) (later : List ℕ × ℕ) (sessions_got : HasGot script (sessions_dues script.sessions) sessions first later) where
+  module _ (sessions : List (List (List ℕ))) (later : List ℕ × ℕ) (sessions_got : HasGot script (sessions_dues script script.sessions) sessions first later) where
     -- a fault after the sessions
     after_sessions : (fault : ReportFault) → IsPartFault script final_after later fault → IsPartFault script (report_dues script table) before fault
-    after_sessions fault out = after_head fault (fault_after script (sessions_dues script.sessions) final_after sessions first later fault sessions_got out)
+    after_sessions fault out = after_head fault (fault_after script (sessions_dues script script.sessions) final_after sessions first later fault sessions_got out)
 
     -- where the word before the final cells is out of form
     pub fault_at_final : (line : ℕ) → line ≡ later.1 → IsOut script (Exactly final_word) later.0 → IsPartFault script (report_dues script table) before (Form line)
@@ -260,7 +284,7 @@ module _ (script : Script) (table : List (List ℕ)) (before first : List ℕ ×
         -- where all was got
         pub all_got : (after : List ℕ × ℕ) → HasGot script (Exactly end_word ∷ []) (end_word ∷ []) last after → HasGot script (report_dues script table) (head_lines script ++ (sessions ++ (final_word ∷ (cells ++ end_word ∷ [])))) before after
         all_got after end_got =
-            got_both script head (sessions_dues script.sessions ++ final_after) (head_lines script) (sessions ++ (final_word ∷ (cells ++ end_word ∷ []))) before first after head_got
-            (got_both script (sessions_dues script.sessions) final_after sessions (final_word ∷ (cells ++ end_word ∷ [])) first later after sessions_got
+            got_both script head (sessions_dues script script.sessions ++ final_after) (head_lines script) (sessions ++ (final_word ∷ (cells ++ end_word ∷ []))) before first after head_got
+            (got_both script (sessions_dues script script.sessions) final_after sessions (final_word ∷ (cells ++ end_word ∷ [])) first later after sessions_got
             (got_both script (Exactly final_word ∷ []) cells_after (final_word ∷ []) (cells ++ end_word ∷ []) later cells_first after final_got
             (got_both script (finals_dues (final_places script table)) (Exactly end_word ∷ []) cells (end_word ∷ []) cells_first last after cells_got end_got)))

@@ -44,12 +44,12 @@ abbrev pub answers_dues : Level → List Line → List Due
 answers_dues level of_session = map (Answered level) of_session
 
 -- the lines of a session that are due
-abbrev pub session_dues : SessionPlan → List Due
-session_dues plan = Exactly (session_words plan) ∷ answers_dues plan.level plan.lines
+abbrev pub session_dues : Script → SessionPlan → List Due
+session_dues script plan = Exactly (session_words script plan) ∷ answers_dues plan.level plan.lines
 
 -- the lines of sessions that are due
-abbrev pub sessions_dues : List SessionPlan → List Due
-sessions_dues plans = flat_map session_dues plans
+abbrev pub sessions_dues : Script → List SessionPlan → List Due
+sessions_dues script plans = flat_map (session_dues script) plans
 
 -- the lines of the final cells that are due
 abbrev pub finals_dues : List (ℕ × ℕ) → List Due
@@ -63,7 +63,7 @@ exact_dues lines = map Exactly lines
 abbrev pub report_dues : Script → List (List ℕ) → List Due
 report_dues script table =
     exact_dues (head_lines script)
-    ++ (sessions_dues script.sessions
+    ++ (sessions_dues script script.sessions
     ++ (Exactly (codes "final" ∷ []) ∷ (finals_dues (final_places script table)
     ++ Exactly (codes "end" ∷ []) ∷ [])))
 
@@ -134,11 +134,11 @@ HasGotAnswers script level of_session before after answers = HasGot script (answ
 
 -- those of a session
 abbrev pub HasGotSession : Script → SessionPlan → List ℕ × ℕ → List ℕ × ℕ → List Answer → Type 0
-HasGotSession script plan before after answers = HasGot script (session_dues plan) (session_words plan ∷ answers_lines script plan.lines answers) before after
+HasGotSession script plan before after answers = HasGot script (session_dues script plan) (session_words script plan ∷ answers_lines script plan.lines answers) before after
 
 -- those of sessions
 abbrev pub HasGotSessions : Script → List SessionPlan → List ℕ × ℕ → List ℕ × ℕ → List (List Answer) → Type 0
-HasGotSessions script plans before after answers = HasGot script (sessions_dues plans) (sessions_lines script plans answers) before after
+HasGotSessions script plans before after answers = HasGot script (sessions_dues script plans) (sessions_lines script plans answers) before after
 
 -- lines of which all words are known were got
 abbrev pub HasGotExactly : Script → List (List (List ℕ)) → List ℕ × ℕ → List ℕ × ℕ → Type 0

@@ -10,7 +10,7 @@ ghost use Rattle.report_reader.specs.declared.ReportFault.TheVariants.{Form};
 ghost use Rattle.report_reader.specs.ReadLines.{Answered, FinalOf, IsFinalAt, answers_dues, session_dues, sessions_dues, finals_dues, report_dues, IsPlaceIn, exact_dues, places_at, replicas_within, IsValidWhere, HasTaken, IsNotNext, HasGotAnswer, HasGotAnswers, HasGotSession, HasGotSessions, HasGotExactly, HasGotFinal, HasGotFinals, HasGotReport, IsPartFault};
 ghost use Rattle.report_reader.specs.Reads.{IsReading};
 ghost use Rattle.report_lines.specs.Parts.{AreAnswers, place_of};
-ghost use Rattle.report_lines.specs.Text.{head_lines, key_words, placed_words, session_words, bare_line, spaced};
+ghost use Rattle.report_lines.specs.Text.{head_lines, key_words, placed_words, after_words, session_words, bare_line, spaced};
 
 use crate::ReportFault;
 use crate::answers::{read_answer, read_final};
@@ -237,9 +237,24 @@ fn read_answers(
     Ok(answers)
 }
 
+/// Adds the session that a session comes after, where it comes after one.
+fn push_after(line: &mut Vec<u8>, script: &Script, after: Option<u16>) -> Result<(), NoMemory>
+    ensures { OnOk result (line.new.items
+        ≡ line.old.items ++ spaced (after_words script.now after)) }
+{
+    match after {
+        None => Ok(()),
+        Some(session) => {
+            line.extend_from_slice(b" after ")?;
+            line.extend_from_slice(script.session_name(session))?;
+            Ok(())
+        }
+    }
+}
+
 /// The line that a session begins with, without its line feed.
-fn session_line(alloc: Global, plan: &SessionPlan) -> Result<Vec<u8>, NoMemory>
-    ensures line { IfOk result (λ line. line.items ≡ bare_line (session_words plan.now)) }
+fn session_line(alloc: Global, script: &Script, plan: &SessionPlan) -> Result<Vec<u8>, NoMemory>
+    ensures line { IfOk result (λ line. line.items ≡ bare_line (session_words script.now plan.now)) }
     ensures named { OnOk result (IsName plan.now.name) }
 {
     let mut line = Vec::new(alloc);
@@ -247,6 +262,7 @@ fn session_line(alloc: Global, plan: &SessionPlan) -> Result<Vec<u8>, NoMemory>
     line.extend_from_slice(plan.name.as_bytes())?;
     line.extend_from_slice(b" ")?;
     line.extend_from_slice(level_text(plan.level))?;
+    push_after(&mut line, script, plan.after)?;
     Ok(line)
 }
 
@@ -259,12 +275,12 @@ fn read_session_part(
 ) -> Result<Items<Answer>, ReportFault>
     requires valid { IsValidWhere script.now
         (λ table. IsValidSession script.now table plan.now) }
-    requires room { lines.old.1 + length (session_dues plan.now) < 2 ^ 32 }
+    requires room { lines.old.1 + length (session_dues script.now plan.now) < 2 ^ 32 }
     ensures answers { IfOk result (AreAnswers script.now plan.now) }
     ensures got { IfOk result (HasGotSession script.now plan.now lines.old lines.new) }
-    ensures fault { IfErr result (IsPartFault script.now (session_dues plan.now) lines.old) }
+    ensures fault { IfErr result (IsPartFault script.now (session_dues script.now plan.now) lines.old) }
 {
-    let line = session_line(alloc, plan)?;
+    let line = session_line(alloc, script, plan)?;
     read_exactly(lines, &line)?;
     read_answers(alloc, script, plan.level, plan.lines.as_slice(), lines)
 }
@@ -278,10 +294,10 @@ fn read_sessions(
 ) -> Result<Items<Items<Answer>>, ReportFault>
     requires valid { IsValidWhere script.now
         (λ table. All (IsValidSession script.now table) plans.now) }
-    requires room { lines.old.1 + length (sessions_dues plans.now) < 2 ^ 32 }
+    requires room { lines.old.1 + length (sessions_dues script.now plans.now) < 2 ^ 32 }
     ensures answers { IfOk result (AllZip (AreAnswers script.now) plans.now) }
     ensures got { IfOk result (HasGotSessions script.now plans.now lines.old lines.new) }
-    ensures fault { IfErr result (IsPartFault script.now (sessions_dues plans.now) lines.old) }
+    ensures fault { IfErr result (IsPartFault script.now (sessions_dues script.now plans.now) lines.old) }
 {
     let mut answers = Items::new(Vec::new(alloc));
     for plan in plans {

@@ -57,7 +57,7 @@ pub sessions_text : (script : Script) (plans : List SessionPlan) (others : List 
 sessions_text script [] others = refl
 sessions_text script (plan ∷ plans) [] = refl
 sessions_text script (plan ∷ plans) (answers ∷ others) =
-    let head = line_text (session_words plan) in
+    let head = line_text (session_words script plan) in
     let lines = answers_lines script plan.lines answers in
     ap (λ rest. head ++ rest) (flat_map-append line_text lines (sessions_lines script plans others) ∙ ap (λ rest. flat_map line_text lines ++ rest) (sessions_text script plans others))
     ∙ sym (append_assoc head (flat_map line_text lines) (flat_map (λ pair. session_text script pair.0 pair.1) (zip plans others)))

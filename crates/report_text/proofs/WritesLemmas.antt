@@ -11,7 +11,7 @@ use Rattle.std.proofs.lemmas.List.Concat.{flat_map-append}
 use Rattle.dot_lattices.specs.DotSums.{sum_told, total_of}
 use Rattle.dot_lattices.specs.declared.amounts.Amounts.{Amounts}
 use Rattle.dot_lattices.specs.declared.dot.Dot.{Dot}
-use Rattle.outside.proofs.GatheringLemmas.{Adds-then, Adds-as, Adds-byte}
+use Rattle.outside.proofs.GatheringLemmas.{Adds-none, Adds-then, Adds-as, Adds-byte}
 use Rattle.outside.specs.Gathering.{Adds}
 use Rattle.outside.specs.declared.gathering.Out.{Out}
 use Rattle.report_lines.proofs.RenderingLemmas.{spaced-append, bare_is}
@@ -39,6 +39,11 @@ row_some none c text (item ∷ items) some = refl
 pub braced_some : (items : List (List ℕ)) → 0 < length items → braced items ≡ codes "{" ++ (join_with_byte 44 items ++ codes "}")
 braced_some [] some = absurd (omega arith)
 braced_some (item ∷ items) some = refl
+
+-- No words were written.
+pub Adds-no_words : {K : Type 0} {written : K → Option (List ℕ)} {faults : K → ℕ} {a : Out K} → Adds written faults a a (spaced [])
+unfolding spaced
+Adds-no_words = Adds-none
 
 -- Words were written and then others.
 pub Adds-words : {K : Type 0} {written : K → Option (List ℕ)} {faults : K → ℕ} {a b c : Out K} (words others : List (List ℕ)) → Adds written faults a b (spaced words) → Adds written faults b c (spaced others) → Adds written faults a c (spaced (words ++ others))

@@ -38,7 +38,7 @@ AreAtPlaces script finals = map (λ cell. (cell.key, cell.worker)) finals ≡ fi
 
 -- the lines of a session
 abbrev pub session_text : Script → SessionPlan → List Answer → List ℕ
-session_text script plan answers = line_text (session_words plan) ++ flat_map line_text (answers_lines script plan.lines answers)
+session_text script plan answers = line_text (session_words script plan) ++ flat_map line_text (answers_lines script plan.lines answers)
 
 -- the line may stand in a session of the script, and the answer is one that it may have
 abbrev pub MayAnswer : Script → Line → Answer → Type 0

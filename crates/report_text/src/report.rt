@@ -3,12 +3,12 @@ ghost use Rattle.std.specs.List.{All, AllZip, flat_map};
 ghost use Rattle.session_known.specs.Form.{HasFewDots, HasFormSomewhere};
 ghost use Rattle.outside.specs.Gathering.{Adds, Wrote};
 ghost use Rattle.outside.specs.Outside.{HasCause};
-ghost use Rattle.report_lines.specs.Text.{level_word, session_words, answers_lines, sessions_lines, text_of, line_text, final_words, short_words};
-ghost use Rattle.report_text.specs.Writes.{MayAnswer, MayAnswerAll, AddsLine, AddsLines, session_text};
+ghost use Rattle.report_lines.specs.Text.{level_word, after_words, session_words, answers_lines, sessions_lines, text_of, line_text, final_words, short_words};
+ghost use Rattle.report_text.specs.Writes.{MayAnswer, MayAnswerAll, AddsLine, AddsLines, AddsWords, session_text};
 
 use crate::answers::write_answer;
 use crate::cells::{write_cell, write_clock_words, write_value_words};
-use crate::clocks::{write_key, write_name, write_spaced_worker};
+use crate::clocks::{write_key, write_name, write_spaced_session, write_spaced_worker};
 use crate::keys::write_head;
 use lattice_laws::Items;
 use report_lines::level_text;
@@ -69,15 +69,30 @@ fn write_level<K: Sink>(out: &mut Out<'_, K>, level: Level)
     out.write(level_text(level));
 }
 
+/// Writes the session that a session comes after, where it comes after one.
+fn write_after<K: Sink>(out: &mut Out<'_, K>, script: &Script, after: Option<u16>)
+    ensures { AddsWords K.Sink out.old out.new (after_words script.now after) }
+{
+    match after {
+        None => (),
+        Some(session) => {
+            out.write(b" ");
+            out.write(b"after");
+            write_spaced_session(out, script, session);
+        }
+    }
+}
+
 /// Writes the line that a session begins with.
-fn write_session_line<K: Sink>(out: &mut Out<'_, K>, plan: &SessionPlan)
-    ensures { AddsLine K.Sink out.old out.new (session_words plan.now) }
+fn write_session_line<K: Sink>(out: &mut Out<'_, K>, script: &Script, plan: &SessionPlan)
+    ensures { AddsLine K.Sink out.old out.new (session_words script.now plan.now) }
 {
     out.write(b"session");
     out.write(b" ");
     write_name(out, &plan.name);
     out.write(b" ");
     write_level(out, plan.level);
+    write_after(out, script, plan.after);
     out.write(b"\n");
 }
 
@@ -102,7 +117,7 @@ fn write_session_part<K: Sink>(
     ensures { Adds K.written K.faults out.old out.new
         (session_text script.now plan.now answers.now) }
 {
-    write_session_line(out, plan);
+    write_session_line(out, script, plan);
     write_answers(out, script, plan.lines.as_slice(), answers);
 }
 

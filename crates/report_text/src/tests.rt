@@ -19,7 +19,7 @@ fn write_back<K: Sink>(
 }
 
 /// Scripts, each with a report of its form.
-const WORKED: [(&str, &str); 11] = [
+const WORKED: [(&str, &str); 12] = [
     (
         "anna 1\nworkers 1\nkey a max\nsession s eventual\nput a 5\nput a 3\nget a\nend\n",
         "anna report 1\nsession s eventual\nput a 1 at 1\nput a 2 at 2\nget a @1 clock s:2 top 2 value 5\nfinal\na @1 clock s:2 top 2 value 5\nend\n",
@@ -27,6 +27,10 @@ const WORKED: [(&str, &str); 11] = [
     (
         "anna 1\nworkers 2\nfactor 2\nend\n",
         "anna report 1\nfinal\nend\n",
+    ),
+    (
+        "anna 2\nworkers 1\nkey a max\nsession s causal\nput a 5\nsession t causal after s\nput a 7\nget a\nend\n",
+        "anna report 2\nkey a max on 1\nsession s causal\nput a 1 at 1\nsession t causal after s\nput a 1 at 2\nget a @1 clock s:1,t:1 top 2 value 7 needs a{s:1}\nfinal\na @1 clock s:1,t:1 top 2 value 7\nend\n",
     ),
     (
         "anna 2\nworkers 3\nfactor 3\nkey a versions\nkey b set at 3 1\nkey c or factor 3\nkey d last at 2\nsession s eventual\nend\n",

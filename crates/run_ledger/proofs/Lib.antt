@@ -1,5 +1,6 @@
 pub mod ByNumberLemmas
 pub mod ByWorkerLemmas
+pub mod EndedLemmas
 pub mod GetsLemmas
 pub mod HeldLemmas
 pub mod MessagesLemmas

@@ -7,10 +7,9 @@ use Rattle.std.proofs.lemmas.List.Sums.{count_by-le-length}
 use Rattle.mail_contract.specs.Takes.{from_sender}
 use Rattle.placement.specs.Config.{IsOneOf}
 use Rattle.session_known.specs.Requests.{Sent, sent_from}
-use Rattle.session_known.specs.Session.{start}
 use Rattle.session_proxy.specs.Polls.{is_ask}
 use Rattle.session_proxy.specs.Share.{Share, lacks, open_most, open_sent}
-use Rattle.session_proxy.specs.State.{Course, Lists}
+use Rattle.session_proxy.specs.State.{Course, Lists, starting}
 use Rattle.run_ledger.proofs.ByWorkerLemmas.{all_by_worker, from_worker, from_worker-append, part_few}
 use Rattle.run_ledger.proofs.GetsLemmas.{as_many_replied, few_gets, gets_in, gets_to, gets_to-append, lines_as_many, none_of_puts}
 use Rattle.run_ledger.proofs.OpenAsksLemmas.{asks_or_puts, out_is}
@@ -51,11 +50,11 @@ module _ (its : Lists) (share : Share its) (worker : ℕ) where
       → length (gets_in (slice_index_or its.sent (worker - 1) [])) ≤ length (from_sender worker its.received) + more
   few_unheard within own more few =
       let course : Course = its.course in
-      let answered : List (ℕ × Sent) = sent_from course.table course.client start 1 (map length share.replies) course.lines course.answers in
+      let answered : List (ℕ × Sent) = sent_from course.table course.client (starting course) 1 (map length share.replies) course.lines course.answers in
       let asked : length (gets_in (slice_index_or its.sent (worker - 1) [])) ≡ gets_to worker answered + gets_to worker (open_sent course) =
       ap (λ those. length (gets_in those)) (share.sent worker within) ∙ gets_to-append worker answered (open_sent course)
       in
-      let lines = lines_as_many worker course.table course.client start 1 course.lines course.answers share.replies share.answered in
+      let lines = lines_as_many worker course.table course.client (starting course) 1 course.lines course.answers share.replies share.answered in
       let part = simp (from_worker-append, length-append) at (part_few share.received worker) in
       let heard = ap (λ those. length (from_sender worker those)) (all_by_worker its.received own) in
       omega (arith, asked, lines, part, heard, few)

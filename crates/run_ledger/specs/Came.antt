@@ -7,10 +7,10 @@ use Rattle.merge_world.specs.Effects.{cells_at}
 use Rattle.merge_world.specs.declared.private_map.KeyCells.{KeyCells}
 use Rattle.placement.specs.Config.{IsOneOf}
 use Rattle.composed_value.specs.Keyed.{kind_at}
-use Rattle.session_known.specs.Accepted.{client_of}
+use Rattle.session_known.specs.Accepted.{client_of, ends_of, origin_of}
 use Rattle.session_known.specs.Form.{final_places}
 use Rattle.session_known.specs.Requests.{requests_of}
-use Rattle.session_known.specs.Session.{Client, start}
+use Rattle.session_known.specs.Session.{Client, Knowledge, start}
 use Rattle.session_known.specs.declared.report.Answer.{Answer}
 use Rattle.session_known.specs.declared.report.FinalCell.{FinalCell}
 use Rattle.session_known.specs.declared.report.Report.{Report}
@@ -33,22 +33,22 @@ final_of key worker cells = record { key = key; worker = worker; clock = cells.w
 abbrev pub IsWhole : Ledger → FinalCell → Type 0
 IsWhole ledger cell = option_map (final_of cell.key cell.worker) (cells_at (worker_at ledger cell.worker).cells cell.key) ≡ Some cell
 
--- Of a session: all its lines are answered, by the replies to their asks, which are, in order, all that its box handed out, of workers alone; and
+-- Of a session that knows `origin` at its start: all its lines are answered, by the replies to their asks, which are, in order, all that its box handed out, of workers alone; and
 -- what came to each worker of it is, in order, what its lines send there.
-pub record CameOfSession (table : List (List ℕ)) (ledger : Ledger) (client : Client) (lines : List Line) (answers : List Answer) (heard : List (ℕ × PlainReply)) : Type 0 where
+pub record CameOfSession (table : List (List ℕ)) (ledger : Ledger) (client : Client) (origin : Knowledge) (lines : List Line) (answers : List Answer) (heard : List (ℕ × PlainReply)) : Type 0 where
   pub whole : length answers ≡ length lines
   pub replies : List (List PlainReply)
-  pub answered : AreAnswered table client start 1 lines answers replies
+  pub answered : AreAnswered table client (start origin) 1 lines answers replies
   pub heard_are : map (λ message. message.1) heard ≡ flat_map (λ answering. answering) replies
   pub of_workers : All (λ message. IsOneOf (length ledger.workers) message.0) heard
-  pub requests : All (λ worker. from_sender client.session worker.received ≡ to_worker worker.me (requests_of table client (map length replies) lines answers)) ledger.workers
+  pub requests : All (λ worker. from_sender client.session worker.received ≡ to_worker worker.me (requests_of table client origin (map length replies) lines answers)) ledger.workers
 
--- and so of the sessions from a number on
-abbrev pub CameOfSessions : List (List ℕ) → Ledger → ℕ → List SessionPlan → List (List Answer) → List (List (ℕ × PlainReply)) → Type 0
-CameOfSessions table ledger number [] [] [] = ⊤
-CameOfSessions table ledger number (plan ∷ plans) (answers ∷ others) (heard ∷ more) =
-    CameOfSession table ledger (client_of number plan) plan.lines answers heard × CameOfSessions table ledger (number + 1) plans others more
-CameOfSessions table ledger number plans answers heard = ⊥
+-- and so of the sessions from a number on, where `ends` is what each knows after its last line
+abbrev pub CameOfSessions : List (List ℕ) → Ledger → List Knowledge → ℕ → List SessionPlan → List (List Answer) → List (List (ℕ × PlainReply)) → Type 0
+CameOfSessions table ledger ends number [] [] [] = ⊤
+CameOfSessions table ledger ends number (plan ∷ plans) (answers ∷ others) (heard ∷ more) =
+    CameOfSession table ledger (client_of number plan) (origin_of ends plan.after) plan.lines answers heard × CameOfSessions table ledger ends (number + 1) plans others more
+CameOfSessions table ledger ends number plans answers heard = ⊥
 
 -- A batch of gossip came from another worker: each of its entries is the join of the puts on its key in some front of what that one received,
 -- and is not empty.
@@ -72,7 +72,7 @@ pub record CameToWorker (script : Script) (table : List (List ℕ)) (ledger : Le
 -- How a report of a script, whose keys live as the table says, came to be.
 pub record Came (script : Script) (table : List (List ℕ)) (report : Report) (ledger : Ledger) : Type 0 where
   pub numbered : map (λ worker. worker.me) ledger.workers ≡ range_with_len 1 script.config.workers
-  pub sessions : CameOfSessions table ledger 1 script.sessions report.answers ledger.heard
+  pub sessions : CameOfSessions table ledger (ends_of script report) 1 script.sessions report.answers ledger.heard
   pub workers : All (CameToWorker script table ledger) ledger.workers
   pub places : map (λ cell. (cell.key, cell.worker)) report.finals ≡ final_places script table
   pub finals : All (IsWhole ledger) report.finals

@@ -6,9 +6,9 @@ use Rattle.mail_contract.specs.Takes.{IsFront, from_sender}
 use Rattle.merge_world.specs.Effects.{cells_at}
 use Rattle.merge_world.specs.declared.private_map.KeyCells.{KeyCells}
 use Rattle.placement.specs.Config.{IsOneOf}
-use Rattle.session_known.specs.Accepted.{client_of}
+use Rattle.session_known.specs.Accepted.{client_of, ends_of, origin_of}
 use Rattle.session_known.specs.Form.{final_places}
-use Rattle.session_known.specs.Session.{Client}
+use Rattle.session_known.specs.Session.{Client, Knowledge}
 use Rattle.session_known.specs.declared.report.Report.{Report}
 use Rattle.session_known.specs.declared.script.Level.TheVariants.{Eventual}
 use Rattle.session_known.specs.declared.script.Script.{Script}
@@ -36,7 +36,7 @@ no_sealed = record {
 }
 
 abbrev pub no_session : sessions.Lists
-no_session = record { course = sessions.opening (record { session = 0; level = Eventual }) [] []; sent = []; received = [] }
+no_session = record { course = sessions.opening (record { session = 0; level = Eventual }) [] [] (sessions.WaitsFor 0); sent = []; received = [] }
 
 -- the workers, ascending, and the sessions of a run
 pub record Parties : Type 0 where
@@ -73,20 +73,25 @@ pub record IsSealed (script : Script) (table : List (List ℕ)) (worker : Sealed
   pub holds : HoldsReceived script.kinds worker.cells worker.lists.received [] worker.got []
   pub grown : (sender place : ℕ) (batch : Entries) → worker.lists.got sender place ≡ Some batch → worker.got sender place ≡ Some batch
 
--- A session of the script kept its share, and all its lines are answered.
-pub record HasEnded (table : List (List ℕ)) (workers : ℕ) (client : Client) (plan : SessionPlan) (session : sessions.Lists) : Type 0 where
+-- A session of the script, which knew `origin` at its start, kept its share, and all its lines are answered.
+pub record HasEnded (table : List (List ℕ)) (workers : ℕ) (client : Client) (origin : Knowledge) (plan : SessionPlan) (session : sessions.Lists) : Type 0 where
   pub client_is : session.course.client ≡ client
   pub table_is : session.course.table ≡ table
   pub lines_are : session.course.lines ≡ plan.lines
+  pub origin_is : session.course.origin ≡ sessions.Knew origin
   pub whole : length session.course.answers ≡ length session.course.lines
   pub asked : length session.sent ≡ workers
   pub share : proxies.Share session
 
--- and so all sessions, from a number on
-abbrev pub HaveEnded : List (List ℕ) → ℕ → ℕ → List SessionPlan → List sessions.Lists → Type 0
-HaveEnded table workers number [] [] = ⊤
-HaveEnded table workers number (plan ∷ plans) (session ∷ others) = HasEnded table workers (client_of number plan) plan session × HaveEnded table workers (number + 1) plans others
-HaveEnded table workers number plans sessions = ⊥
+-- what each knows then
+abbrev pub known_then : List sessions.Lists → List Knowledge
+known_then those = map (λ session. (sessions.state_now session.course).knows) those
+
+-- and so all sessions, from a number on, where `ends` is what each knows then
+abbrev pub HaveEnded : List (List ℕ) → ℕ → List Knowledge → ℕ → List SessionPlan → List sessions.Lists → Type 0
+HaveEnded table workers ends number [] [] = ⊤
+HaveEnded table workers ends number (plan ∷ plans) (session ∷ others) = HasEnded table workers (client_of number plan) (origin_of ends plan.after) plan session × HaveEnded table workers ends (number + 1) plans others
+HaveEnded table workers ends number plans sessions = ⊥
 
 -- What settling the boxes of a worker and a session told: the worker received all that the session sent it, and the session the first of
 -- what the worker replied.
@@ -103,7 +108,7 @@ pub record AreMates (worker other : ℕ) (hears tells : SealedWorker) : Type 0 w
 pub record AreDrained (script : Script) (table : List (List ℕ)) (report : Report) (parties : Parties) : Type 0 where
   pub numbered : map (λ worker. worker.lists.state.me) parties.workers ≡ range_with_len 1 script.config.workers
   pub workers : All (IsSealed script table) parties.workers
-  pub sessions : HaveEnded table script.config.workers 1 script.sessions parties.sessions
+  pub sessions : HaveEnded table script.config.workers (ends_of script report) 1 script.sessions parties.sessions
   -- boxes have messages of the parties alone
   pub of_sessions : All (λ worker. All (λ message. IsOneOf (length script.sessions) message.0) worker.lists.received) parties.workers
   pub of_workers : All (λ session. All (λ message. IsOneOf script.config.workers message.0) session.received) parties.sessions

@@ -1,16 +1,17 @@
 -- A session that goes on has done no less.
-use Rattle.std.specs.Prelude.{◌≡◌, ℕ, zero, suc, ◌+◌, ◌<◌, ◌≤◌, length, sum_by}
+use Rattle.std.specs.Prelude.{◌≡◌, ℕ, zero, suc, ◌+◌, ◌<◌, ◌≤◌, Bool, false, IsTrue, cond, length, sum_by}
 use Rattle.std.specs.List.{range_with_len}
-use Rattle.std.proofs.Common.{◌∙◌, refl, sym, subst, arith}
+use Rattle.std.proofs.Common.{◌∙◌, refl, sym, ap, subst, arith}
+use Rattle.std.proofs.lemmas.Bool.{false≢true}
 use Rattle.std.proofs.lemmas.List.Sums.{sum_by-cons}
 use Rattle.mail_contract.proofs.CountsLemmas.{no_fewer}
 use Rattle.placement.specs.Config.{IsOneOf}
 use Rattle.mail_contract.proofs.FrontLemmas.{front_short, front_through, front_whole}
-use Rattle.session_proxy.specs.State.{Lists}
-use Rattle.run_measure.proofs.MeasureLemmas.{asked_all, asked_of}
+use Rattle.session_proxy.specs.State.{Knew, Lists, Origin, WaitsFor, begins, has_begun}
+use Rattle.run_measure.proofs.MeasureLemmas.{asked_all, asked_of, begun_rises}
 use Rattle.run_measure.specs.Laws.{DoneRises, SessionsGoOnTwice, SessionsStay}
-use Rattle.run_measure.specs.Measure.{asked, asked_to, heard_from}
-use Rattle.run_measure.specs.Steps.{HasDone}
+use Rattle.run_measure.specs.Measure.{asked, asked_to, begun, heard_from}
+use Rattle.run_measure.specs.Steps.{HasDone, done}
 
 -- a session that stays as it is has gone on,
 pub goes_still : SessionsStay
@@ -18,6 +19,7 @@ goes_still lists = record {
   client = refl;
   table = refl;
   lines = refl;
+  origin = λ known is. is;
   workers = refl;
   answered = front_whole lists.course.answers;
   asked_more = λ worker of. front_whole (asked_to worker lists);
@@ -30,6 +32,7 @@ goes_through before between now first then = record {
   client = then.client ∙ first.client;
   table = then.table ∙ first.table;
   lines = then.lines ∙ first.lines;
+  origin = λ known is. then.origin known (first.origin known is);
   workers = then.workers ∙ first.workers;
   answered = front_through before.course.answers between.course.answers now.course.answers first.answered then.answered;
   asked_more = λ worker of.
@@ -66,4 +69,19 @@ took_more before now goes =
 -- and has done no less
 pub done_rises : DoneRises
 done_rises before now goes =
-    omega (arith, front_short before.course.answers now.course.answers goes.answered, sent_more before now goes, took_more before now goes)
+    omega (arith, begun_rises before now goes, front_short before.course.answers now.course.answers goes.answered, sent_more before now goes, took_more before now goes)
+
+-- one that had begun has still
+begins_still : (before now : Origin) → ((known : _) → before ≡ Knew known → now ≡ Knew known) → IsTrue (begins before) → IsTrue (begins now)
+begins_still (Knew known) now goes is = ap begins (goes known refl)
+begins_still (WaitsFor session) now goes is = absurd (false≢true is)
+
+pub begun_still : (before now : Lists) → HasDone before now → IsTrue (has_begun before.course) → IsTrue (has_begun now.course)
+begun_still before now goes is = begins_still before.course.origin now.course.origin goes.origin is
+
+-- and one that has begun since has done more
+pub done_begins : (before now : Lists) → HasDone before now → has_begun before.course ≡ false → IsTrue (has_begun now.course) → done before + 1 ≤ done now
+done_begins before now goes not_yet since =
+    let none : begun before ≡ 0 = ap (λ (is : Bool). cond is 1 0) not_yet in
+    let one : begun now ≡ 1 = ap (λ (is : Bool). cond is 1 0) since in
+    omega (arith, none, one, front_short before.course.answers now.course.answers goes.answered, sent_more before now goes, took_more before now goes)

@@ -1,10 +1,11 @@
 -- What the measure of a session is once a worker or the session has gone on.
-use Rattle.std.specs.Prelude.{◌≡◌, ℕ, zero, suc, ◌+◌, ◌-◌, ◌*◌, ◌≤◌, List, [], ◌∷◌, length, slice_get, slice_set, sum_by, Some}
+use Rattle.std.specs.Prelude.{◌≡◌, ℕ, zero, suc, ◌+◌, ◌-◌, ◌*◌, ◌≤◌, List, [], ◌∷◌, length, if◌then◌else◌, slice_get, slice_set, sum_by, Some}
 use Rattle.std.specs.List.{range_with_len}
 use Rattle.std.proofs.Common.{refl, sym, ap, subst, arith}
 use Rattle.std.proofs.lemmas.List.Sums.{sum_by-cons}
 use Rattle.std.proofs.lemmas.Option.{none-some, same_Some, slice_get_within}
 use Rattle.mail_contract.proofs.FrontLemmas.{front_short}
+use Rattle.session_known.specs.Session.{Knowledge}
 use Rattle.session_proxy.proofs.FewLemmas.{has_sent_few}
 use Rattle.session_proxy.specs.Lines.{most_of_line}
 use Rattle.session_proxy.specs.Share.{most_in_all}
@@ -13,7 +14,8 @@ use Rattle.worker_core.specs.State as workers
 use Rattle.mail_contract.proofs.CountsLemmas.{from_all, lists_counted}
 use Rattle.run_measure.specs.Laws.{HearsWorkers, PollsLowerTheMeasure, TurnsLowerTheMeasure}
 use Rattle.worker_core.specs.Share.{replies_to}
-use Rattle.run_measure.specs.Measure.{asked, asked_to, between, between_all, heard, heard_from, replied, taken, taken_of}
+use Rattle.run_measure.specs.Steps.{HasDone}
+use Rattle.run_measure.specs.Measure.{asked, asked_to, begun, between, between_all, heard, heard_from, replied, taken, taken_of}
 
 -- where one worker is another, what is on its way between a session and all workers changes by what is between it and that one
 one_set : (all : List workers.Lists) (first place : ℕ) (before now : workers.Lists) (session : ℕ) (its : sessions.Lists) → slice_get all place ≡ Some before
@@ -88,6 +90,22 @@ module _ (session : ℕ) (before now : sessions.Lists) where
       let heard_now = sum_by-cons (λ worker. heard worker now) first (range_with_len (first + 1) (length all)) in
       omega (arith, rest, here, asked_before, asked_now, heard_before, heard_now)
 
+-- a session that goes on has begun if it had
+begun_origin : (before now : sessions.Origin) → ((known : Knowledge) → before ≡ sessions.Knew known → now ≡ sessions.Knew known) → (if sessions.begins before then 1 else 0) ≤ (if sessions.begins now then 1 else 0)
+begun_origin (sessions.WaitsFor session) now goes = omega arith
+begun_origin (sessions.Knew known) now goes = subst (λ now. 1 ≤ (if sessions.begins now then 1 else 0)) (sym (goes known refl)) (omega arith)
+
+pub begun_rises : (before now : sessions.Lists) → HasDone before now → begun before ≤ begun now
+begun_rises before now goes = begun_origin before.course.origin now.course.origin goes.origin
+
+-- it counts once
+begun_once : (origin : sessions.Origin) → (if sessions.begins origin then 1 else 0) ≤ 1
+begun_once (sessions.WaitsFor session) = omega arith
+begun_once (sessions.Knew known) = omega arith
+
+pub begun_one : (its : sessions.Lists) → begun its ≤ 1
+begun_one its = begun_once its.course.origin
+
 -- a session that goes on lowers its measure by what it has done
 pub polls_lower : PollsLowerTheMeasure
 polls_lower all session before now goes share share_now hears hears_now as_many counted =
@@ -124,4 +142,7 @@ polls_lower all session before now goes share share_now hears hears_now as_many 
       share.few,
       share_now.few,
       front_short before.course.answers now.course.answers goes.answered,
+      begun_rises before now goes,
+      begun_one before,
+      begun_one now,
     )

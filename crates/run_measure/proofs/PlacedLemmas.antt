@@ -10,7 +10,7 @@ use Rattle.placement.specs.Asked.{home_at}
 use Rattle.placement.specs.Config.{IsOneOf}
 use Rattle.session_known.specs.Lawful.{required}
 use Rattle.session_known.specs.Requests.{Sent, asks_sent, puts_sent}
-use Rattle.session_known.specs.Session.{Client, State, after, held_puts, puts_committed, start, state_after}
+use Rattle.session_known.specs.Session.{Client, State, after, held_puts, puts_committed, state_after}
 use Rattle.session_known.specs.declared.report.Answer.{Answer}
 use Rattle.session_known.specs.declared.report.Answer.TheVariants as answers
 use Rattle.session_known.specs.declared.script.Level.{Level}
@@ -26,7 +26,7 @@ use Rattle.session_proxy.specs.Kept.{IsOn}
 use Rattle.session_proxy.specs.Lines.{AreReplicas, MayRun, most_asks, most_sent, puts_due}
 use Rattle.session_proxy.specs.Local.{key_asked, order_asked, worker_asked}
 use Rattle.session_proxy.specs.Share.{IsAsked, open_most}
-use Rattle.session_proxy.specs.State.{Lists, open_line, state_now}
+use Rattle.session_proxy.specs.State.{Lists, open_line, starting, state_now}
 use Rattle.run_measure.specs.Laws.{IsPlaced}
 
 -- the puts that a session holds after some lines are on keys of its table
@@ -130,5 +130,5 @@ goes_to_worker lists is place worker item there = by_line (open_line lists.cours
         (is.lines (length lists.course.answers) line low)
         in
         of_line (length lists.sent) lists.course.table is.replicas lists.course.client (state_now lists.course) (lists.course.asks + 1)
-        (held_on lists.course.table lists.course.client start lists.course.lines lists.course.answers is.lines (All-nil (IsOn lists.course.table)))
+        (held_on lists.course.table lists.course.client (starting lists.course) lists.course.lines lists.course.answers is.lines (All-nil (IsOn lists.course.table)))
         place worker item line may (sym (ap (λ list. slice_get list place) (open_most_is lists.course line at)) ∙ there)

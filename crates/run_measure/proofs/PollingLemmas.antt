@@ -14,6 +14,7 @@ use Rattle.session_proxy.specs.State.{Course, IsFixed, Lists}
 use Rattle.session_proxy.specs.declared.progress.Progress.{Progress}
 use Rattle.session_proxy.specs.declared.progress.Progress.TheVariants as progress
 use Rattle.run_measure.proofs.DoneLemmas.{sent_more, took_more}
+use Rattle.run_measure.proofs.MeasureLemmas.{begun_rises}
 use Rattle.run_measure.proofs.PlacedLemmas.{goes_to_worker}
 use Rattle.run_measure.specs.Laws.{HasPolled}
 use Rattle.run_measure.specs.Measure.{asked_to, heard_from}
@@ -53,6 +54,7 @@ module _ (before now : Lists) (fixed : IsFixed before.course now.course) (as_man
     client = fixed.client;
     table = fixed.table;
     lines = fixed.lines;
+    origin = λ known is. fixed.origin ∙ is;
     workers = as_many;
     answered = answered;
     asked_more = λ worker of. asked_more worker;
@@ -92,11 +94,12 @@ module _ (before now : Lists) (fixed : IsFixed before.course now.course) (as_man
       let sent = sent_more before now has in
       let took = took_more before now has in
       let answered = front_short before.course.answers now.course.answers has.answered in
+      let begins = begun_rises before now has in
       elim one [
-        | inl answers ↦ omega (arith, answers, sent, took)
+        | inl answers ↦ omega (arith, answers, sent, took, begins)
         | inr other ↦ elim other [
-          | inl sends ↦ omega (arith, sends, took, answered)
-          | inr takes ↦ omega (arith, takes, sent, answered)
+          | inl sends ↦ omega (arith, sends, took, answered, begins)
+          | inr takes ↦ omega (arith, takes, sent, answered, begins)
         ]
       ]
 

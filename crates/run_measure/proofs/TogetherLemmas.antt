@@ -13,7 +13,7 @@ use Rattle.worker_core.specs.State as workers
 use Rattle.run_measure.specs.Laws.{IsOfWorkers, TogetherLowerTheMeasure}
 use Rattle.run_measure.specs.Measure.{asked, asked_to, between_all, heard, heard_from, measure, measure_of_all, replied, taken, taken_of}
 use Rattle.run_measure.specs.Steps.{HasDone, done}
-use Rattle.run_measure.proofs.MeasureLemmas.{asked_all, asked_of, heard_all, heard_of}
+use Rattle.run_measure.proofs.MeasureLemmas.{asked_all, asked_of, begun_one, begun_rises, heard_all, heard_of}
 
 module _ (session : ℕ) (before now : sessions.Lists) where
   -- a session and a worker go on, and no more is taken between them than was sent, before and after
@@ -97,6 +97,9 @@ module _ (session : ℕ) (before now : sessions.Lists) where
         its.share.few,
         its_now.share.few,
         front_short before.course.answers now.course.answers goes.answered,
+        begun_rises before now goes,
+        begun_one before,
+        begun_one now,
       )
 
 -- and so of all sessions

@@ -1,5 +1,5 @@
 -- How much a session of a run still has to do.
-use Rattle.std.specs.Prelude.{◌≡◌, ℕ, ◌+◌, ◌-◌, ◌*◌, ◌≤◌, List, [], ◌∷◌, length, slice_get, slice_index_or, sum_by, Some}
+use Rattle.std.specs.Prelude.{◌≡◌, ℕ, ◌+◌, ◌-◌, ◌*◌, ◌≤◌, List, [], ◌∷◌, length, if◌then◌else◌, slice_get, slice_index_or, sum_by, Some}
 use Rattle.mail_contract.specs.Takes.{from_sender}
 use Rattle.session_proxy.specs.Share.{most_in_all}
 use Rattle.session_proxy.specs.State as sessions
@@ -7,6 +7,10 @@ use Rattle.store_msg.specs.Reply.{PlainReply}
 use Rattle.store_msg.specs.declared.request.Request.{Request}
 use Rattle.worker_core.specs.Share.{replies_to}
 use Rattle.worker_core.specs.State as workers
+
+-- 1 where the session has begun, else 0
+abbrev pub begun : sessions.Lists → ℕ
+begun its = if sessions.has_begun its.course then 1 else 0
 
 -- the lines of a session that are not answered
 abbrev pub lines_left : sessions.Lists → ℕ
@@ -49,10 +53,10 @@ abbrev pub between_all : ℕ → sessions.Lists → ℕ → List workers.Lists �
 between_all session its number [] = 0
 between_all session its number (worker ∷ others) = between session its number worker + between_all session its (number + 1) others
 
--- The measure of a session: its lines that are not answered, three times the requests that it may still send, twice those that no worker took, and
+-- The measure of a session: 1 where it has not begun, its lines that are not answered, three times the requests that it may still send, twice those that no worker took, and
 -- the replies that it did not take.
 abbrev pub measure : List workers.Lists → ℕ → sessions.Lists → ℕ
-measure all session its = lines_left its + 3 * may_send its + between_all session its 1 all
+measure all session its = (1 - begun its) + lines_left its + 3 * may_send its + between_all session its 1 all
 
 -- of all sessions from a number on
 abbrev pub measure_of_all : List workers.Lists → ℕ → List sessions.Lists → ℕ

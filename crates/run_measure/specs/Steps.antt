@@ -2,11 +2,12 @@
 use Rattle.std.specs.Prelude.{◌≡◌, ℕ, ◌+◌, ◌≤◌, List, length, slice_get, sum_by, Some, None}
 use Rattle.mail_contract.specs.Takes.{IsFront}
 use Rattle.placement.specs.Config.{IsOneOf}
+use Rattle.session_known.specs.Session.{Knowledge}
 use Rattle.session_proxy.specs.State as sessions
 use Rattle.worker_core.specs.Share.{replies_to}
 use Rattle.worker_core.specs.Showing.{ShowsMore}
 use Rattle.worker_core.specs.State as workers
-use Rattle.run_measure.specs.Measure.{asked_to, heard_from, replied, taken, taken_of}
+use Rattle.run_measure.specs.Measure.{asked_to, begun, heard_from, replied, taken, taken_of}
 
 -- A worker has gone on: what it took of each session and what it replied to it goes on from what that was before, and no more was replied to one than
 -- was taken of it.
@@ -21,15 +22,16 @@ pub record HasServed (before now : workers.Lists) : Type 0 where
   pub shows : ShowsMore before now
   pub kept : now.state.kept ≡ None
 
--- how much a session has done: lines answered, requests sent, and replies taken
+-- how much a session has done: it has begun, lines answered, requests sent, and replies taken
 abbrev pub done : sessions.Lists → ℕ
-done its = length its.course.answers + sum_by length its.sent + length its.received
+done its = begun its + length its.course.answers + sum_by length its.sent + length its.received
 
--- A session has gone on: what it answered, what it sent to each worker and what it took of each goes on from what that was before.
+-- A session has gone on: once it has begun, what it knew at its start stays; and what it answered, what it sent to each worker and what it took of each goes on from what that was before.
 pub record HasDone (before now : sessions.Lists) : Type 0 where
   pub client : now.course.client ≡ before.course.client
   pub table : now.course.table ≡ before.course.table
   pub lines : now.course.lines ≡ before.course.lines
+  pub origin : (known : Knowledge) → before.course.origin ≡ sessions.Knew known → now.course.origin ≡ sessions.Knew known
   pub workers : length now.sent ≡ length before.sent
   pub answered : IsFront before.course.answers now.course.answers
   pub asked_more : (worker : ℕ) → IsOneOf (length before.sent) worker → IsFront (asked_to worker before) (asked_to worker now)

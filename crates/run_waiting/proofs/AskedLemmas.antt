@@ -10,7 +10,7 @@ use Rattle.placement.specs.Asked.{home_at}
 use Rattle.placement.specs.Config.{IsOneOf}
 use Rattle.session_known.specs.Lawful.{required}
 use Rattle.session_known.specs.Requests.{Sent, SentAsk, SentPut, asks_by, asks_sent, sent_by, sent_from}
-use Rattle.session_known.specs.Session.{Client, State, after, puts_by, start}
+use Rattle.session_known.specs.Session.{Client, State, after, puts_by}
 use Rattle.session_known.specs.declared.report.Answer.{Answer}
 use Rattle.session_known.specs.declared.script.Line.{Line}
 use Rattle.session_known.specs.declared.script.Line.TheVariants as lines
@@ -24,7 +24,7 @@ use Rattle.session_proxy.specs.Lines.{most_asks}
 use Rattle.session_proxy.specs.Local.{key_asked, order_asked}
 use Rattle.session_proxy.specs.Run.{AreAnswered, IsAnswered}
 use Rattle.session_proxy.specs.Share.{IsAsked, Share, open_most, open_sent, request_of}
-use Rattle.session_proxy.specs.State.{Course, Lists, state_now}
+use Rattle.session_proxy.specs.State.{Course, Lists, starting, state_now}
 use Rattle.run_ledger.proofs.MessagesLemmas.{all_to_worker}
 use Rattle.run_ledger.proofs.OpenAsksLemmas.{asks_it}
 
@@ -125,12 +125,12 @@ pub sent_below : (its : Lists) → Share its → (worker : ℕ) → IsOneOf (len
 sent_below its share worker within =
     let course : Course = its.course in
     let next : ℕ = course.asks + 1 + course.out in
-    let answered : List (ℕ × Sent) = sent_from course.table course.client start 1 (map length share.replies) course.lines course.answers in
+    let answered : List (ℕ × Sent) = sent_from course.table course.client (starting course) 1 (map length share.replies) course.lines course.answers in
     let asks = share.asks in
     subst (All (IsBelow next)) (sym (share.sent worker within))
     (all_to_worker (IsBelow next) worker (answered ++ open_sent course)
     (All-append (λ (one : ℕ × Sent). IsBelow next (request_of one.1)) answered (open_sent course)
     (All-weaker (λ (one : ℕ × Sent). IsBelow (1 + sum_by length share.replies) (request_of one.1)) (λ (one : ℕ × Sent). IsBelow next (request_of one.1))
     (λ one. of_number_weaker (λ ask. ask < 1 + sum_by length share.replies) (λ ask. ask < next) (λ ask low. omega (arith, low, asks)) (request_of one.1))
-    answered (lines_below course.table course.client start 1 course.lines course.answers share.replies share.answered))
+    answered (lines_below course.table course.client (starting course) 1 course.lines course.answers share.replies share.answered))
     (first_below (course.asks + 1) course.out (open_most course) (open_numbered course))))

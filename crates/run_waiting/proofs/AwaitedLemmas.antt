@@ -6,12 +6,11 @@ use Rattle.mail_contract.proofs.WovenLemmas.{from_sender_more}
 use Rattle.mail_contract.specs.Takes.{from_sender}
 use Rattle.placement.specs.Config.{IsOneOf}
 use Rattle.session_known.specs.Requests.{Sent, SentAsk, sent_from}
-use Rattle.session_known.specs.Session.{start}
 use Rattle.store_msg.specs.declared.request.Request.{Request}
 use Rattle.store_msg.specs.declared.request.Request.TheVariants as requests
 use Rattle.session_proxy.proofs.SentLemmas.{take_one_more}
 use Rattle.session_proxy.specs.Share.{Share, awaited, lacks, open_most, open_sent, request_of, to_worker}
-use Rattle.session_proxy.specs.State.{Course, Lists}
+use Rattle.session_proxy.specs.State.{Course, Lists, starting}
 use Rattle.run_ledger.proofs.OpenAsksLemmas.{asks_it, awaited_at, out_is}
 use Rattle.run_measure.proofs.PlacedLemmas.{goes_to_worker}
 use Rattle.run_measure.specs.Laws.{IsPlaced}
@@ -42,7 +41,7 @@ module _ (its : Lists) (share : Share its) (placed : IsPlaced its) (worker ask k
   pub sent_last : (front : List Request) × (slice_index_or its.sent (worker - 1) [] ≡ front ++ requests.Get ask key required ∷ [])
   sent_last =
       let course : Course = its.course in
-      let answered : List (ℕ × Sent) = sent_from course.table course.client start 1 (map length share.replies) course.lines course.answers in
+      let answered : List (ℕ × Sent) = sent_from course.table course.client (starting course) 1 (map length share.replies) course.lines course.answers in
       let front : List (ℕ × Sent) = answered ++ take last (open_most course) in
       let next : course.out ≡ last + 1 = omega (arith, some_out) in
       let all : answered ++ open_sent course ≡ front ++ item ∷ [] =

@@ -86,10 +86,10 @@ with_state reader sessions = record {
 }
 
 -- there is a line more
-one_more : (line : Line) (done : List SessionPlan) (last : SessionPlan) (commands : ℕ) → commands ≡ sum_by (λ plan. length plan.lines) (done ++ last ∷ []) → commands + 1 ≡ sum_by (λ plan. length plan.lines) (done ++ record { name = last.name; level = last.level; lines = last.lines ++ line ∷ [] } ∷ [])
+one_more : (line : Line) (done : List SessionPlan) (last : SessionPlan) (commands : ℕ) → commands ≡ sum_by (λ plan. length plan.lines) (done ++ last ∷ []) → commands + 1 ≡ sum_by (λ plan. length plan.lines) (done ++ record { name = last.name; level = last.level; after = last.after; lines = last.lines ++ line ∷ [] } ∷ [])
 one_more line done last commands is =
     let f : SessionPlan → ℕ = λ plan. length plan.lines in
-    let more : SessionPlan = record { name = last.name; level = last.level; lines = last.lines ++ line ∷ [] } in
+    let more : SessionPlan = record { name = last.name; level = last.level; after = last.after; lines = last.lines ++ line ∷ [] } in
     omega (arith, sum_by_push f done last, sum_by_push f done more, length-append last.lines (line ∷ []))
 
 -- a command that is added to the last session

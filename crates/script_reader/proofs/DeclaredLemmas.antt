@@ -1,7 +1,7 @@
 -- The lines that declare: what the reader keeps after each, and which fault a line has.
-use Rattle.std.proofs.Common.{◌≡◌, ℕ, ◌+◌, ◌<◌, ◌≤◌, Bool, true, false, not, cond, nat_le, ◌||◌, ◌&&◌, List, [], ◌∷◌, ◌++◌, map, length, drop, Option, Some, None, is_some, unwrap_or, IfSome, Result, Ok, Err, MatchResult, MatchOption, All, Vec, Global, refl, sym, ap, subst, ◌∙◌, arith}
+use Rattle.std.proofs.Common.{◌≡◌, ℕ, ◌+◌, ◌<◌, ◌≤◌, Bool, true, false, not, cond, nat_le, ◌||◌, ◌&&◌, List, [], ◌∷◌, ◌++◌, map, length, drop, slice_index_or, Option, Some, None, is_some, unwrap_or, IfSome, Result, Ok, Err, MatchResult, MatchOption, All, Vec, Global, refl, sym, ap, subst, ◌∙◌, arith}
 use Rattle.std.specs.List.{list_any, sum_by}
-use Rattle.std.specs.Option.{option_map_or}
+use Rattle.std.specs.Option.{option_map, option_map_or}
 use Rattle.std.specs.Str.{bytes_eq}
 use Rattle.std.proofs.lemmas.Bool.{and_parts, or_parts, not-true, false≢true, both_ways}
 use Rattle.std.proofs.lemmas.Bool.Decides.{nat_tests}
@@ -21,10 +21,10 @@ use Rattle.session_known.specs.declared.script.Level.TheVariants.{Eventual}
 use Rattle.session_known.specs.declared.script.Line.{Line}
 use Rattle.session_known.specs.declared.script.SessionPlan.{SessionPlan}
 use Rattle.script_reader.specs.Entries.{AreKeyWords, AreSessionWords}
-use Rattle.script_reader.specs.Faults.{Context, level_of, sessions_of, may_follow, may_have, suits, is_in_version, is_declared, has_repeat, is_within, code_of}
+use Rattle.script_reader.specs.Faults.{Context, level_of, sessions_of, has_causal, lacks_name, is_unknown, may_follow, may_have, suits, is_in_version, is_declared, has_repeat, is_within, code_of}
 use Rattle.script_reader.proofs.FaultsLaws.{code_number, code_name, code_twice, code_unknown, code_limit, code_transaction, code_none}
 use Rattle.script_reader.specs.Reader.{so_far, plans_of, begun_of, AreKept, IsKept, SuitsPlace, IsFaultOf, IsNameFault, HasRead, Reads, HasOpened}
-use Rattle.script_reader.specs.Said.{place_of, with_name, key_numbers, pins_by, factor_by, pins_said, factor_said}
+use Rattle.script_reader.specs.Said.{place_of, with_name, session_number, predecessor_in, after_said, key_numbers, pins_by, factor_by, pins_said, factor_said}
 use Rattle.script_reader.proofs.ValidListsLaws.{within_is, own_factor, are_workers, no_repeat, name_new}
 use Rattle.script_reader.specs.Words.{number_said, is_number, has_non_number, number_of, AreNumbers, is_name, level_said}
 use Rattle.script_reader.specs.declared.code.Code.{Code}
@@ -253,49 +253,89 @@ name_fault word code faults.NoMemory is gives = absurd is
 
 -- ---- sessions
 
--- what holds of the name and the level holds of the words
-at_session : (P : List (List ℕ) → Type 0) (words : List (List ℕ)) (name : List ℕ) (level : Level) → AreSessionWords words name level → ((word : List ℕ) → level_said word ≡ Some level → P (name ∷ word ∷ [])) → P words
-at_session P [] name level are holds = absurd (false≢true are.may_stand)
-at_session P (first ∷ []) name level are holds = absurd (false≢true are.may_stand)
-at_session P (first ∷ word ∷ []) name level are holds = subst (λ (n : List ℕ). P (n ∷ word ∷ [])) (sym are.name_is) (holds word are.level_is)
-at_session P (first ∷ word ∷ other ∷ words) name level are holds = absurd (false≢true are.may_stand)
+-- what holds of the name and the words after it holds of the words
+at_session : (P : List (List ℕ) → Type 0) (words : List (List ℕ)) (name : List ℕ) (level : Level) (after : Option (List ℕ)) → AreSessionWords words name level after
+    → ((rest : List (List ℕ)) → AreSessionWords (name ∷ rest) name level after → P (name ∷ rest)) → P words
+at_session P [] name level after are holds = absurd (false≢true are.may_stand)
+at_session P (first ∷ rest) name level after are holds =
+    let named : AreSessionWords (name ∷ rest) name level after = subst (λ (n : List ℕ). AreSessionWords (n ∷ rest) name level after) are.name_is are in
+    subst (λ (n : List ℕ). P (n ∷ rest)) (sym are.name_is) (holds rest named)
 
-pub session_name : (context : Context) (words : List (List ℕ)) (name : List ℕ) (level : Level) → AreSessionWords words name level → SuitsPlace context keywords.Session words → is_name name ≡ false → code_of context keywords.Session words ≡ Some codes_of.Name
-session_name context words name level are stands unnamed =
-    at_session (λ words. SuitsPlace context keywords.Session words → code_of context keywords.Session words ≡ Some codes_of.Name) words name level are
-    (λ word said stands. code_name _ _ _ stands.header stands.word refl (ap not unnamed)) stands
+-- the session that one comes after is among those so far and causal, where one is named
+abbrev pub HasPredecessor : Context → Option (List ℕ) → Bool → Type 0
+HasPredecessor context after lacks = option_map_or (λ other. not (has_causal context.script.sessions other)) after false ≡ lacks
 
-pub session_twice : (context : Context) (words : List (List ℕ)) (name : List ℕ) (level : Level) → AreSessionWords words name level → SuitsPlace context keywords.Session words → is_name name ≡ true → list_any (bytes_eq name) (sessions_of context) ≡ true → code_of context keywords.Session words ≡ Some codes_of.Twice
-session_twice context words name level are stands named twice =
-    at_session (λ words. SuitsPlace context keywords.Session words → code_of context keywords.Session words ≡ Some codes_of.Twice) words name level are
-    (λ word said stands. code_twice _ _ _ stands.header stands.word refl (ap not named) twice) stands
+-- the names of a session's line are names
+pub record AreNames (name : List ℕ) (after : Option (List ℕ)) : Type 0 where
+  pub own : is_name name ≡ true
+  pub other : option_map_or is_name after true ≡ true
 
-pub session_limit : (context : Context) (words : List (List ℕ)) (name : List ℕ) (level : Level) → AreSessionWords words name level → SuitsPlace context keywords.Session words → is_name name ≡ true → list_any (bytes_eq name) (sessions_of context) ≡ false → 16 ≤ length context.script.sessions → code_of context keywords.Session words ≡ Some codes_of.Limit
-session_limit context words name level are stands named once many =
-    at_session (λ words. SuitsPlace context keywords.Session words → code_of context keywords.Session words ≡ Some codes_of.Limit) words name level are
-    (λ word said stands. code_limit _ _ _ stands.header stands.word refl (ap not named) once refl refl (at_most_is many)) stands
+-- so the line lacks none
+names_fine : (name : List ℕ) (rest : List (List ℕ)) (level : Level) (after : Option (List ℕ)) → AreSessionWords (name ∷ rest) name level after → AreNames name after → lacks_name keywords.Session (name ∷ rest) ≡ false
+names_fine name rest level after are names = λ i. not (names.own i && (ap (λ other. option_map_or is_name other true) are.after_is ∙ names.other) i)
 
-pub session_begun : (context : Context) (words : List (List ℕ)) (name : List ℕ) (level : Level) → AreSessionWords words name level → SuitsPlace context keywords.Session words → is_name name ≡ true → list_any (bytes_eq name) (sessions_of context) ≡ false → length context.script.sessions < 16 → context.begun ≡ true → code_of context keywords.Session words ≡ Some codes_of.Transaction
-session_begun context words name level are stands named once few begun =
-    at_session (λ words. SuitsPlace context keywords.Session words → code_of context keywords.Session words ≡ Some codes_of.Transaction) words name level are
-    (λ word said stands. code_transaction _ _ _ stands.header stands.word refl (ap not named) once refl refl (at_least_is few) begun) stands
+-- and the line's test of the session that it comes after is that of its name
+predecessor_is : (context : Context) (name : List ℕ) (rest : List (List ℕ)) (level : Level) (after : Option (List ℕ)) (lacks : Bool) → AreSessionWords (name ∷ rest) name level after → HasPredecessor context after lacks → is_unknown context keywords.Session (name ∷ rest) ≡ lacks
+predecessor_is context name rest level after lacks are has = ap (λ other. option_map_or (λ other. not (has_causal context.script.sessions other)) other false) are.after_is ∙ has
+
+-- what is asked of a line that begins a session
+module _ (context : Context) (words : List (List ℕ)) (name : List ℕ) (level : Level) (after : Option (List ℕ)) (are : AreSessionWords words name level after) (stands : SuitsPlace context keywords.Session words) where
+  abbrev Has : Code → List (List ℕ) → Type 0
+  Has code words = SuitsPlace context keywords.Session words → code_of context keywords.Session words ≡ Some code
+
+  pub session_name : is_name name ≡ false → code_of context keywords.Session words ≡ Some codes_of.Name
+  session_name unnamed =
+      at_session (Has codes_of.Name) words name level after are
+      (λ rest are stands. code_name _ _ _ stands.header stands.word refl (ap (λ named. not (named && option_map_or is_name (predecessor_in (name ∷ rest)) true)) unnamed)) stands
+
+  pub session_other_name : is_name name ≡ true → option_map_or is_name after true ≡ false → code_of context keywords.Session words ≡ Some codes_of.Name
+  session_other_name named unnamed =
+      at_session (Has codes_of.Name) words name level after are
+      (λ rest are stands. code_name _ _ _ stands.header stands.word refl (λ i. not (named i && (ap (λ other. option_map_or is_name other true) are.after_is ∙ unnamed) i))) stands
+
+  pub session_twice : AreNames name after → list_any (bytes_eq name) (sessions_of context) ≡ true → code_of context keywords.Session words ≡ Some codes_of.Twice
+  session_twice names twice =
+      at_session (Has codes_of.Twice) words name level after are
+      (λ rest are stands. code_twice _ _ _ stands.header stands.word refl (names_fine name rest level after are names) twice) stands
+
+  pub session_unknown : AreNames name after → list_any (bytes_eq name) (sessions_of context) ≡ false → HasPredecessor context after true → code_of context keywords.Session words ≡ Some codes_of.Unknown
+  session_unknown names once lacks =
+      at_session (Has codes_of.Unknown) words name level after are
+      (λ rest are stands. code_unknown _ _ _ stands.header stands.word refl (names_fine name rest level after are names) once (predecessor_is context name rest level after true are lacks)) stands
+
+  pub session_limit : AreNames name after → list_any (bytes_eq name) (sessions_of context) ≡ false → HasPredecessor context after false → 16 ≤ length context.script.sessions → code_of context keywords.Session words ≡ Some codes_of.Limit
+  session_limit names once has many =
+      at_session (Has codes_of.Limit) words name level after are
+      (λ rest are stands. code_limit _ _ _ stands.header stands.word refl (names_fine name rest level after are names) once (predecessor_is context name rest level after false are has) refl (at_most_is many)) stands
+
+  pub session_begun : AreNames name after → list_any (bytes_eq name) (sessions_of context) ≡ false → HasPredecessor context after false → length context.script.sessions < 16 → context.begun ≡ true → code_of context keywords.Session words ≡ Some codes_of.Transaction
+  session_begun names once has few begun =
+      at_session (Has codes_of.Transaction) words name level after are
+      (λ rest are stands. code_transaction _ _ _ stands.header stands.word refl (names_fine name rest level after are names) once (predecessor_is context name rest level after false are has) refl (at_least_is few) begun) stands
 
 -- a session is begun after the line of workers
 pub session_follows : (context : Context) (words : List (List ℕ)) → SuitsPlace context keywords.Session words → context.has_workers ≡ true
 session_follows context words stands = follows context keywords.Session words stands
 
-pub session_read : (old new : Reader) (words : List (List ℕ)) (name : List ℕ) (plan : SessionPlan) → IsKept old → AreSessionWords words name plan.level → SuitsPlace (so_far old) keywords.Session words
-    → is_name name ≡ true → list_any (bytes_eq name) (sessions_of (so_far old)) ≡ false → length (plans_of old.sessions) < 16 → begun_of old.sessions ≡ false
-    → plan.name ≡ name → plan.lines ≡ [] → HasOpened old new plan → HasRead old new keywords.Session words
-session_read old new words name plan kept are stands named once few ended name_is empty opened =
-    at_session (λ words. SuitsPlace (so_far old) keywords.Session words → HasRead old new keywords.Session words) words name plan.level are
-    (λ word said stands.
-    let has : old.has_workers ≡ true = session_follows (so_far old) (name ∷ word ∷ []) stands in
+-- what the plan of a session has of its line
+pub record IsPlanOf (named : List (List ℕ)) (name : List ℕ) (after : Option (List ℕ)) (plan : SessionPlan) : Type 0 where
+  pub name_is : plan.name ≡ name
+  pub after_is : plan.after ≡ option_map (session_number named) after
+  pub empty : plan.lines ≡ []
+
+pub session_read : (old new : Reader) (words : List (List ℕ)) (name : List ℕ) (after : Option (List ℕ)) (plan : SessionPlan) → IsKept old → AreSessionWords words name plan.level after → SuitsPlace (so_far old) keywords.Session words
+    → AreNames name after → list_any (bytes_eq name) (sessions_of (so_far old)) ≡ false → HasPredecessor (so_far old) after false → length (plans_of old.sessions) < 16 → begun_of old.sessions ≡ false
+    → IsPlanOf old.named name after plan → HasOpened old new plan → HasRead old new keywords.Session words
+session_read old new words name after plan kept are stands names once has_other few ended is opened =
+    at_session (λ words. SuitsPlace (so_far old) keywords.Session words → HasRead old new keywords.Session words) words name plan.level after are
+    (λ rest are stands.
+    let has : old.has_workers ≡ true = session_follows (so_far old) (name ∷ rest) stands in
     let headed : old.has_header ≡ true = kept.headed has in
-    let level_is : plan.level ≡ unwrap_or (level_said word) Eventual = sym (ap (λ said. unwrap_or said Eventual) said) in
+    let level_is : plan.level ≡ unwrap_or (level_said (slice_index_or (name ∷ rest) 1 [])) Eventual = sym (ap (λ said. unwrap_or said Eventual) are.level_is) in
+    let after_is : plan.after ≡ after_said old.named (name ∷ rest) = is.after_is ∙ ap (option_map (session_number old.named)) (sym are.after_is) in
     record {
       kept = opened.kept;
-      faultless = code_none _ _ _ stands.header stands.word refl (ap not named) once refl refl (at_least_is few) ended;
+      faultless = code_none _ _ _ stands.header stands.word refl (names_fine name rest plan.level after are names) once (predecessor_is (so_far old) name rest plan.level after false are has_other) refl (at_least_is few) ended;
       added = opened.added ∙ (λ i. record {
         named = old.named;
         has_header = headed i;
@@ -307,7 +347,7 @@ session_read old new words name plan kept are stands named once few ended name_i
           config = old.config;
           round = old.round;
           kinds = old.kinds.items;
-          sessions = plans_of old.sessions ++ record { name = name_is i; level = level_is i; lines = empty i } ∷ [];
+          sessions = plans_of old.sessions ++ record { name = is.name_is i; level = level_is i; after = after_is i; lines = is.empty i } ∷ [];
         };
         begun = begun_of old.sessions;
       });
@@ -315,11 +355,11 @@ session_read old new words name plan kept are stands named once few ended name_i
     stands
 
 -- what is told of a session's line
-pub session_told : (old new : Reader) (result : Result (Unit {0}) LineFault) (words : List (List ℕ)) (name : List ℕ) (plan : SessionPlan) → IsKept old → AreSessionWords words name plan.level → SuitsPlace (so_far old) keywords.Session words
-    → is_name name ≡ true → list_any (bytes_eq name) (sessions_of (so_far old)) ≡ false → length (plans_of old.sessions) < 16 → begun_of old.sessions ≡ false
-    → plan.name ≡ name → plan.lines ≡ [] → MatchResult result (λ _. HasOpened old new plan) (λ fault. fault ≡ faults.NoMemory) → Reads old result new keywords.Session words
-session_told old new (Ok _) words name plan kept are stands named once few ended name_is empty opened = session_read old new words name plan kept are stands named once few ended name_is empty opened
-session_told old new (Err fault) words name plan kept are stands named once few ended name_is empty is = subst (IsFaultOf (code_of (so_far old) keywords.Session words)) (sym is) tt
+pub session_told : (old new : Reader) (result : Result (Unit {0}) LineFault) (words : List (List ℕ)) (name : List ℕ) (after : Option (List ℕ)) (plan : SessionPlan) → IsKept old → AreSessionWords words name plan.level after → SuitsPlace (so_far old) keywords.Session words
+    → AreNames name after → list_any (bytes_eq name) (sessions_of (so_far old)) ≡ false → HasPredecessor (so_far old) after false → length (plans_of old.sessions) < 16 → begun_of old.sessions ≡ false
+    → IsPlanOf old.named name after plan → MatchResult result (λ _. HasOpened old new plan) (λ fault. fault ≡ faults.NoMemory) → Reads old result new keywords.Session words
+session_told old new (Ok _) words name after plan kept are stands names once has few ended is opened = session_read old new words name after plan kept are stands names once has few ended is opened
+session_told old new (Err fault) words name after plan kept are stands names once has few ended is why = subst (IsFaultOf (code_of (so_far old) keywords.Session words)) (sym why) tt
 
 -- the first session
 pub opened_first : (reader : Reader) (plan : SessionPlan) (placement : List (List ℕ)) (done : Vec SessionPlan Global) → IsKept reader → reader.has_workers ≡ true → plan.lines ≡ [] → reader.sessions ≡ None → IsPlacement reader.config placement → done.items ≡ []
@@ -355,23 +395,26 @@ opened_first reader plan placement done kept has empty first placed_is none = re
   };
 }
 
--- a session among those so far
-pub among_sessions : (sessions : Option Sessions) (own : Sessions) (name : List ℕ) → sessions ≡ Some own → list_any (bytes_eq name) (map (λ plan. plan.name) (plans_of sessions)) ≡ (list_any (λ plan. bytes_eq name plan.name) own.done.items || bytes_eq name own.last.name)
-among_sessions sessions own name is =
-    ap (λ sessions. list_any (bytes_eq name) (map (λ plan. plan.name) (plans_of sessions))) is
-    ∙ any_mapped (bytes_eq name) (λ (plan : SessionPlan). plan.name) (own.done.items ++ own.last ∷ [])
-    ∙ list_any-append (λ (plan : SessionPlan). bytes_eq name plan.name) own.done.items (own.last ∷ [])
-    ∙ ap (λ last. list_any (λ (plan : SessionPlan). bytes_eq name plan.name) own.done.items || last) (sym (or_false (bytes_eq name own.last.name)))
+-- a session that passes a test among those so far: one before the last, or the last
+among_sessions : (test : SessionPlan → Bool) (sessions : Option Sessions) (own : Sessions) → sessions ≡ Some own → list_any test (plans_of sessions) ≡ (list_any test own.done.items || test own.last)
+among_sessions test sessions own is =
+    ap (λ sessions. list_any test (plans_of sessions)) is
+    ∙ list_any-append test own.done.items (own.last ∷ [])
+    ∙ ap (λ last. list_any test own.done.items || last) (sym (or_false (test own.last)))
 
--- the name is that of a session before the last
-pub session_met : (sessions : Option Sessions) (own : Sessions) (name : List ℕ) (met : Bool) → met ≡ list_any (λ plan. bytes_eq name plan.name) own.done.items → sessions ≡ Some own → met ≡ true → met ≡ list_any (bytes_eq name) (map (λ plan. plan.name) (plans_of sessions))
-session_met sessions own name met is own_is there =
-    there ∙ sym (either_first (list_any (λ plan. bytes_eq name plan.name) own.done.items) (bytes_eq name own.last.name) (sym is ∙ there)) ∙ sym (among_sessions sessions own name own_is)
+-- a session before the last passes
+pub session_met : (test : SessionPlan → Bool) (sessions : Option Sessions) (own : Sessions) (met : Bool) → met ≡ list_any test own.done.items → sessions ≡ Some own → met ≡ true → met ≡ list_any test (plans_of sessions)
+session_met test sessions own met is own_is there =
+    there ∙ sym (either_first (list_any test own.done.items) (test own.last) (sym is ∙ there)) ∙ sym (among_sessions test sessions own own_is)
 
--- the name is that of the last session, or of none
-pub session_last : (sessions : Option Sessions) (own : Sessions) (name : List ℕ) (met last : Bool) → met ≡ list_any (λ plan. bytes_eq name plan.name) own.done.items → sessions ≡ Some own → met ≡ false → last ≡ bytes_eq name own.last.name → last ≡ list_any (bytes_eq name) (map (λ plan. plan.name) (plans_of sessions))
-session_last sessions own name met last is own_is missing last_is =
-    last_is ∙ ap (λ before. before || bytes_eq name own.last.name) (sym missing ∙ is) ∙ sym (among_sessions sessions own name own_is)
+-- the last session passes, or none
+pub session_last : (test : SessionPlan → Bool) (sessions : Option Sessions) (own : Sessions) (met last : Bool) → met ≡ list_any test own.done.items → sessions ≡ Some own → met ≡ false → last ≡ test own.last → last ≡ list_any test (plans_of sessions)
+session_last test sessions own met last is own_is missing last_is =
+    last_is ∙ ap (λ before. before || test own.last) (sym missing ∙ is) ∙ sym (among_sessions test sessions own own_is)
+
+-- a session of the name among those so far
+pub named_among : (sessions : Option Sessions) (name : List ℕ) → list_any (λ plan. bytes_eq name plan.name) (plans_of sessions) ≡ list_any (bytes_eq name) (map (λ plan. plan.name) (plans_of sessions))
+named_among sessions name = sym (any_mapped (bytes_eq name) (λ (plan : SessionPlan). plan.name) (plans_of sessions))
 
 -- ---- keys
 

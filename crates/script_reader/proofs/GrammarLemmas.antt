@@ -65,7 +65,8 @@ named_option statements (Some statement) = named_keep statements statement (is_s
 pub named_push : (lines : List (List ℕ)) (line : List ℕ) → named_in (statements_of (lines ++ line ∷ [])) ≡ named_after (named_in (statements_of lines)) (statement_of line)
 named_push lines line = ap named_in (statements_push lines line) ∙ named_option (statements_of lines) (statement_of line)
 
-end_no_session : (keyword : Keyword) → is_end keyword ≡ true → is_session keyword ≡ false
+-- an end line begins no session
+pub end_no_session : (keyword : Keyword) → is_end keyword ≡ true → is_session keyword ≡ false
 end_no_session End end = refl
 end_no_session keyword end = absurd (true≢false (sym end))
 

@@ -10,7 +10,7 @@ use Rattle.session_known.specs.declared.script.SessionPlan.{SessionPlan}
 use Rattle.script_reader.specs.Faults.{last_begins}
 use Rattle.script_reader.specs.Keywords.{is_session, is_command, is_begin}
 use Rattle.script_reader.specs.Lines.{Statement, those, word}
-use Rattle.script_reader.specs.Said.{number_or, key_said, level_in, line_said, own_commands, sessions_said}
+use Rattle.script_reader.specs.Said.{number_or, key_said, level_in, line_said, own_commands, after_said, sessions_said}
 use Rattle.script_reader.specs.Steps.{with_line, new_session}
 use Rattle.script_reader.specs.declared.keyword.Keyword.{Keyword}
 
@@ -111,8 +111,8 @@ abbrev lines_said : List (List ℕ) → List Kind → List (List ℕ) → List S
 lines_said keys of_keys named statements = map (λ line. line_said keys of_keys named line.keyword line.words) statements
 
 -- the session that a statement begins, with these lines
-abbrev session_with : Statement → List Line → SessionPlan
-session_with statement lines = record { name = word 0 statement; level = level_in statement; lines = lines }
+abbrev session_with : List (List ℕ) → Statement → List Line → SessionPlan
+session_with named statement lines = record { name = word 0 statement; level = level_in statement; after = after_said named statement.words; lines = lines }
 
 -- one step of that the sessions stay
 kept_as : (session : Bool) (plan plan' : SessionPlan) (plans plans' : List SessionPlan) → plan' ≡ plan → plans' ≡ plans → cond session (plan' ∷ plans') plans' ≡ cond session (plan ∷ plans) plans
@@ -121,11 +121,11 @@ kept_as session plan plan' plans plans' first rest = λ i. cond session (first i
 -- a statement that begins no session and is no command leaves the sessions as they are
 pub sessions_kept : (keys : List (List ℕ)) (of_keys : List Kind) (named : List (List ℕ)) (before : List Statement) (statement : Statement) → is_session statement.keyword ≡ false → own_commands (statement ∷ []) ≡ []
     → sessions_said keys of_keys named (before ++ statement ∷ []) ≡ sessions_said keys of_keys named before
-sessions_kept keys of_keys named [] statement other none = cond-false (is_session statement.keyword) (session_with statement [] ∷ []) [] other
+sessions_kept keys of_keys named [] statement other none = cond-false (is_session statement.keyword) (session_with named statement [] ∷ []) [] other
 sessions_kept keys of_keys named (first ∷ before) statement other none =
-    kept_as (is_session first.keyword) (session_with first (lines_said keys of_keys named (own_commands before))) (session_with first (lines_said keys of_keys named (own_commands (before ++ statement ∷ []))))
+    kept_as (is_session first.keyword) (session_with named first (lines_said keys of_keys named (own_commands before))) (session_with named first (lines_said keys of_keys named (own_commands (before ++ statement ∷ []))))
     (sessions_said keys of_keys named before) (sessions_said keys of_keys named (before ++ statement ∷ []))
-    (ap (λ (own : List Statement). session_with first (lines_said keys of_keys named own)) (own_stop before statement none))
+    (ap (λ (own : List Statement). session_with named first (lines_said keys of_keys named own)) (own_stop before statement none))
     (sessions_kept keys of_keys named before statement other none)
 
 -- one step of that a session is added
@@ -135,28 +135,28 @@ begun_as false plan plan' last plans plans' first rest = rest
 
 -- a statement that begins a session adds that, with no lines
 pub sessions_begun : (keys : List (List ℕ)) (of_keys : List Kind) (named : List (List ℕ)) (before : List Statement) (statement : Statement) → is_session statement.keyword ≡ true
-    → sessions_said keys of_keys named (before ++ statement ∷ []) ≡ sessions_said keys of_keys named before ++ new_session statement ∷ []
-sessions_begun keys of_keys named [] statement is = cond-true (is_session statement.keyword) (session_with statement [] ∷ []) [] is
+    → sessions_said keys of_keys named (before ++ statement ∷ []) ≡ sessions_said keys of_keys named before ++ new_session named statement ∷ []
+sessions_begun keys of_keys named [] statement is = cond-true (is_session statement.keyword) (session_with named statement [] ∷ []) [] is
 sessions_begun keys of_keys named (first ∷ before) statement is =
-    begun_as (is_session first.keyword) (session_with first (lines_said keys of_keys named (own_commands before))) (session_with first (lines_said keys of_keys named (own_commands (before ++ statement ∷ [])))) (new_session statement)
+    begun_as (is_session first.keyword) (session_with named first (lines_said keys of_keys named (own_commands before))) (session_with named first (lines_said keys of_keys named (own_commands (before ++ statement ∷ [])))) (new_session named statement)
     (sessions_said keys of_keys named before) (sessions_said keys of_keys named (before ++ statement ∷ []))
-    (ap (λ (own : List Statement). session_with first (lines_said keys of_keys named own)) (own_stop before statement (cond-true (is_session statement.keyword) [] (cond (is_command statement.keyword) (statement ∷ []) []) is)))
+    (ap (λ (own : List Statement). session_with named first (lines_said keys of_keys named own)) (own_stop before statement (cond-true (is_session statement.keyword) [] (cond (is_command statement.keyword) (statement ∷ []) []) is)))
     (sessions_begun keys of_keys named before statement is)
 
 -- one step of that a line is added to the last session
-line_added_as : (session : Bool) (first : Statement) (own own' : List Line) (line : Line) (plans plans' : List SessionPlan) → (length plans ≡ 0 → own' ≡ own ++ line ∷ []) → (0 < length plans → own' ≡ own) → plans' ≡ with_line line plans
-    → cond session (session_with first own' ∷ plans') plans' ≡ with_line line (cond session (session_with first own ∷ plans) plans)
-line_added_as false first own own' line plans plans' more same rest = rest
-line_added_as true first own own' line [] plans' more same rest = λ i. session_with first (more refl i) ∷ rest i
-line_added_as true first own own' line (plan ∷ plans) plans' more same rest = let unchanged : own' ≡ own = same (omega arith) in λ i. session_with first (unchanged i) ∷ rest i
+line_added_as : (named : List (List ℕ)) (session : Bool) (first : Statement) (own own' : List Line) (line : Line) (plans plans' : List SessionPlan) → (length plans ≡ 0 → own' ≡ own ++ line ∷ []) → (0 < length plans → own' ≡ own) → plans' ≡ with_line line plans
+    → cond session (session_with named first own' ∷ plans') plans' ≡ with_line line (cond session (session_with named first own ∷ plans) plans)
+line_added_as named false first own own' line plans plans' more same rest = rest
+line_added_as named true first own own' line [] plans' more same rest = λ i. session_with named first (more refl i) ∷ rest i
+line_added_as named true first own own' line (plan ∷ plans) plans' more same rest = let unchanged : own' ≡ own = same (omega arith) in λ i. session_with named first (unchanged i) ∷ rest i
 
 -- a command adds its line to the last session
 pub sessions_line : (keys : List (List ℕ)) (of_keys : List Kind) (named : List (List ℕ)) (before : List Statement) (statement : Statement) → is_session statement.keyword ≡ false → own_commands (statement ∷ []) ≡ statement ∷ []
     → sessions_said keys of_keys named (before ++ statement ∷ []) ≡ with_line (line_said keys of_keys named statement.keyword statement.words) (sessions_said keys of_keys named before)
-sessions_line keys of_keys named [] statement other one = cond-false (is_session statement.keyword) (session_with statement [] ∷ []) [] other
+sessions_line keys of_keys named [] statement other one = cond-false (is_session statement.keyword) (session_with named statement [] ∷ []) [] other
 sessions_line keys of_keys named (first ∷ before) statement other one =
     let said = λ (own : List Statement). lines_said keys of_keys named own in
-    line_added_as (is_session first.keyword) first (said (own_commands before)) (said (own_commands (before ++ statement ∷ []))) (line_said keys of_keys named statement.keyword statement.words)
+    line_added_as named (is_session first.keyword) first (said (own_commands before)) (said (own_commands (before ++ statement ∷ []))) (line_said keys of_keys named statement.keyword statement.words)
     (sessions_said keys of_keys named before) (sessions_said keys of_keys named (before ++ statement ∷ []))
     (λ none. ap said (own_more keys of_keys named before statement one none) ∙ map-append (λ (line : Statement). line_said keys of_keys named line.keyword line.words) (own_commands before) (statement ∷ []))
     (λ some. ap said (own_past keys of_keys named before statement some))
@@ -170,8 +170,8 @@ no_session_as false plan plan' plans plans' none still = still none
 -- where there is no session, and a statement begins none, there is none of other keys either
 pub no_session : (keys : List (List ℕ)) (of_keys : List Kind) (keys' : List (List ℕ)) (of_keys' : List Kind) (named : List (List ℕ)) (before : List Statement) (statement : Statement) → is_session statement.keyword ≡ false → length (sessions_said keys of_keys named before) ≡ 0
     → sessions_said keys' of_keys' named (before ++ statement ∷ []) ≡ []
-no_session keys of_keys keys' of_keys' named [] statement other none = cond-false (is_session statement.keyword) (session_with statement [] ∷ []) [] other
+no_session keys of_keys keys' of_keys' named [] statement other none = cond-false (is_session statement.keyword) (session_with named statement [] ∷ []) [] other
 no_session keys of_keys keys' of_keys' named (first ∷ before) statement other none =
-    no_session_as (is_session first.keyword) _ (session_with first (lines_said keys' of_keys' named (own_commands (before ++ statement ∷ []))))
+    no_session_as (is_session first.keyword) _ (session_with named first (lines_said keys' of_keys' named (own_commands (before ++ statement ∷ []))))
     (sessions_said keys of_keys named before) (sessions_said keys' of_keys' named (before ++ statement ∷ [])) none
     (no_session keys of_keys keys' of_keys' named before statement other)

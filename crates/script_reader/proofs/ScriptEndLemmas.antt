@@ -82,7 +82,7 @@ silent_line context line None fine = refl
 silent_line context line (Some statement) fine = absurd cc
 
 -- after an end, lines in order say nothing
-silent_after : (named front rest : List (List ℕ)) → AreInOrder named (front ++ rest) → has_end front ≡ true → statements_of rest ≡ []
+pub silent_after : (named front rest : List (List ℕ)) → AreInOrder named (front ++ rest) → has_end front ≡ true → statements_of rest ≡ []
 silent_after named front [] order ended = refl
 silent_after named front (line ∷ rest) order ended =
     let context : Context = context_of named (statements_of front) in

@@ -1,12 +1,13 @@
 -- What every context after faultless lines has.
-use Rattle.std.specs.Prelude.{◌≡◌, ◌≢◌, ℕ, ◌≤◌, Bool, true, false, IsTrue, IsFalse, List, [], ◌∷◌, map, length, sum_by, All, AllPairs}
+use Rattle.std.specs.Prelude.{◌≡◌, ◌≢◌, ℕ, ◌≤◌, Bool, true, false, IsTrue, IsFalse, List, [], ◌∷◌, ◌++◌, map, length, sum_by, Option, MatchOption, All, AllPairs, ⊤}
 use Rattle.composed_value.specs.Kind.{kind_of}
 use Rattle.composed_value.specs.Put.{IsPayload}
 use Rattle.composed_value.specs.declared.kind.Kind.{Kind}
 use Rattle.placement.specs.Config.{IsOneOf, ArePins, IsOwnFactor, placed}
 use Rattle.placement.specs.Name.{IsName}
 use Rattle.placement.specs.declared.config.Config.{Config}
-use Rattle.script_reader.specs.Faults.{Context}
+use Rattle.script_reader.specs.Faults.{Context, has_causal}
+use Rattle.script_reader.specs.Said.{session_number}
 use Rattle.composed_value.specs.Keyed.{kind_at}
 use Rattle.session_known.specs.Script.{MayName}
 use Rattle.placement.specs.Asked.{replicas_of}
@@ -60,6 +61,23 @@ pub record AreSessions (keys : ℕ) (of_keys : List Kind) (named : ℕ) (table :
   pub stand : All (λ plan. All (Stands keys of_keys named table plan.level) plan.lines) sessions
   pub led : AreLed sessions begun
 
+-- A session comes after the causal one before it that has a name.
+pub record Follows (version : ℕ) (named : List (List ℕ)) (earlier : List SessionPlan) (level : Level) (after : ℕ) : Type 0 where
+  pub version_is : version ≡ 2
+  pub causal : level ≡ Causal
+  pub other : List ℕ
+  pub number_is : after ≡ session_number named other
+  pub is_there : has_causal earlier other ≡ true
+
+-- a session comes after none, or after such a one
+abbrev pub MayFollow : ℕ → List (List ℕ) → List SessionPlan → Level → Option ℕ → Type 0
+MayFollow version named earlier level after = MatchOption after ⊤ (Follows version named earlier level)
+
+-- so does each of these sessions, which come after earlier ones
+abbrev pub AreInTurn : ℕ → List (List ℕ) → List SessionPlan → List SessionPlan → Type 0
+AreInTurn version named earlier [] = ⊤
+AreInTurn version named earlier (plan ∷ plans) = MayFollow version named earlier plan.level plan.after × AreInTurn version named (earlier ++ plan ∷ []) plans
+
 -- The context is one that faultless lines leave.
 pub record IsValidContext (context : Context) : Type 0 where
   pub version : IsOneOf 2 context.script.version
@@ -69,3 +87,4 @@ pub record IsValidContext (context : Context) : Type 0 where
   pub round : IsOneOf 64 context.script.round
   pub keys : AreKeys context.script.config context.script.kinds
   pub sessions : AreSessions (length context.script.config.keys) context.script.kinds (length context.named) (placed context.script.config) context.begun context.script.sessions
+  pub in_turn : AreInTurn context.script.version context.named [] context.script.sessions

@@ -1,6 +1,7 @@
 -- A line that is not at fault leaves a valid context.
-use Rattle.std.specs.Prelude.{◌≡◌, ℕ, ◌<◌, ◌≤◌, Bool, true, false, IsTrue, IsFalse, ◌&&◌, ◌||◌, not, nat_lt, nat_le, List, [], ◌∷◌, ◌++◌, map, length, Some, None, Contains}
+use Rattle.std.specs.Prelude.{◌≡◌, ℕ, ◌<◌, ◌≤◌, Bool, true, false, IsTrue, IsFalse, ◌&&◌, ◌||◌, not, nat_lt, nat_le, List, [], ◌∷◌, ◌++◌, map, length, codes, Option, Some, None, unwrap_or, Contains}
 use Rattle.std.specs.List.{list_any}
+use Rattle.std.specs.Option.{option_map_or}
 use Rattle.std.specs.Str.{bytes_eq}
 use Rattle.std.proofs.Common.{refl, sym, ap, subst, ◌∙◌, arith}
 use Rattle.std.proofs.lemmas.Bool.{false≢true, true≢false, both_ways, not-true, not-false, ltb-true, leb-true, leb-false, and_parts, or_parts, false_from_ne_true}
@@ -10,15 +11,16 @@ use Rattle.composed_value.specs.declared.kind.Kind.{Kind}
 use Rattle.placement.specs.Config.{IsOneOf, ArePins, IsOwnFactor, placed}
 use Rattle.placement.specs.Name.{IsName}
 use Rattle.placement.specs.declared.config.KeyPlace.{KeyPlace}
-use Rattle.script_reader.specs.Faults.{Context, context_of, keys_of, level_of, commands_of, is_declared, is_causal, is_committed, is_version, may_follow, may_have, suits, lacks_header, lacks_name, repeats, is_unknown, misfits, passes_limit, breaks_transaction, code_of}
+use Rattle.script_reader.specs.Faults.{Context, context_of, keys_of, level_of, commands_of, is_declared, is_causal, is_committed, is_version, may_follow, may_have, suits, is_in_version, lacks_header, lacks_name, repeats, is_unknown, misfits, passes_limit, breaks_transaction, code_of}
 use Rattle.script_reader.proofs.FaultsLaws.{header_fine, word_fine, name_fine, twice_fine, unknown_fine, kind_fine, limit_fine, transaction_fine}
 use Rattle.script_reader.specs.Lines.{Statement}
-use Rattle.script_reader.specs.Said.{is_by_factor, key_numbers, key_said, kind_in, pins_said, number_in, line_said}
+use Rattle.script_reader.specs.Said.{is_by_factor, key_numbers, key_said, kind_in, level_in, after_said, pins_said, number_in, line_said}
 use Rattle.script_reader.specs.Steps.{next_context, new_session, with_line, with_factor}
-use Rattle.script_reader.proofs.ValidContext.{AreApart, AreKeys, AreSessions, IsValidContext, Leads, Stands}
+use Rattle.script_reader.proofs.TurnLaws.{causal_is, turn_line, turn_push, turn_none}
+use Rattle.script_reader.proofs.ValidContext.{AreApart, AreKeys, AreSessions, MayFollow, AreInTurn, IsValidContext, Leads, Stands}
 use Rattle.script_reader.proofs.ValidListsLaws.{within_is, own_factor, version_within, are_workers, no_repeat, apart_push, number_within, session_within, name_new, payload_kind, payload_is, is_spelling, replica_contained}
 use Rattle.script_reader.proofs.ValidSessionsLaws.{sessions_line, sessions_push, sessions_none}
-use Rattle.script_reader.specs.Words.{number_of}
+use Rattle.script_reader.specs.Words.{number_of, is_name, level_said}
 use Rattle.script_reader.specs.declared.keyword.Keyword.{Keyword}
 use Rattle.script_reader.specs.declared.keyword.Keyword.TheVariants.{Anna, Workers, Factor, Round, Key, Session, Put, Get, Await, Begin, Commit, Abort, End, Unknown}
 use Rattle.session_known.specs.Script.{MayName}
@@ -26,6 +28,7 @@ use Rattle.session_known.specs.declared.script.Level.{Level}
 use Rattle.session_known.specs.declared.script.Level.TheVariants.{Eventual, Committed, Causal}
 use Rattle.session_known.specs.declared.script.Line.{Line}
 use Rattle.session_known.specs.declared.script.Line.TheVariants as lines
+use Rattle.session_known.specs.declared.script.SessionPlan.{SessionPlan}
 
 -- what is read of the codes that a line does not have
 record IsFaultless (context : Context) (keyword : Keyword) (words : List (List ℕ)) : Type 0 where
@@ -33,6 +36,7 @@ record IsFaultless (context : Context) (keyword : Keyword) (words : List (List �
   follows : may_follow context keyword ≡ true
   has : may_have keyword words ≡ true
   suited : suits (level_of context) keyword words ≡ true
+  versioned : is_in_version context.script.version keyword words ≡ true
   named : lacks_name keyword words ≡ false
   twice : repeats context keyword words ≡ false
   unknown : is_unknown context keyword words ≡ false
@@ -46,11 +50,13 @@ faultless context keyword words none =
     let all = not-false _ (word_fine context keyword words none) in
     let follows = and_parts (may_follow context keyword) _ all in
     let has = and_parts (may_have keyword words) _ follows.1 in
+    let suited = and_parts (suits (level_of context) keyword words) _ has.1 in
     record {
       headed = header_fine context keyword words none;
       follows = follows.0;
       has = has.0;
-      suited = (and_parts (suits (level_of context) keyword words) _ has.1).0;
+      suited = suited.0;
+      versioned = suited.1;
       named = name_fine context keyword words none;
       twice = twice_fine context keyword words none;
       unknown = unknown_fine context keyword words none;
@@ -81,6 +87,7 @@ start named = record {
     stand = λ k d lt. absurd (omega arith);
     led = refl;
   };
+  in_turn = tt;
 }
 
 -- a line after the line of workers
@@ -89,8 +96,9 @@ after_workers : (context : Context) (keyword : Keyword) (words : List (List ℕ)
     → IsOneOf 64 (next_context context keyword words).script.round
     → AreKeys (next_context context keyword words).script.config (next_context context keyword words).script.kinds
     → AreSessions (length (next_context context keyword words).script.config.keys) (next_context context keyword words).script.kinds (length (next_context context keyword words).named) (placed (next_context context keyword words).script.config) (next_context context keyword words).begun (next_context context keyword words).script.sessions
+    → AreInTurn (next_context context keyword words).script.version (next_context context keyword words).named [] (next_context context keyword words).script.sessions
     → IsValidContext (next_context context keyword words)
-after_workers context keyword words valid version has numbers round keys sessions = record {
+after_workers context keyword words valid version has numbers round keys sessions turn = record {
   version = version;
   header = λ _. refl;
   workers = λ _. numbers;
@@ -98,6 +106,7 @@ after_workers context keyword words valid version has numbers round keys session
   round = round;
   keys = keys;
   sessions = sessions;
+  in_turn = turn;
 }
 
 -- the header
@@ -116,6 +125,7 @@ step_anna context (version ∷ []) valid fine =
       round = valid.round;
       keys = valid.keys;
       sessions = valid.sessions;
+      in_turn = turn_none (number_of version) context.named context.script.sessions (valid.bare no_workers).1;
     }
 
 -- the number of workers
@@ -135,6 +145,7 @@ step_workers context (number ∷ words) valid fine =
       round = valid.round;
       keys = record { few = valid.keys.few; pins = λ k d lt. absurd (omega arith); factors = λ k d lt. absurd (omega arith); kinds = valid.keys.kinds; names = valid.keys.names };
       sessions = sessions_none _ _ _ _ _ _ _ _ _ bare.1 valid.sessions;
+      in_turn = valid.in_turn;
     }
 
 -- what stands before the keys
@@ -151,14 +162,14 @@ step_factor context (number ∷ words) valid fine =
     let follows = option_follows context fine.follows in
     let within = within_is 1 context.script.config.workers (number_of number) (not-false _ fine.limit) in
     let keys : AreKeys (with_factor (number_of number) context.script).config context.script.kinds = record { few = valid.keys.few; pins = valid.keys.pins; factors = valid.keys.factors; kinds = valid.keys.kinds; names = valid.keys.names } in
-    after_workers context Factor (number ∷ words) valid valid.version follows.0 ((valid.workers follows.0).0, within) valid.round keys (sessions_none _ _ _ _ _ _ _ _ _ follows.1 valid.sessions)
+    after_workers context Factor (number ∷ words) valid valid.version follows.0 ((valid.workers follows.0).0, within) valid.round keys (sessions_none _ _ _ _ _ _ _ _ _ follows.1 valid.sessions) valid.in_turn
 
 -- the requests between rounds
 step_round : (context : Context) (words : List (List ℕ)) → IsValidContext context → IsFaultless context Round words → IsValidContext (next_context context Round words)
 step_round context [] valid fine = absurd (false≢true fine.has)
 step_round context (number ∷ words) valid fine =
     let follows = option_follows context fine.follows in
-    after_workers context Round (number ∷ words) valid valid.version follows.0 (valid.workers follows.0) (within_is 1 64 (number_of number) (not-false _ fine.limit)) valid.keys valid.sessions
+    after_workers context Round (number ∷ words) valid valid.version follows.0 (valid.workers follows.0) (within_is 1 64 (number_of number) (not-false _ fine.limit)) valid.keys valid.sessions valid.in_turn
 
 -- the keys of a config with one more
 keys_push : (workers factor : ℕ) (keys : List KeyPlace) (of_keys : List Kind) (key : KeyPlace) (kind : Kind) → AreKeys (record { workers = workers; factor = factor; keys = keys }) of_keys → length keys < 128 → ArePins workers key.pins → IsOwnFactor workers key → IsName key.name → list_any (bytes_eq key.name) (map (λ key. key.name) keys) ≡ false → AreKeys (record { workers = workers; factor = factor; keys = keys ++ key ∷ [] }) (of_keys ++ kind ∷ [])
@@ -182,19 +193,44 @@ step_key context (name ∷ words) valid fine =
     let statement : Statement = record { keyword = Key; words = name ∷ words } in
     let own : IsOwnFactor config.workers (key_said statement) = own_factor config.workers (is_by_factor (name ∷ words)) (key_numbers (name ∷ words)) limit.1 in
     let keys = keys_push config.workers config.factor config.keys context.script.kinds (key_said statement) (kind_in statement) valid.keys (leb-false _ _ limit.0) pins own (is_spelling 32 name (not-false _ fine.named)) (name_new (keys_of context) name twice.0) in
-    after_workers context Key (name ∷ words) valid valid.version follows.0 (valid.workers follows.0) valid.round keys (sessions_none _ _ _ _ _ _ _ _ _ (leb-true _ _ follows.1) valid.sessions)
+    after_workers context Key (name ∷ words) valid valid.version follows.0 (valid.workers follows.0) valid.round keys (sessions_none _ _ _ _ _ _ _ _ _ (leb-true _ _ follows.1) valid.sessions) valid.in_turn
+
+-- a level that is said and passes the test of causal ones
+causal_said : (said : Option Level) → option_map_or is_causal said false ≡ true → unwrap_or said Eventual ≡ Causal
+causal_said None is = absurd (false≢true is)
+causal_said (Some level) is = causal_is level is
+
+-- a version is the second where it is not before that
+second_version : (version : ℕ) → IsOneOf 2 version → nat_le 2 version ≡ true → version ≡ 2
+second_version version within least = omega (arith, within.1, leb-true 2 version least)
+
+-- a session comes after none, or after a causal one before it
+plan_follows : (context : Context) (words : List (List ℕ)) → IsOneOf 2 context.script.version → IsFaultless context Session words → MayFollow context.script.version context.named context.script.sessions (level_in (record { keyword = Session; words = words })) (after_said context.named words)
+plan_follows context [] version fine = absurd (false≢true fine.has)
+plan_follows context (name ∷ []) version fine = absurd (false≢true fine.has)
+plan_follows context (name ∷ level ∷ []) version fine = tt
+plan_follows context (name ∷ level ∷ by ∷ []) version fine = absurd (false≢true fine.has)
+plan_follows context (name ∷ level ∷ by ∷ other ∷ []) version fine = record {
+  version_is = second_version context.script.version version fine.versioned;
+  causal = causal_said (level_said level) (and_parts (bytes_eq by (codes "after")) _ fine.has).1;
+  other = other;
+  number_is = refl;
+  is_there = not-false _ fine.unknown;
+}
+plan_follows context (name ∷ level ∷ by ∷ other ∷ next ∷ words) version fine = absurd (false≢true fine.has)
 
 -- a session
 step_session : (context : Context) (words : List (List ℕ)) → IsValidContext context → IsFaultless context Session words → IsValidContext (next_context context Session words)
 step_session context [] valid fine = absurd (false≢true fine.has)
 step_session context (name ∷ words) valid fine =
-    let statement : Statement = record { keyword = Session; words = name ∷ words } in
+    let plan : SessionPlan = new_session context.named (record { keyword = Session; words = name ∷ words }) in
     after_workers context Session (name ∷ words) valid valid.version fine.follows (valid.workers fine.follows) valid.round valid.keys
-    (sessions_push _ _ _ _ _ context.script.sessions (new_session statement) valid.sessions fine.transaction refl (leb-false _ _ fine.limit) (is_spelling 32 name (not-false _ fine.named)) fine.twice)
+    (sessions_push _ _ _ _ _ context.script.sessions plan valid.sessions fine.transaction refl (leb-false _ _ fine.limit) (is_spelling 32 name (and_parts (is_name name) _ (not-false _ fine.named)).0) fine.twice)
+    (turn_push context.script.version context.named [] context.script.sessions plan valid.in_turn (plan_follows context (name ∷ words) valid.version fine))
 
 -- the end
 step_end : (context : Context) (words : List (List ℕ)) → IsValidContext context → IsFaultless context End words → IsValidContext (next_context context End words)
-step_end context words valid fine = after_workers context End words valid valid.version fine.follows (valid.workers fine.follows) valid.round valid.keys valid.sessions
+step_end context words valid fine = after_workers context End words valid valid.version fine.follows (valid.workers fine.follows) valid.round valid.keys valid.sessions valid.in_turn
 
 -- a command
 command_follows : (context : Context) → (context.has_workers && (true && nat_lt 0 (length context.script.sessions))) ≡ true → (context.has_workers ≡ true) × (0 < length context.script.sessions)
@@ -228,7 +264,7 @@ step_put context (key ∷ words) valid fine =
     let payload = payload_is (keys_of context) context.script.kinds key words said.0 in
     let kind = payload_kind (keys_of context) context.script.kinds key words said.0 in
     after_workers context Put (key ∷ words) valid valid.version follows.0 (valid.workers follows.0) valid.round valid.keys
-    (takes_line context context.begun (line_said (keys_of context) context.script.kinds context.named Put (key ∷ words)) valid follows.1 said.1 (within, payload, kind) refl)
+    (takes_line context context.begun (line_said (keys_of context) context.script.kinds context.named Put (key ∷ words)) valid follows.1 said.1 (within, payload, kind) refl) (turn_line context.script.version context.named (line_said (keys_of context) context.script.kinds context.named Put (key ∷ words)) [] context.script.sessions valid.in_turn)
 
 -- a session that is not causal may name a replica
 may_name : (level : Level) (replicas : List ℕ) (worker : ℕ) → not (is_causal level) ≡ true → Contains replicas worker → MayName level replicas (Some worker)
@@ -243,20 +279,14 @@ step_get context (key ∷ []) valid fine =
     let follows = command_follows context fine.follows in
     let within = key_within context key (not-false _ fine.unknown) in
     after_workers context Get (key ∷ []) valid valid.version follows.0 (valid.workers follows.0) valid.round valid.keys
-    (takes_line context context.begun (line_said (keys_of context) context.script.kinds context.named Get (key ∷ [])) valid follows.1 fine.limit (within, tt) refl)
+    (takes_line context context.begun (line_said (keys_of context) context.script.kinds context.named Get (key ∷ [])) valid follows.1 fine.limit (within, tt) refl) (turn_line context.script.version context.named (line_said (keys_of context) context.script.kinds context.named Get (key ∷ [])) [] context.script.sessions valid.in_turn)
 step_get context (key ∷ worker ∷ words) valid fine =
     let follows = command_follows context fine.follows in
     let known = and_parts (is_declared context key) _ (not-false _ fine.unknown) in
     let within = key_within context key known.0 in
     let replica = replica_contained (keys_of context) key (placed context.script.config) (number_of worker) known.1 in
     after_workers context Get (key ∷ worker ∷ words) valid valid.version follows.0 (valid.workers follows.0) valid.round valid.keys
-    (takes_line context context.begun (line_said (keys_of context) context.script.kinds context.named Get (key ∷ worker ∷ words)) valid follows.1 fine.limit (within, may_name (level_of context) _ (number_of worker) fine.suited replica) refl)
-
--- a level that passes the test of causal ones
-causal_is : (level : Level) → is_causal level ≡ true → level ≡ Causal
-causal_is Eventual is = absurd (false≢true is)
-causal_is Committed is = absurd (false≢true is)
-causal_is Causal is = refl
+    (takes_line context context.begun (line_said (keys_of context) context.script.kinds context.named Get (key ∷ worker ∷ words)) valid follows.1 fine.limit (within, may_name (level_of context) _ (number_of worker) fine.suited replica) refl) (turn_line context.script.version context.named (line_said (keys_of context) context.script.kinds context.named Get (key ∷ worker ∷ words)) [] context.script.sessions valid.in_turn)
 
 -- an await
 step_await : (context : Context) (words : List (List ℕ)) → IsValidContext context → IsFaultless context Await words → IsValidContext (next_context context Await words)
@@ -267,7 +297,7 @@ step_await context (key ∷ session ∷ count ∷ words) valid fine =
     let follows = command_follows context fine.follows in
     let known = and_parts (is_declared context key) _ (not-false _ fine.unknown) in
     after_workers context Await (key ∷ session ∷ count ∷ words) valid valid.version follows.0 (valid.workers follows.0) valid.round valid.keys
-    (takes_line context context.begun (line_said (keys_of context) context.script.kinds context.named Await (key ∷ session ∷ count ∷ words)) valid follows.1 fine.limit (key_within context key known.0, session_within context.named session known.1, causal_is (level_of context) fine.suited) refl)
+    (takes_line context context.begun (line_said (keys_of context) context.script.kinds context.named Await (key ∷ session ∷ count ∷ words)) valid follows.1 fine.limit (key_within context key known.0, session_within context.named session known.1, causal_is (level_of context) fine.suited) refl) (turn_line context.script.version context.named (line_said (keys_of context) context.script.kinds context.named Await (key ∷ session ∷ count ∷ words)) [] context.script.sessions valid.in_turn)
 
 -- a level that passes the test of committed ones
 committed_is : (level : Level) → not (is_committed level) ≡ false → level ≡ Committed
@@ -281,7 +311,7 @@ step_begin context words valid fine =
     let follows = command_follows context fine.follows in
     let held = or_parts (not (is_committed (level_of context))) _ fine.transaction in
     after_workers context Begin words valid valid.version follows.0 (valid.workers follows.0) valid.round valid.keys
-    (takes_line context true lines.Begin valid follows.1 fine.limit (committed_is (level_of context) held.0) (held.1, refl))
+    (takes_line context true lines.Begin valid follows.1 fine.limit (committed_is (level_of context) held.0) (held.1, refl)) (turn_line context.script.version context.named lines.Begin [] context.script.sessions valid.in_turn)
 
 -- the commit of a transaction
 step_commit : (context : Context) (words : List (List ℕ)) → IsValidContext context → IsFaultless context Commit words → IsValidContext (next_context context Commit words)
@@ -289,7 +319,7 @@ step_commit context words valid fine =
     let follows = command_follows context fine.follows in
     let held = or_parts (not (is_committed (level_of context))) _ fine.transaction in
     after_workers context Commit words valid valid.version follows.0 (valid.workers follows.0) valid.round valid.keys
-    (takes_line context false lines.Commit valid follows.1 fine.limit (committed_is (level_of context) held.0) (not-false _ held.1, refl))
+    (takes_line context false lines.Commit valid follows.1 fine.limit (committed_is (level_of context) held.0) (not-false _ held.1, refl)) (turn_line context.script.version context.named lines.Commit [] context.script.sessions valid.in_turn)
 
 -- the abort of a transaction
 step_abort : (context : Context) (words : List (List ℕ)) → IsValidContext context → IsFaultless context Abort words → IsValidContext (next_context context Abort words)
@@ -297,7 +327,7 @@ step_abort context words valid fine =
     let follows = command_follows context fine.follows in
     let held = or_parts (not (is_committed (level_of context))) _ fine.transaction in
     after_workers context Abort words valid valid.version follows.0 (valid.workers follows.0) valid.round valid.keys
-    (takes_line context false lines.Abort valid follows.1 fine.limit (committed_is (level_of context) held.0) (not-false _ held.1, refl))
+    (takes_line context false lines.Abort valid follows.1 fine.limit (committed_is (level_of context) held.0) (not-false _ held.1, refl)) (turn_line context.script.version context.named lines.Abort [] context.script.sessions valid.in_turn)
 
 -- a line without faults, by its first word
 step_fine : (context : Context) (keyword : Keyword) (words : List (List ℕ)) → IsValidContext context → IsFaultless context keyword words → IsValidContext (next_context context keyword words)

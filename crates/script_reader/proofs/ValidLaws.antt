@@ -1,12 +1,9 @@
 -- A script that the grammar accepts is valid.
-use Rattle.std.specs.Prelude.{◌≡◌, ◌≢◌, ℕ, ◌+◌, ◌<◌, ◌≤◌, Bool, true, false, cond, IsTrue, IsFalse, List, [], ◌∷◌, ◌++◌, map, fold, length, take, None, All, AllPairs}
-use Rattle.std.specs.List.{list_any, before_first, position_or_len}
-use Rattle.std.specs.Str.{bytes_eq}
-use Rattle.std.proofs.Common.{zero, suc, sym, subst, ◌∙◌, arith}
-use Rattle.std.proofs.lemmas.Bool.{false≢true, cond_both}
-use Rattle.std.proofs.lemmas.List.{length_push, length-map, get_or-map}
+use Rattle.std.specs.Prelude.{◌≡◌, ◌≢◌, ℕ, ◌<◌, ◌≤◌, Bool, true, false, IsTrue, IsFalse, List, [], ◌∷◌, map, length, None, All, AllPairs}
+use Rattle.std.proofs.Common.{sym, ap, subst, ◌∙◌, arith}
+use Rattle.std.proofs.lemmas.Bool.{false≢true}
+use Rattle.std.proofs.lemmas.List.{length-map, get_or-map}
 use Rattle.std.proofs.lemmas.List.Elements.{All-nil, All-cons, All-weaker}
-use Rattle.composed_value.specs.declared.kind.Kind.{Kind}
 use Rattle.placement.specs.Config.{placed}
 use Rattle.placement.proofs.ConfigLemmas.{is_placement}
 use Rattle.placement.specs.Name.{IsName}
@@ -14,11 +11,12 @@ use Rattle.placement.specs.declared.config.KeyPlace.{KeyPlace}
 use Rattle.script_reader.proofs.FrontLaws.{holds_after}
 use Rattle.script_reader.specs.Faults.{Context, context_of, code_of}
 use Rattle.script_reader.specs.Grammar.{IsScript, IsScriptOf, sessions_named}
-use Rattle.script_reader.specs.Keywords.{is_end, is_session}
-use Rattle.script_reader.specs.Lines.{Statement, script_lines, statements_of, those, word, is_end_line}
-use Rattle.script_reader.specs.Said.{named_in, sessions_said, with_name}
+use Rattle.script_reader.specs.Keywords.{is_end}
+use Rattle.script_reader.specs.Lines.{script_lines, statements_of}
 use Rattle.script_reader.specs.Steps.{next_context}
 use Rattle.script_reader.proofs.ValidContext.{AreApart, AreLed, IsValidContext, Leads, Stands}
+use Rattle.script_reader.proofs.NamedLaws.{named_are}
+use Rattle.script_reader.proofs.TurnLaws.{orders_are}
 use Rattle.script_reader.proofs.ValidContextLaws.{start, step, ended}
 use Rattle.script_reader.specs.declared.keyword.Keyword.{Keyword}
 use Rattle.script_reader.specs.declared.keyword.Keyword.TheVariants.{End}
@@ -49,37 +47,6 @@ front_step context keyword words front none = record {
   valid = step context keyword words front.valid none;
   closed = closed_after context keyword words front.valid none;
 }
-
--- a name adds one at most
-name_added : (names : List (List ℕ)) (name : List ℕ) → length (with_name names name) ≤ length names + 1
-name_added names name = cond_both (list_any (bytes_eq name) names) names (names ++ name ∷ []) (λ (all : List (List ℕ)). length all ≤ length names + 1) (λ _. omega arith) (λ _. omega (arith, length_push names name))
-
--- names that are added one by one are as many as they are at most
-names_added : (names others : List (List ℕ)) → length (fold with_name names others) ≤ length names + length others
-names_added names [] = omega arith
-names_added names (name ∷ others) = omega (arith, names_added (with_name names name) others, name_added names name)
-
--- an element more or none keeps the order of lengths
-kept_le : {X Y : Type 0} (test : Bool) (x : X) (xs : List X) (y : Y) (ys : List Y) → length xs ≤ length ys → length (cond test (x ∷ xs) xs) ≤ length (cond test (y ∷ ys) ys)
-kept_le true x xs y ys le = omega arith
-kept_le false x xs y ys le = le
-
--- a front has no more session statements than all
-sessions_front : (n : ℕ) (statements : List Statement) → length (those is_session (take n statements)) ≤ length (those is_session statements)
-sessions_front zero statements = omega arith
-sessions_front (suc n) [] = omega arith
-sessions_front (suc n) (statement ∷ statements) = kept_le (is_session statement.keyword) statement (those is_session (take n statements)) statement (those is_session statements) (sessions_front n statements)
-
--- each session statement gives a session
-sessions_count : (keys : List (List ℕ)) (of_keys : List Kind) (named : List (List ℕ)) (statements : List Statement) → length (those is_session statements) ≤ length (sessions_said keys of_keys named statements)
-sessions_count keys of_keys named [] = omega arith
-sessions_count keys of_keys named (statement ∷ statements) = kept_le (is_session statement.keyword) statement (those is_session statements) _ (sessions_said keys of_keys named statements) (sessions_count keys of_keys named statements)
-
--- a script has the sessions that an await may name
-named_are : (keys : List (List ℕ)) (of_keys : List Kind) (named : List (List ℕ)) (statements : List Statement) → length (named_in (before_first is_end_line statements)) ≤ length (sessions_said keys of_keys named statements)
-named_are keys of_keys named statements =
-    let firsts = those is_session (before_first is_end_line statements) in
-    omega (arith, names_added [] (map (word 0) firsts), length-map firsts (word 0), sessions_front (position_or_len is_end_line statements) statements, sessions_count keys of_keys named statements)
 
 -- elements with names that are apart have different names
 pairs_apart : {X : Type 0} (name_of : X → List ℕ) (xs : List X) → AreApart (map name_of xs) → AllPairs (λ x other. name_of x ≢ name_of other) xs
@@ -118,11 +85,12 @@ may_stand script named table level lines.Commit le stands = stands
 may_stand script named table level lines.Abort le stands = stands
 
 -- The script of a valid context that is closed is valid, where it has the sessions that an await may name.
-valid_closed : (context : Context) → IsValidContext context → IsClosed context → length context.named ≤ length context.script.sessions → IsValidScript context.script (placed context.script.config)
+valid_closed : (context : Context) → IsValidContext context → IsClosed context → context.named ≡ map (λ plan. plan.name) context.script.sessions → IsValidScript context.script (placed context.script.config)
 valid_closed context valid closed named =
     let numbers = valid.workers closed.0 in
     let ends = all_end context.script.sessions (subst (λ begun. AreLed context.script.sessions begun) closed.1 valid.sessions.led) in
     let table = placed context.script.config in
+    let many : length context.named ≤ length context.script.sessions = omega (arith, ap length named, length-map context.script.sessions (λ (plan : SessionPlan). plan.name)) in
     record {
       version = valid.version;
       config = record {
@@ -144,9 +112,10 @@ valid_closed context valid closed named =
       few_sessions = valid.sessions.few;
       few_lines = valid.sessions.few_lines;
       sessions = λ k d lt. record {
-        lines = All-weaker (Stands (length context.script.config.keys) context.script.kinds (length context.named) table _) (MayStand context.script table _) (λ line stands. may_stand context.script (length context.named) table _ line named stands) _ (valid.sessions.stand k d lt);
+        lines = All-weaker (Stands (length context.script.config.keys) context.script.kinds (length context.named) table _) (MayStand context.script table _) (λ line stands. may_stand context.script (length context.named) table _ line many stands) _ (valid.sessions.stand k d lt);
         transactions = ends k d lt;
       };
+      orders = orders_are context.script.version context.named context.script.sessions (subst (AllPairs (λ a b. a ≢ b)) (sym named) valid.sessions.names.different) named valid.sessions.few valid.in_turn;
     }
 
 -- The script that the lines of a text say is valid.
@@ -155,8 +124,8 @@ of_lines lines script is =
     let named = sessions_named lines in
     let front = holds_after IsFront front_step named lines (record { valid = start named; closed = λ any. absurd (false≢true any) }) is.in_order in
     let context = context_of named (statements_of lines) in
-    let room = named_are _ _ named (statements_of lines) in
-    subst (λ said. IsValidScript said (placed said.config)) (sym is.says) (valid_closed context front.valid (front.closed is.ended) room)
+    let named_is = named_are _ _ lines is.in_order front.valid.sessions.names.different in
+    subst (λ said. IsValidScript said (placed said.config)) (sym is.says) (valid_closed context front.valid (front.closed is.ended) named_is)
 
 -- A script that the grammar accepts is valid.
 pub script_is_valid : (text : List ℕ) (script : Script) → IsScript text script → IsValidScript script (placed script.config)

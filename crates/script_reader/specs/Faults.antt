@@ -12,7 +12,7 @@ use Rattle.session_known.specs.declared.script.Script.{Script}
 use Rattle.session_known.specs.declared.script.SessionPlan.{SessionPlan}
 use Rattle.script_reader.specs.Keywords.{is_factor, is_round, is_command, is_begin, is_boundary}
 use Rattle.script_reader.specs.Lines.{Statement, those, statement_of, statements_of, has_end}
-use Rattle.script_reader.specs.Said.{place_of, is_by_factor, pins_said, factor_said, payload_for, script_said}
+use Rattle.script_reader.specs.Said.{place_of, is_by_factor, pins_said, factor_said, payload_for, predecessor_in, script_said}
 use Rattle.script_reader.specs.Words.{is_name, is_number, has_non_number, number_of, kind_said, level_said, says_later_kind, is_payload_too_great, is_amount_too_great}
 use Rattle.script_reader.specs.declared.code.Code.{Code}
 use Rattle.script_reader.specs.declared.code.Code.TheVariants as codes_of
@@ -91,6 +91,10 @@ abbrev pub is_committed : Level → Bool
 is_committed Committed = true
 is_committed level = false
 
+-- a session so far has the name and is causal
+abbrev pub has_causal : List SessionPlan → List ℕ → Bool
+has_causal sessions name = list_any (λ plan. bytes_eq name plan.name && is_causal plan.level) sessions
+
 -- ---- header: the first line with words is neither `anna 1` nor `anna 2`
 
 abbrev pub is_version : List ℕ → Bool
@@ -130,6 +134,7 @@ may_have Factor (number ∷ []) = true
 may_have Round (number ∷ []) = true
 may_have Key (name ∷ kind ∷ placed) = is_some (kind_said kind) && may_place placed
 may_have Session (name ∷ level ∷ []) = is_some (level_said level)
+may_have Session (name ∷ level ∷ by ∷ other ∷ []) = bytes_eq by (codes "after") && option_map_or is_causal (level_said level) false
 may_have Put (key ∷ value ∷ []) = true
 may_have Put (key ∷ field ∷ value ∷ []) = true
 may_have Get (key ∷ []) = true
@@ -147,10 +152,11 @@ suits level Await words = is_causal level
 suits level Get (key ∷ worker ∷ words) = not (is_causal level)
 suits level keyword words = true
 
--- From version 2 on a key may have a replication factor of its own, and a kind that version 1 has not: so no such line is one of
--- version 1.
+-- From version 2 on a key may have a replication factor of its own, and a kind that version 1 has not, and a session may come after
+-- another: so no such line is one of version 1.
 abbrev pub is_in_version : ℕ → Keyword → List (List ℕ) → Bool
 is_in_version version Key words = not (is_by_factor words || says_later_kind (slice_index_or words 1 [])) || nat_le 2 version
+is_in_version version Session words = not (is_some (predecessor_in words)) || nat_le 2 version
 is_in_version version keyword words = true
 
 abbrev pub lacks_word : Context → Keyword → List (List ℕ) → Bool
@@ -173,7 +179,7 @@ lacks_number context keyword words = false
 
 abbrev pub lacks_name : Keyword → List (List ℕ) → Bool
 lacks_name Key (name ∷ words) = not (is_name name)
-lacks_name Session (name ∷ words) = not (is_name name)
+lacks_name Session (name ∷ words) = not (is_name name && option_map_or is_name (predecessor_in (name ∷ words)) true)
 lacks_name Put (key ∷ words) = not (is_name key)
 lacks_name Get (key ∷ words) = not (is_name key)
 lacks_name Await (key ∷ session ∷ words) = not (is_name key && is_name session)
@@ -196,6 +202,7 @@ repeats context keyword words = false
 
 abbrev pub is_unknown : Context → Keyword → List (List ℕ) → Bool
 is_unknown context Key words = list_any (λ pin. not (is_within 1 context.script.config.workers pin)) (pins_said words)
+is_unknown context Session words = option_map_or (λ other. not (has_causal context.script.sessions other)) (predecessor_in words) false
 is_unknown context Put (key ∷ words) = not (is_declared context key)
 is_unknown context Get (key ∷ []) = not (is_declared context key)
 is_unknown context Get (key ∷ worker ∷ words) = not (is_declared context key && is_replica context key (number_of worker))

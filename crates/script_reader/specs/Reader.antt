@@ -106,7 +106,7 @@ abbrev pub with_added : Sessions → Line → Sessions
 with_added sessions line = record {
   placement = sessions.placement;
   done = sessions.done;
-  last = record { name = sessions.last.name; level = sessions.last.level; lines = sessions.last.lines ++ line ∷ [] };
+  last = record { name = sessions.last.name; level = sessions.last.level; after = sessions.last.after; lines = sessions.last.lines ++ line ∷ [] };
   commands = sessions.commands + 1;
   begun = begun_after_line sessions.begun line;
 }

@@ -1,7 +1,7 @@
 -- The script that statements say: each part is read off the whole list.
 use Rattle.std.specs.Prelude.{ℕ, ◌+◌, min, Bool, false, if◌then◌else◌, List, [], ◌∷◌, ◌++◌, map, drop, fold, codes, Option, Some, None, unwrap_or, position}
 use Rattle.std.specs.List.{slice_get, list_any}
-use Rattle.std.specs.Option.{option_and_then}
+use Rattle.std.specs.Option.{option_map, option_and_then}
 use Rattle.std.specs.Str.{bytes_eq}
 use Rattle.composed_value.specs.declared.kind.Kind.{Kind}
 use Rattle.composed_value.specs.declared.kind.Kind.TheVariants as kinds
@@ -83,6 +83,14 @@ kind_in statement = unwrap_or (kind_said (word 1 statement)) kinds.Max
 abbrev pub level_in : Statement → Level
 level_in statement = unwrap_or (level_said (word 1 statement)) Eventual
 
+-- the name of the session that a session comes after, of the words after `session`, where one is named
+abbrev pub predecessor_in : List (List ℕ) → Option (List ℕ)
+predecessor_in words = slice_get words 3
+
+-- and its number
+abbrev pub after_said : List (List ℕ) → List (List ℕ) → Option ℕ
+after_said named words = option_map (session_number named) (predecessor_in words)
+
 -- the workers, which the second line says, the replication factor, which is 1 where no line says another, and the keys
 abbrev pub config_said : List Statement → Config
 config_said statements = record {
@@ -117,7 +125,12 @@ abbrev pub sessions_said : List (List ℕ) → List Kind → List (List ℕ) →
 sessions_said keys of_keys named [] = []
 sessions_said keys of_keys named (statement ∷ statements) =
     if is_session statement.keyword
-    then record { name = word 0 statement; level = level_in statement; lines = map (λ line. line_said keys of_keys named line.keyword line.words) (own_commands statements) }
+    then record {
+      name = word 0 statement;
+      level = level_in statement;
+      after = after_said named statement.words;
+      lines = map (λ line. line_said keys of_keys named line.keyword line.words) (own_commands statements);
+    }
     ∷ sessions_said keys of_keys named statements
     else sessions_said keys of_keys named statements
 

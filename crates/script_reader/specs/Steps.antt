@@ -6,7 +6,7 @@ use Rattle.session_known.specs.declared.script.SessionPlan.{SessionPlan}
 use Rattle.script_reader.specs.Faults.{Context, keys_of}
 use Rattle.script_reader.specs.Keywords.{is_factor, is_round}
 use Rattle.script_reader.specs.Lines.{Statement, word}
-use Rattle.script_reader.specs.Said.{key_said, kind_in, level_in, line_said}
+use Rattle.script_reader.specs.Said.{key_said, kind_in, level_in, after_said, line_said}
 use Rattle.script_reader.specs.Words.{number_of}
 use Rattle.script_reader.specs.declared.keyword.Keyword.{Keyword}
 use Rattle.script_reader.specs.declared.keyword.Keyword.TheVariants.{Anna, Workers, Factor, Round, Key, Session, Put, Get, Await, Begin, Commit, Abort}
@@ -47,15 +47,15 @@ with_key statement script = record {
 -- the sessions with one more line in the last
 abbrev pub with_line : Line → List SessionPlan → List SessionPlan
 with_line line [] = []
-with_line line (plan ∷ []) = record { name = plan.name; level = plan.level; lines = plan.lines ++ line ∷ [] } ∷ []
+with_line line (plan ∷ []) = record { name = plan.name; level = plan.level; after = plan.after; lines = plan.lines ++ line ∷ [] } ∷ []
 with_line line (plan ∷ other ∷ plans) = plan ∷ with_line line (other ∷ plans)
 
 abbrev pub with_sessions : List SessionPlan → Script → Script
 with_sessions sessions script = record { version = script.version; config = script.config; round = script.round; kinds = script.kinds; sessions = sessions }
 
 -- a session that has no line yet
-abbrev pub new_session : Statement → SessionPlan
-new_session statement = record { name = word 0 statement; level = level_in statement; lines = [] }
+abbrev pub new_session : List (List ℕ) → Statement → SessionPlan
+new_session named statement = record { name = word 0 statement; level = level_in statement; after = after_said named statement.words; lines = [] }
 
 -- the script with a command
 abbrev pub with_command : Context → Keyword → List (List ℕ) → Script
@@ -68,7 +68,7 @@ script_after context Workers (number ∷ words) = with_workers (number_of number
 script_after context Factor (number ∷ words) = with_factor (number_of number) context.script
 script_after context Round (number ∷ words) = with_round (number_of number) context.script
 script_after context Key words = with_key (record { keyword = Key; words = words }) context.script
-script_after context Session words = with_sessions (context.script.sessions ++ new_session (record { keyword = Session; words = words }) ∷ []) context.script
+script_after context Session words = with_sessions (context.script.sessions ++ new_session context.named (record { keyword = Session; words = words }) ∷ []) context.script
 script_after context Put words = with_command context Put words
 script_after context Get words = with_command context Get words
 script_after context Await words = with_command context Await words

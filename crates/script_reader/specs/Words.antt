@@ -17,6 +17,10 @@ use Rattle.session_known.specs.declared.script.Level.TheVariants.{Eventual, Comm
 abbrev pub texts : List (Bor (List ℕ)) → List (List ℕ)
 texts words = map (λ word. word.now) words
 
+-- the bytes of a word that is lent, where there is one
+abbrev pub lent : Option (Bor (List ℕ)) → Option (List ℕ)
+lent word = option_map (λ word. word.now) word
+
 -- 1 to `most` bytes of A-Z a-z 0-9 _ . -
 abbrev pub is_spelled : ℕ → List ℕ → Bool
 is_spelled most word = nat_le 1 (length word) && (nat_le (length word) most && list_all is_spelling_byte word)

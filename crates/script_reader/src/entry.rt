@@ -42,9 +42,11 @@ pub(crate) enum Entry<'w, 'a> {
         by_factor: bool,
         numbers: &'w [&'a [u8]],
     },
+    /// A session, and the name of the session that it comes after where one is named.
     Session {
         name: &'a [u8],
         level: Level,
+        after: Option<&'a [u8]>,
     },
     Put {
         key: &'a [u8],
@@ -144,7 +146,7 @@ fn key_numbers<'w, 'a>(placed: &'w [&'a [u8]]) -> Option<(bool, &'w [&'a [u8]])>
     None
 }
 
-/// A session and its level.
+/// A session and its level; and where it is causal, the session that it comes after, where one is named.
 fn session_entry<'w, 'a>(words: &'w [&'a [u8]]) -> Option<Entry<'w, 'a>>
     ensures { TellsApart Keyword.Session (texts words.now) result }
 {
@@ -152,7 +154,16 @@ fn session_entry<'w, 'a>(words: &'w [&'a [u8]]) -> Option<Entry<'w, 'a>>
         [name, word] => Some(Entry::Session {
             name,
             level: level(word)?,
+            after: None,
         }),
+        [name, word, by, other]
+            if *by == b"after".as_slice() && level(word) == Some(Level::Causal) => {
+            Some(Entry::Session {
+                name,
+                level: Level::Causal,
+                after: Some(other),
+            })
+        }
         _ => None,
     }
 }

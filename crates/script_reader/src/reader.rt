@@ -166,7 +166,7 @@ impl<'a> Reader<'a> {
                 by_factor,
                 numbers,
             } => self.take_key(alloc, name, kind, by_factor, numbers),
-            Entry::Session { name, level } => self.take_session(alloc, name, level),
+            Entry::Session { name, level, after } => self.take_session(alloc, name, level, after),
             Entry::Put { key, payload } => self.take_put(key, payload),
             Entry::Get { key } => self.take_get(key),
             Entry::GetFrom { key, worker } => self.take_get_from(key, worker),
@@ -264,6 +264,7 @@ fn is_in_version(version: u16, keyword: Keyword, words: &[&[u8]]) -> bool
             version >= 2 || !is_later_kind(kind) && *by != b"factor".as_slice()
         }
         (Keyword::Key, [_, kind]) => version >= 2 || !is_later_kind(kind),
+        (Keyword::Session, [_, _, _, _, ..]) => version >= 2,
         _ => true,
     }
 }

@@ -3,9 +3,9 @@ use Rattle.std.specs.Prelude.{◌≡◌, ℕ, ◌+◌, ◌≤◌, List, [], ◌�
 use Rattle.std.proofs.Common.{suc, refl, ap, length-append, arith}
 use Rattle.std.proofs.lemmas.List.Sums.{sum_by-cons}
 use Rattle.composed_value.specs.declared.payload.Payload.{Payload}
-use Rattle.session_known.specs.Accepted.{accepted, accepted_from, client_of}
+use Rattle.session_known.specs.Accepted.{accepted, accepted_from, client_of, start_of, ends_of}
 use Rattle.session_known.specs.Script.{IsValidScript}
-use Rattle.session_known.specs.Session.{Client, Knowledge, State, after, held_puts, knows_put, own_count, puts_by, puts_committed, puts_from, start}
+use Rattle.session_known.specs.Session.{Client, Knowledge, State, after, held_puts, knows_put, own_count, puts_by, puts_committed, puts_from}
 use Rattle.session_known.specs.declared.report.Answer.{Answer}
 use Rattle.session_known.specs.declared.report.Answer.TheVariants as answers
 use Rattle.session_known.specs.declared.report.Report.{Report}
@@ -43,15 +43,15 @@ lines_accept client state (line ∷ lines) (answer ∷ answers) =
     omega (arith, both, line_accepts client state line answer, lines_accept client reached lines answers)
 
 -- and all sessions no more than they have
-pub all_accept : (number : ℕ) (plans : List SessionPlan) (others : List (List Answer)) → length (accepted_from number plans others) ≤ sum_by (λ plan. length plan.lines) plans
-all_accept number [] others = omega arith
-all_accept number (plan ∷ plans) [] = omega arith
-all_accept number (plan ∷ plans) (answers ∷ others) =
+pub all_accept : (ends : List Knowledge) (number : ℕ) (plans : List SessionPlan) (others : List (List Answer)) → length (accepted_from ends number plans others) ≤ sum_by (λ plan. length plan.lines) plans
+all_accept ends number [] others = omega arith
+all_accept ends number (plan ∷ plans) [] = omega arith
+all_accept ends number (plan ∷ plans) (answers ∷ others) =
     let lines_of : SessionPlan → ℕ = λ plan. length plan.lines in
     let client : Client = client_of number plan in
-    let both = length-append (puts_from client start plan.lines answers) (accepted_from (number + 1) plans others) in
-    omega (arith, both, lines_accept client start plan.lines answers, all_accept (number + 1) plans others, sum_by-cons lines_of plan plans)
+    let both = length-append (puts_from client (start_of ends plan) plan.lines answers) (accepted_from ends (number + 1) plans others) in
+    omega (arith, both, lines_accept client (start_of ends plan) plan.lines answers, all_accept ends (number + 1) plans others, sum_by-cons lines_of plan plans)
 
 -- At most 4,096 puts are accepted.
 pub few_accepted : (script : Script) (table : List (List ℕ)) (report : Report) → IsValidScript script table → length (accepted script report) ≤ 4096
-few_accepted script table report valid = omega (arith, all_accept 1 script.sessions report.answers, valid.few_lines)
+few_accepted script table report valid = omega (arith, all_accept (ends_of script report) 1 script.sessions report.answers, valid.few_lines)

@@ -94,14 +94,14 @@ as_many_answers table client state before (line ∷ lines) (answer ∷ answers) 
 pub later_covers_earlier : (session : AnsweredSession) → LaterRepliesCover session
 later_covers_earlier session causal i j key earlier later before shown_i shown_j =
     let client : Client = session.client in
-    let state_i : State = state_before client start session.lines session.answers i in
-    let state_j : State = state_before client start session.lines session.answers j in
+    let state_i : State = state_before client (start session.origin) session.lines session.answers i in
+    let state_j : State = state_before client (start session.origin) session.lines session.answers j in
     let fits = fits_at session.script client.level session.lines session.answers i shown_i.line shown_i.answer session.form shown_i.at in
     let is : IsClock earlier = shown_is_clock session.script client.level shown_i.line shown_i.answer key earlier fits shown_i.shows in
-    let same = as_many_answers session.table client start [] session.lines session.answers session.lawful in
-    let known = known_before client start session.lines session.answers i j shown_i.line shown_i.answer key earlier before same shown_i.at
+    let same = as_many_answers session.table client (start session.origin) [] session.lines session.answers session.lawful in
+    let known = known_before client (start session.origin) session.lines session.answers i j shown_i.line shown_i.answer key earlier before same shown_i.at
     (known_once_shown client state_i shown_i.line shown_i.answer key earlier is shown_i.shows) in
-    let lawful_j = lawful_at session.table client start [] session.lines session.answers j shown_j.line shown_j.answer session.lawful shown_j.at in
+    let lawful_j = lawful_at session.table client (start session.origin) [] session.lines session.answers j shown_j.line shown_j.answer session.lawful shown_j.at in
     let counts = counts_what_is_known session.table client state_j lawful_j.earlier shown_j.line shown_j.answer key later causal lawful_j.lawful shown_j.shows in
     covers_from_counts later earlier is (λ of_session. omega (arith, known of_session, counts of_session))
 
@@ -138,11 +138,11 @@ needs_are_covered_later session causal i j key needs later earlier shown_i shown
     let client : Client = session.client in
     let fits : Fits session.script Causal shown_i.line shown_i.answer = subst (λ level. Fits session.script level shown_i.line shown_i.answer) causal (fits_at session.script client.level session.lines session.answers i shown_i.line shown_i.answer session.form shown_i.at) in
     let are : IsNeeds needs = shown_are_needs session.script shown_i.line shown_i.answer needs fits shown_i.shows in
-    let same = as_many_answers session.table client start [] session.lines session.answers session.lawful in
-    let known = known_before client start session.lines session.answers i j shown_i.line shown_i.answer key (clock_at key needs) earlier same shown_i.at
-    (needs_known client (state_before client start session.lines session.answers i) shown_i.line shown_i.answer needs key causal are shown_i.shows) in
-    let lawful_j = lawful_at session.table client start [] session.lines session.answers j shown_j.line shown_j.answer session.lawful shown_j.at in
-    let counts = counts_what_is_known session.table client (state_before client start session.lines session.answers j) lawful_j.earlier shown_j.line shown_j.answer key later causal lawful_j.lawful shown_j.shows in
+    let same = as_many_answers session.table client (start session.origin) [] session.lines session.answers session.lawful in
+    let known = known_before client (start session.origin) session.lines session.answers i j shown_i.line shown_i.answer key (clock_at key needs) earlier same shown_i.at
+    (needs_known client (state_before client (start session.origin) session.lines session.answers i) shown_i.line shown_i.answer needs key causal are shown_i.shows) in
+    let lawful_j = lawful_at session.table client (start session.origin) [] session.lines session.answers j shown_j.line shown_j.answer session.lawful shown_j.at in
+    let counts = counts_what_is_known session.table client (state_before client (start session.origin) session.lines session.answers j) lawful_j.earlier shown_j.line shown_j.answer key later causal lawful_j.lawful shown_j.shows in
     covers_from_counts later (clock_at key needs) (clock_at_is_clock key needs are) (λ of_session. omega (arith, known of_session, counts of_session))
 
 -- what a session knows of a clock of the key that it was shown: all that it counts, and of its own puts at least as many are made
@@ -236,15 +236,15 @@ accepted_overtakes table client state earlier line answer key clock put is taken
 pub puts_overtake_clocks : (session : AnsweredSession) → PutsOvertakeShownClocks session
 puts_overtake_clocks session i j key clock put earlier shown accepted =
     let client : Client = session.client in
-    let state_i : State = state_before client start session.lines session.answers i in
+    let state_i : State = state_before client (start session.origin) session.lines session.answers i in
     let fits = fits_at session.script client.level session.lines session.answers i shown.line shown.answer session.form shown.at in
     let is : IsClock clock = shown_is_clock session.script client.level shown.line shown.answer key clock fits shown.shows in
-    let same = as_many_answers session.table client start [] session.lines session.answers session.lawful in
-    let lawful_i = lawful_at session.table client start [] session.lines session.answers i shown.line shown.answer session.lawful shown.at in
-    let lawful_j = lawful_at session.table client start [] session.lines session.answers j accepted.line accepted.answer session.lawful accepted.at in
-    let taken = stays_after client (λ s. HasTakenIn client key clock s.knows) (λ s l a. taken_in_at_line client key clock s l a) start session.lines session.answers i j shown.line shown.answer earlier same shown.at
+    let same = as_many_answers session.table client (start session.origin) [] session.lines session.answers session.lawful in
+    let lawful_i = lawful_at session.table client (start session.origin) [] session.lines session.answers i shown.line shown.answer session.lawful shown.at in
+    let lawful_j = lawful_at session.table client (start session.origin) [] session.lines session.answers j accepted.line accepted.answer session.lawful accepted.at in
+    let taken = stays_after client (λ s. HasTakenIn client key clock s.knows) (λ s l a. taken_in_at_line client key clock s l a) (start session.origin) session.lines session.answers i j shown.line shown.answer earlier same shown.at
     (taken_in_once_shown session.table client state_i lawful_i.earlier shown.line shown.answer key clock is lawful_i.lawful shown.shows) in
-    accepted_overtakes session.table client (state_before client start session.lines session.answers j) lawful_j.earlier accepted.line accepted.answer key clock put is taken lawful_j.lawful accepted.accepts
+    accepted_overtakes session.table client (state_before client (start session.origin) session.lines session.answers j) lawful_j.earlier accepted.line accepted.answer key clock put is taken lawful_j.lawful accepted.accepts
 
 -- So it has seen strictly more than each version whose clock the shown clock covers.
 pub puts_overtake_versions : (session : AnsweredSession) → PutsOvertakeCoveredVersions session

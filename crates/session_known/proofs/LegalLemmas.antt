@@ -15,14 +15,14 @@ use Rattle.composed_value.specs.Sound.{counted, IsSound, AreNumbered}
 use Rattle.composed_value.specs.declared.kind.Kind.{Kind}
 use Rattle.composed_value.specs.declared.put.Put as puts
 use Rattle.composed_value.specs.Keyed.{puts_on, kind_at}
-use Rattle.session_known.specs.Accepted.{made_on, AreNext, accepted, accepted_from}
+use Rattle.session_known.specs.Accepted.{made_on, AreNext, accepted, accepted_from, ends_of}
 use Rattle.session_known.specs.Form.{Fits, IsFinalIn}
 use Rattle.session_known.proofs.KnownLemmas.{CountsAtMost, first_at_most, shown_is_known}
 use Rattle.session_known.specs.Lawful.{ShowsAt, by_get, by_await, required_by_get, IsLawful, IsTrueOf, CountsAccepted}
 use Rattle.session_known.specs.Laws.{FinalsAgree}
 use Rattle.session_known.specs.Legal.{AreLawfulFrom, IsLawfulFinal, IsLegalAt}
 use Rattle.session_known.proofs.NumberedLemmas.{number_at, numbered_from_next, accepted_are_next}
-use Rattle.session_known.specs.Session.{Client, State, after}
+use Rattle.session_known.specs.Session.{Client, Knowledge, State, after}
 use Rattle.session_known.specs.declared.report.Answer.{Answer}
 use Rattle.session_known.specs.declared.report.FinalCell.{FinalCell}
 use Rattle.session_known.specs.declared.report.Report.{Report}
@@ -33,8 +33,8 @@ use Rattle.session_known.specs.declared.script.Script.{Script}
 use Rattle.session_known.specs.declared.script.SessionPlan.{SessionPlan}
 
 -- the accepted puts of a session on a key are numbered 1, 2 and so on, each once
-pub accepted_are_numbered : (table : List (List ℕ)) (plans : List SessionPlan) (answers : List (List Answer)) → AreLawfulFrom table 1 plans answers → (session key : ℕ) → AreNumbered (puts_of_session session (puts_on key (accepted_from 1 plans answers)))
-accepted_are_numbered table plans answers lawful session key = numbered_from_next (made_on session key (accepted_from 1 plans answers)) (accepted_are_next table 1 plans answers lawful session key)
+pub accepted_are_numbered : (table : List (List ℕ)) (ends : List Knowledge) (plans : List SessionPlan) (answers : List (List Answer)) → AreLawfulFrom table ends 1 plans answers → (session key : ℕ) → AreNumbered (puts_of_session session (puts_on key (accepted_from ends 1 plans answers)))
+accepted_are_numbered table ends plans answers lawful session key = numbered_from_next (made_on session key (accepted_from ends 1 plans answers)) (accepted_are_next table ends 1 plans answers lawful session key)
 
 -- a clock that counts each of puts that follow 0 counts as many as there are
 as_many_as_next : (made : List puts.Put) (session : ℕ) (clock : List (ℕ × ℕ)) → AreNext 0 made → ((put : puts.Put) → Contains made put → put.number ≤ count_of session clock) → length made ≤ count_of session clock
@@ -53,7 +53,7 @@ final_counts table script report legal cell lawful session =
     let both = contains_filtered (λ (p : puts.Put). session == p.session) on_key put has_it in
     let counts : put.number ≤ count_of put.session cell.clock = All-contains (λ p. p.number ≤ count_of p.session cell.clock) on_key put lawful.counts_all both.0 in
     subst (λ s. put.number ≤ count_of s cell.clock) (sym (eqb-true session put.session both.1)) counts in
-    let at_least = as_many_as_next (puts_of_session session on_key) session cell.clock (accepted_are_next table 1 script.sessions report.answers legal.answers session cell.key) is_counted in
+    let at_least = as_many_as_next (puts_of_session session on_key) session cell.clock (accepted_are_next table (ends_of script report) 1 script.sessions report.answers legal.answers session cell.key) is_counted in
     omega (arith, at_least, lawful.sound.counts session)
 
 -- in a legal report the final cells of the replicas of a key have equal clock, top and value

@@ -1,5 +1,7 @@
 pub mod AcceptedLemmas
 pub mod CoversLemmas
+pub mod DenseLemmas
+pub mod EndsLemmas
 pub mod FormLemmas
 pub mod KnownLemmas
 pub mod LaterLemmas

@@ -19,10 +19,10 @@ use Rattle.composed_value.specs.declared.payload.Payload.{Payload}
 use Rattle.composed_value.specs.declared.put.Put as puts
 use Rattle.composed_value.proofs.KeyedLemmas.{puts_on-append, on_its_key, on_no_other}
 use Rattle.composed_value.specs.Keyed.{puts_on}
-use Rattle.session_known.specs.Accepted.{client_of, made_on, AreNext, accepted_from}
+use Rattle.session_known.specs.Accepted.{client_of, origin_of, start_of, made_on, AreNext, accepted_from}
 use Rattle.session_known.specs.Lawful.{IsLawful, AreLawful}
 use Rattle.session_known.specs.Legal.{AreLawfulFrom}
-use Rattle.session_known.specs.Session.{Client, Knowledge, State, start, own_count, put_made, knows_put, puts_committed, knows_committed, held_puts, after, puts_by, puts_from, state_after}
+use Rattle.session_known.specs.Session.{Client, Knowledge, State, own_count, put_made, knows_put, puts_committed, knows_committed, held_puts, after, puts_by, puts_from, state_after}
 use Rattle.session_known.specs.declared.report.Answer.{Answer}
 use Rattle.session_known.specs.declared.report.Answer.TheVariants as answers
 use Rattle.session_known.specs.declared.script.Line.{Line}
@@ -166,9 +166,14 @@ AreNumberedLines client state (line ∷ lines) (answer ∷ answers) = IsNumbered
 AreNumberedLines client state lines answers = ⊤
 
 -- and of each session, from a number on
-abbrev pub AreNumberedFrom : ℕ → List SessionPlan → List (List Answer) → Type 0
-AreNumberedFrom number (plan ∷ plans) (answers ∷ others) = AreNumberedLines (client_of number plan) start plan.lines answers × AreNumberedFrom (number + 1) plans others
-AreNumberedFrom number plans answers = ⊤
+abbrev pub AreNumberedFrom : List Knowledge → ℕ → List SessionPlan → List (List Answer) → Type 0
+AreNumberedFrom ends number (plan ∷ plans) (answers ∷ others) = AreNumberedLines (client_of number plan) (start_of ends plan) plan.lines answers × AreNumberedFrom ends (number + 1) plans others
+AreNumberedFrom ends number plans answers = ⊤
+
+-- a session has made no puts at its start
+pub none_at_start : (ends : List Knowledge) (after : Option ℕ) (key : ℕ) → own_count (origin_of ends after) key ≡ 0
+none_at_start ends (Some after) key = refl
+none_at_start ends None key = refl
 
 -- the puts of a line follow the session's count
 pub next_of_line : (client : Client) (state : State) (line : Line) (answer : Answer) (key : ℕ) → IsNumbered state line answer
@@ -205,10 +210,10 @@ lines_are_numbered table client state earlier (line ∷ lines) (answer ∷ answe
 )
 lines_are_numbered table client state earlier lines answers lawful = tt
 
-all_are_numbered : (table : List (List ℕ)) (number : ℕ) (plans : List SessionPlan) (answers : List (List Answer)) → AreLawfulFrom table number plans answers → AreNumberedFrom number plans answers
-all_are_numbered table number (plan ∷ plans) (answers ∷ others) lawful =
-    (lines_are_numbered table (client_of number plan) start [] plan.lines answers lawful.0, all_are_numbered table (number + 1) plans others lawful.1)
-all_are_numbered table number plans answers lawful = tt
+all_are_numbered : (table : List (List ℕ)) (ends : List Knowledge) (number : ℕ) (plans : List SessionPlan) (answers : List (List Answer)) → AreLawfulFrom table ends number plans answers → AreNumberedFrom ends number plans answers
+all_are_numbered table ends number (plan ∷ plans) (answers ∷ others) lawful =
+    (lines_are_numbered table (client_of number plan) (start_of ends plan) [] plan.lines answers lawful.0, all_are_numbered table ends (number + 1) plans others lawful.1)
+all_are_numbered table ends number plans answers lawful = tt
 
 module _ (client : Client) where
   -- a put of the session
@@ -264,41 +269,42 @@ module _ (session key : ℕ) where
       (All-weaker (IsOwn client) (λ entry. entry.1.session ≢ session) (λ entry own same. other (sym same ∙ own)) (puts_from client state lines answers) (lines_own client state lines answers))
 
   -- later sessions make no puts of an earlier one
-  none_by_later : (number : ℕ) (plans : List SessionPlan) (answers : List (List Answer)) → session < number → made_on session key (accepted_from number plans answers) ≡ []
-  none_by_later number (plan ∷ plans) (answers ∷ others) earlier =
-      none_in_both session key (puts_from (client_of number plan) start plan.lines answers) (accepted_from (number + 1) plans others)
-      (none_by_lines (client_of number plan) start plan.lines answers (λ same. omega (arith, same, earlier))) (none_by_later (number + 1) plans others (omega (arith, earlier)))
-  none_by_later number plans answers earlier = refl
+  none_by_later : (ends : List Knowledge) (number : ℕ) (plans : List SessionPlan) (answers : List (List Answer)) → session < number → made_on session key (accepted_from ends number plans answers) ≡ []
+  none_by_later ends number (plan ∷ plans) (answers ∷ others) earlier =
+      none_in_both session key (puts_from (client_of number plan) (start_of ends plan) plan.lines answers) (accepted_from ends (number + 1) plans others)
+      (none_by_lines (client_of number plan) (start_of ends plan) plan.lines answers (λ same. omega (arith, same, earlier))) (none_by_later ends (number + 1) plans others (omega (arith, earlier)))
+  none_by_later ends number plans answers earlier = refl
 
   -- the first session's puts are those of its lines
-  pub accepted_of_first : (number : ℕ) (plan : SessionPlan) (plans : List SessionPlan) (answers : List Answer) (others : List (List Answer)) → session ≡ number
-      → made_on session key (accepted_from number (plan ∷ plans) (answers ∷ others)) ≡ made_on session key (puts_from (client_of number plan) start plan.lines answers)
-  accepted_of_first number plan plans answers others same =
-      let made : List (ℕ × puts.Put) = puts_from (client_of number plan) start plan.lines answers in
-      made_on-append session key made (accepted_from (number + 1) plans others)
-      ∙ ap (λ later. made_on session key made ++ later) (none_by_later (number + 1) plans others (omega (arith, same))) ∙ append-nil (made_on session key made)
+  pub accepted_of_first : (ends : List Knowledge) (number : ℕ) (plan : SessionPlan) (plans : List SessionPlan) (answers : List Answer) (others : List (List Answer)) → session ≡ number
+      → made_on session key (accepted_from ends number (plan ∷ plans) (answers ∷ others)) ≡ made_on session key (puts_from (client_of number plan) (start_of ends plan) plan.lines answers)
+  accepted_of_first ends number plan plans answers others same =
+      let made : List (ℕ × puts.Put) = puts_from (client_of number plan) (start_of ends plan) plan.lines answers in
+      made_on-append session key made (accepted_from ends (number + 1) plans others)
+      ∙ ap (λ later. made_on session key made ++ later) (none_by_later ends (number + 1) plans others (omega (arith, same))) ∙ append-nil (made_on session key made)
 
   -- and those of the others are made by these
-  pub accepted_of_later : (number : ℕ) (plan : SessionPlan) (plans : List SessionPlan) (answers : List Answer) (others : List (List Answer)) → session ≢ number
-      → made_on session key (accepted_from number (plan ∷ plans) (answers ∷ others)) ≡ made_on session key (accepted_from (number + 1) plans others)
-  accepted_of_later number plan plans answers others other =
-      let made : List (ℕ × puts.Put) = puts_from (client_of number plan) start plan.lines answers in
-      made_on-append session key made (accepted_from (number + 1) plans others)
-      ∙ ap (λ earlier. earlier ++ made_on session key (accepted_from (number + 1) plans others)) (none_by_lines (client_of number plan) start plan.lines answers other)
+  pub accepted_of_later : (ends : List Knowledge) (number : ℕ) (plan : SessionPlan) (plans : List SessionPlan) (answers : List Answer) (others : List (List Answer)) → session ≢ number
+      → made_on session key (accepted_from ends number (plan ∷ plans) (answers ∷ others)) ≡ made_on session key (accepted_from ends (number + 1) plans others)
+  accepted_of_later ends number plan plans answers others other =
+      let made : List (ℕ × puts.Put) = puts_from (client_of number plan) (start_of ends plan) plan.lines answers in
+      made_on-append session key made (accepted_from ends (number + 1) plans others)
+      ∙ ap (λ earlier. earlier ++ made_on session key (accepted_from ends (number + 1) plans others)) (none_by_lines (client_of number plan) (start_of ends plan) plan.lines answers other)
 
   -- where the puts of each session are numbered so, its accepted puts on a key follow 0
-  pub numbered_are_next : (number : ℕ) (plans : List SessionPlan) (answers : List (List Answer)) → AreNumberedFrom number plans answers → AreNext 0 (made_on session key (accepted_from number plans answers))
-  numbered_are_next number (plan ∷ plans) (answers ∷ others) numbered =
-      let made : List (ℕ × puts.Put) = puts_from (client_of number plan) start plan.lines answers in
-      elim (eqb_tells session number) as (λ _. AreNext 0 (made_on session key (accepted_from number (plan ∷ plans) (answers ∷ others)))) [
+  pub numbered_are_next : (ends : List Knowledge) (number : ℕ) (plans : List SessionPlan) (answers : List (List Answer)) → AreNumberedFrom ends number plans answers → AreNext 0 (made_on session key (accepted_from ends number plans answers))
+  numbered_are_next ends number (plan ∷ plans) (answers ∷ others) numbered =
+      let made : List (ℕ × puts.Put) = puts_from (client_of number plan) (start_of ends plan) plan.lines answers in
+      elim (eqb_tells session number) as (λ _. AreNext 0 (made_on session key (accepted_from ends number (plan ∷ plans) (answers ∷ others)))) [
         | inl same ↦
-            subst (AreNext 0) (sym (accepted_of_first number plan plans answers others same.1))
-            (subst (λ s. AreNext 0 (made_on s key made)) (sym same.1) (next_of_lines (client_of number plan) start plan.lines answers key numbered.0).next)
+            subst (AreNext 0) (sym (accepted_of_first ends number plan plans answers others same.1))
+            (subst (λ s. AreNext 0 (made_on s key made)) (sym same.1)
+            (subst (λ n. AreNext n (made_on number key made)) (none_at_start ends plan.after key) (next_of_lines (client_of number plan) (start_of ends plan) plan.lines answers key numbered.0).next))
         | inr other ↦
-            subst (AreNext 0) (sym (accepted_of_later number plan plans answers others other.1)) (numbered_are_next (number + 1) plans others numbered.1)
+            subst (AreNext 0) (sym (accepted_of_later ends number plan plans answers others other.1)) (numbered_are_next ends (number + 1) plans others numbered.1)
       ]
-  numbered_are_next number plans answers numbered = tt
+  numbered_are_next ends number plans answers numbered = tt
 
 -- so do those of lawful sessions
-pub accepted_are_next : (table : List (List ℕ)) (number : ℕ) (plans : List SessionPlan) (answers : List (List Answer)) → AreLawfulFrom table number plans answers → (session key : ℕ) → AreNext 0 (made_on session key (accepted_from number plans answers))
-accepted_are_next table number plans answers lawful session key = numbered_are_next session key number plans answers (all_are_numbered table number plans answers lawful)
+pub accepted_are_next : (table : List (List ℕ)) (ends : List Knowledge) (number : ℕ) (plans : List SessionPlan) (answers : List (List Answer)) → AreLawfulFrom table ends number plans answers → (session key : ℕ) → AreNext 0 (made_on session key (accepted_from ends number plans answers))
+accepted_are_next table ends number plans answers lawful session key = numbered_are_next session key ends number plans answers (all_are_numbered table ends number plans answers lawful)

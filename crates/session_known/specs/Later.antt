@@ -7,7 +7,7 @@ use Rattle.composed_value.specs.Version.{Version}
 use Rattle.composed_value.specs.declared.put.Put as puts
 use Rattle.session_known.specs.Form.{Fits}
 use Rattle.session_known.specs.Lawful.{ShowsAt, AreLawful}
-use Rattle.session_known.specs.Session.{Client, State, start, puts_by, state_after}
+use Rattle.session_known.specs.Session.{Client, Knowledge, State, start, puts_by, state_after}
 use Rattle.session_known.specs.declared.report.Answer.{Answer}
 use Rattle.session_known.specs.declared.report.Answer.TheVariants as answers
 use Rattle.session_known.specs.declared.report.Shown.{Shown}
@@ -16,15 +16,16 @@ use Rattle.session_known.specs.declared.script.Line.{Line}
 use Rattle.session_known.specs.declared.script.Line.TheVariants as lines
 use Rattle.session_known.specs.declared.script.Script.{Script}
 
--- a session of a script whose lines have lawful answers, in form
+-- a session of a script, with what it knows at its start, whose lines have lawful answers, in form
 pub record AnsweredSession : Type 0 where
   pub script : Script
   pub table : List (List ℕ)
   pub client : Client
+  pub origin : Knowledge
   pub lines : List Line
   pub answers : List Answer
   pub form : AllZip (Fits script client.level) lines answers
-  pub lawful : AreLawful table client start [] lines answers
+  pub lawful : AreLawful table client (start origin) [] lines answers
 
 -- the line at a place, and its answer
 pub record IsAnsweredAt (lines : List Line) (answers : List Answer) (place : ℕ) (line : Line) (answer : Answer) : Type 0 where
@@ -60,7 +61,7 @@ pub record AcceptsIn (session : AnsweredSession) (place key : ℕ) (put : puts.P
   pub line : Line
   pub answer : Answer
   pub at : IsAnsweredAt session.lines session.answers place line answer
-  pub accepts : Contains (puts_by session.client (state_before session.client start session.lines session.answers place) line answer) (key, put)
+  pub accepts : Contains (puts_by session.client (state_before session.client (start session.origin) session.lines session.answers place) line answer) (key, put)
 
 -- In a causal session, later replies on a key cover the earlier ones.
 abbrev pub LaterRepliesCover : AnsweredSession → Type 0

@@ -4,7 +4,7 @@ use Rattle.std.specs.List.{range_with_len}
 use Rattle.composed_value.specs.declared.put.Put as puts
 use Rattle.placement.specs.Asked.{replicas_of, home_at, ask_order}
 use Rattle.session_known.specs.Lawful.{required}
-use Rattle.session_known.specs.Session.{Client, State, start, after, puts_by}
+use Rattle.session_known.specs.Session.{Client, Knowledge, State, start, after, puts_by}
 use Rattle.session_known.specs.declared.report.Answer.{Answer}
 use Rattle.session_known.specs.declared.report.Answer.TheVariants as answers
 use Rattle.session_known.specs.declared.script.Level.{Level}
@@ -70,6 +70,6 @@ MayHaveSent table level [] [] [] = ⊤
 MayHaveSent table level (said ∷ asks) (line ∷ lines) (answer ∷ answers) = MayHaveAsked table level said line answer × MayHaveSent table level asks lines answers
 MayHaveSent table level asks lines answers = ⊥
 
--- The requests that a session sends from its start on; its asks are numbered from 1.
-abbrev pub requests_of : List (List ℕ) → Client → List ℕ → List Line → List Answer → List (ℕ × Sent)
-requests_of table client asks lines answers = sent_from table client start 1 asks lines answers
+-- The requests that a session sends from its start on, where it knows `origin`; its asks are numbered from 1.
+abbrev pub requests_of : List (List ℕ) → Client → Knowledge → List ℕ → List Line → List Answer → List (ℕ × Sent)
+requests_of table client origin asks lines answers = sent_from table client (start origin) 1 asks lines answers

@@ -1,5 +1,5 @@
 -- Which scripts are valid, and what they say of keys and sessions.
-use Rattle.std.specs.Prelude.{◌≡◌, ◌≢◌, ℕ, ◌-◌, ◌≤◌, Bool, true, false, IsTrue, IsFalse, List, [], ◌∷◌, length, map, sum_by, slice_index_or, Option, Some, None, All, AllPairs, Contains, ⊤}
+use Rattle.std.specs.Prelude.{◌≡◌, ◌≢◌, ℕ, ◌-◌, ◌≤◌, Bool, true, false, IsTrue, IsFalse, List, [], ◌∷◌, length, map, sum_by, take, slice_get, slice_index_or, MatchOption, Option, Some, None, All, AllPairs, Contains, ⊤}
 use Rattle.placement.specs.Name.{IsName}
 use Rattle.placement.specs.Asked.{replicas_of}
 use Rattle.placement.specs.Config.{IsOneOf, IsValidConfig, IsPlacement}
@@ -45,6 +45,13 @@ AreEnded begun (Commit ∷ lines) = IsTrue begun × AreEnded false lines
 AreEnded begun (Abort ∷ lines) = IsTrue begun × AreEnded false lines
 AreEnded begun (line ∷ lines) = AreEnded begun lines
 
+-- A session comes after another from version 2 on, where both are causal and the other is declared before it.
+pub record MayComeAfter (version : ℕ) (earlier : List SessionPlan) (level : Level) (after : ℕ) : Type 0 where
+  pub version_is : version ≡ 2
+  pub causal : level ≡ Causal
+  pub is_earlier : IsOneOf (length earlier) after
+  pub earlier_causal : slice_get (map (λ plan. plan.level) earlier) (after - 1) ≡ Some Causal
+
 -- the lines of a session are lawful for its level, the keys and the placement
 pub record IsValidSession (script : Script) (table : List (List ℕ)) (plan : SessionPlan) : Type 0 where
   pub lines : All (MayStand script table plan.level) plan.lines
@@ -64,6 +71,7 @@ pub record IsValidScript (script : Script) (table : List (List ℕ)) : Type 0 wh
   pub few_sessions : length script.sessions ≤ 16
   pub few_lines : sum_by (λ plan. length plan.lines) script.sessions ≤ 4096
   pub sessions : All (IsValidSession script table) script.sessions
+  pub orders : (place : ℕ) (plan : SessionPlan) → slice_get script.sessions place ≡ Some plan → MatchOption plan.after ⊤ (MayComeAfter script.version (take place script.sessions) plan.level)
 
 -- A valid script, wherever a placement of its config says that its keys live.
 abbrev pub IsValid : Script → Type 0

@@ -44,12 +44,17 @@ pub record InState : Type 0 where
 abbrev pub known_of : InState → Knows
 known_of session = record { client = session.client; knows = session.state.knows }
 
--- at the start nothing is known, and no transaction is begun
+-- nothing is known
 abbrev pub nothing_known : Knowledge
 nothing_known = record { clocks = []; lamport = 0; own = [] }
 
-abbrev pub start : State
-start = record { knows = nothing_known; held = None }
+-- at the start no transaction is begun
+abbrev pub start : Knowledge → State
+start knows = record { knows = knows; held = None }
+
+-- what a session hands over to one that comes after it: its clocks and its Lamport number, and no counts of puts
+abbrev pub handed : Knowledge → Knowledge
+handed knows = record { clocks = knows.clocks; lamport = knows.lamport; own = [] }
 
 -- how many puts the session has made on the key
 abbrev pub own_count : Knowledge → ℕ → ℕ

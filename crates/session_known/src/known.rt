@@ -8,7 +8,8 @@ ghost use Rattle.clock_lattice.specs.Needs.{clock_at, joined_needs, one_need};
 ghost use Rattle.composed_value.specs.Kind.{kind_of};
 ghost use Rattle.composed_value.specs.PlainValue.{IsPutOf};
 ghost use Rattle.session_known.specs.Lawful.{IsNextLamport, required};
-ghost use Rattle.session_known.specs.Session.{nothing_known, own_count, known_raised, needs_by, IsNextPut, knows_next, needs_learned, knows_learned, shown_of, knows_reply};
+ghost use Rattle.session_known.specs.declared.script.Level.TheVariants.{Causal};
+ghost use Rattle.session_known.specs.Session.{nothing_known, handed, own_count, known_raised, needs_by, IsNextPut, knows_next, needs_learned, knows_learned, shown_of, knows_reply};
 
 use crate::{Level, Line, Shown};
 use clock_lattice::{Clock, Needs};
@@ -54,6 +55,32 @@ impl Known {
             own: Clock::new(alloc),
             alloc,
         }
+    }
+
+    /// What the session of this number, from 1, knows before its first line where it comes after this one, which has
+    /// ended, and is causal: the same of each key, and the same Lamport number. It has made no puts.
+    pub fn handed(&self, session: u16) -> Result<Known, NoMemory>
+        ensures client { IfOk result (λ known. known.client ≡ record { session = session; level = Causal }) }
+        ensures knows { IfOk result (λ known. known.knows ≡ handed self.now.knows) }
+    {
+        let mut known = Known::new(self.alloc, session, Level::Causal);
+        known.needs = self.needs.copy()?;
+        known.lamport = self.lamport;
+        Ok(known)
+    }
+
+    /// What is known, once more.
+    pub fn copy(&self) -> Result<Known, NoMemory>
+        ensures { IfOk result (λ known. known ≡ self.now) }
+    {
+        Ok(Known {
+            session: self.session,
+            level: self.level,
+            needs: self.needs.copy()?,
+            lamport: self.lamport,
+            own: self.own.copy()?,
+            alloc: self.alloc,
+        })
     }
 
     /// The number of the session, from 1. Takes no memory.
@@ -388,6 +415,29 @@ mod tests {
         assert!(rt; known.clock_for(6).is_none());
         assert_eq!(rt; known.needs().len(), 1);
         assert_eq!(rt; known.next_number(), Some(7));
+        Ok(())
+    }
+
+    #[test]
+    fn what_is_known_is_handed_over(rt: HostRuntime) -> Result<(), Fail> {
+        let mut known = Known::new(rt.alloc(), 4, Level::Causal);
+        known.note_put(5, 6)?;
+        known.note_reply(6, &shown(rt.alloc(), 9)?[0])?;
+        for (is_copy, next) in [(true, known.copy()?), (false, known.handed(7)?)] {
+            assert_eq!(rt;
+                (next.session(), next.own(5)),
+                if is_copy { (4, 1) } else { (7, 0) }
+            );
+            assert_eq!(rt;
+                (
+                    counts(&next, 5, 4),
+                    counts(&next, 6, 2),
+                    counts(&next, 7, 3)
+                ),
+                (1, 3, 1)
+            );
+            assert_eq!(rt; next.next_number(), Some(10));
+        }
         Ok(())
     }
 

@@ -1,5 +1,5 @@
 //! What legal reports have in common, as laws: each function does nothing and carries its law.
-ghost use Rattle.session_known.specs.Laws.{AcceptedAreNumbered, FinalsOfKeysAgree, RepliesCountAccepted};
+ghost use Rattle.session_known.specs.Laws.{AcceptedAreNumbered, FinalsOfKeysAgree, LamportNumbersAreDense, LamportNumbersAreFew, NoAnswerIsWorn, RepliesCountAccepted};
 ghost use Rattle.session_known.specs.Later.{AnsweredSession, LaterRepliesCover, ShownNeedsAreCoveredLater, PutsOvertakeShownClocks, PutsOvertakeCoveredVersions};
 
 /// Where all sessions are answered lawfully, the accepted puts of each session on each key are
@@ -11,6 +11,14 @@ pub fn accepted_puts_are_numbered()
 /// In a legal report the final cells of all replicas of a key have equal clock, top and value.
 pub fn final_cells_agree()
     ensures { FinalsOfKeysAgree }
+{}
+
+/// In a legal report of a valid script there is for each accepted put with a Lamport number above 1 one with the
+/// number one less (Lamport 1978). So no number is above how many puts were accepted, and no answer is `Worn`.
+pub fn lamport_numbers_are_dense()
+    ensures dense { LamportNumbersAreDense }
+    ensures few { LamportNumbersAreFew }
+    ensures not_worn { NoAnswerIsWorn }
 {}
 
 /// The clock of a reply to a get or an await counts no more puts of a session than were accepted.

@@ -9,7 +9,8 @@
 //! `specs/Later.antt` says what follows of a reply for the later lines of its session.
 //!
 //! What holds of every legal report is carried by functions that do nothing:
-//! [`accepted_puts_are_numbered`], [`final_cells_agree`] and [`replies_count_accepted_puts`]. What holds
+//! [`accepted_puts_are_numbered`], [`final_cells_agree`], [`lamport_numbers_are_dense`] and
+//! [`replies_count_accepted_puts`]. What holds
 //! of each session that is answered lawfully: [`causal_replies_cover_earlier_ones`],
 //! [`shown_needs_are_covered_later`] and [`puts_overtake_what_was_shown`]. Examples, legal and not, are
 //! those of the crate `worked_reports`.
@@ -30,7 +31,8 @@ mod state;
 pub use known::Known;
 pub use laws::{
     accepted_puts_are_numbered, causal_replies_cover_earlier_ones, final_cells_agree,
-    puts_overtake_what_was_shown, replies_count_accepted_puts, shown_needs_are_covered_later,
+    lamport_numbers_are_dense, puts_overtake_what_was_shown, replies_count_accepted_puts,
+    shown_needs_are_covered_later,
 };
 pub use report::{Answer, FinalCell, Report, Shown};
 pub use script::{Level, Line, Script, SessionPlan};

@@ -71,11 +71,13 @@ impl Line {
     }
 }
 
-/// A session: its name, its level, and its command lines in order.
+/// A session: its name, its level, the earlier session after whose end it begins, if it comes after one, by its number
+/// from 1, and its command lines in order.
 #[derive(Debug, Drop)]
 pub struct SessionPlan {
     pub name: Name,
     pub level: Level,
+    pub after: Option<u16>,
     pub lines: Items<Line>,
 }
 
@@ -145,6 +147,7 @@ mod tests {
         sessions.push(SessionPlan {
             name: Name::of(b"s")?,
             level: Level::Causal,
+            after: None,
             lines: Items::new(Vec::new(alloc)),
         })?;
         let script = Script {

@@ -3,7 +3,7 @@ ghost use Rattle.std.specs.Prelude.{◌≡◌, ◌↔◌, ◌+◌, ◌<◌, ◌^
 ghost use Rattle.composed_value.specs.Kind.{kind_of};
 ghost use Rattle.composed_value.specs.PlainValue.{IsPutOf};
 ghost use Rattle.session_known.specs.Lawful.{IsLawfulPut, IsLawfulCommit, last_lamport};
-ghost use Rattle.session_known.specs.Session.{known_of, held_puts, IsNextPut, own_count, shown_of, start, state_held, state_put, state_shown};
+ghost use Rattle.session_known.specs.Session.{known_of, held_puts, IsNextPut, own_count, nothing_known, shown_of, start, state_held, state_put, state_shown};
 
 use crate::{Known, Level, Shown};
 use composed_value::{Cell, Payload, Put};
@@ -35,13 +35,28 @@ impl SessionState {
     /// The session of this number, from 1, before its first line. Takes no memory.
     pub fn new(alloc: Global, session: u16, level: Level) -> SessionState
         ensures client { result.client ≡ record { session = session; level = level } }
-        ensures state { result.state ≡ start }
+        ensures state { result.state ≡ start nothing_known }
+    {
+        SessionState::start(alloc, Known::new(alloc, session, level))
+    }
+
+    /// The session before its first line, where it knows this. Takes no memory.
+    pub fn start(alloc: Global, known: Known) -> SessionState
+        ensures client { result.client ≡ known.client }
+        ensures state { result.state ≡ start known.knows }
     {
         SessionState {
-            known: Known::new(alloc, session, level),
+            known,
             held: None,
             alloc,
         }
+    }
+
+    /// What the session knows, of a session that is done with. Takes no memory.
+    pub fn into_known(self) -> Known
+        ensures { result ≡ known_of self }
+    {
+        self.known
     }
 
     /// What the session knows. Takes no memory.

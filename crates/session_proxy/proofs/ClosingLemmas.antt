@@ -7,7 +7,7 @@ use Rattle.placement.specs.Config.{IsOneOf}
 use Rattle.session_known.specs.Lawful.{IsLawful}
 use Rattle.session_known.specs.Requests.{puts_sent, sent_by, sent_from}
 use Rattle.session_known.specs.Script.{AreEnded}
-use Rattle.session_known.specs.Session.{Client, InState, State, after, held_puts, puts_by, start}
+use Rattle.session_known.specs.Session.{Client, InState, State, after, held_puts, puts_by}
 use Rattle.session_known.specs.declared.report.Answer.{Answer}
 use Rattle.session_known.specs.declared.report.Answer.TheVariants as answers
 use Rattle.session_known.specs.declared.script.Level.{Level}
@@ -23,7 +23,7 @@ use Rattle.session_proxy.specs.Lines.{MayRun, answer_at, is_worn, puts_due}
 use Rattle.session_proxy.specs.Local.{answered_with}
 use Rattle.session_proxy.specs.Run.{IsAnswered, IsPartOf}
 use Rattle.session_proxy.specs.Share.{IsAsked, kept_reply, to_worker}
-use Rattle.session_proxy.specs.State.{Lists, open_line, state_now}
+use Rattle.session_proxy.specs.State.{Lists, open_line, starting, state_now}
 use Rattle.session_proxy.specs.declared.local.Begun.{Begun}
 use Rattle.session_proxy.specs.declared.local.Begun.TheVariants as ways
 
@@ -88,7 +88,7 @@ module _ (lists : Lists) (line : Line) (at : open_line lists.course ≡ Some lin
 
   -- once such a line is answered, and its puts are sent
   pub closes_alone : (sent : List (List Request)) (session_now : InState) → length sent ≡ length lists.sent
-      → ((w : ℕ) → IsOneOf (length sent) w → slice_index_or sent (w - 1) [] ≡ to_worker w (sent_from lists.course.table lists.course.client start 1 (map length keeps.share.replies) lists.course.lines lists.course.answers
+      → ((w : ℕ) → IsOneOf (length sent) w → slice_index_or sent (w - 1) [] ≡ to_worker w (sent_from lists.course.table lists.course.client (starting lists.course) 1 (map length keeps.share.replies) lists.course.lines lists.course.answers
       ++ puts_sent lists.course.table lists.course.client (puts_by lists.course.client (state_now lists.course) line (answer_at (state_now lists.course) line))))
       → session_now.client ≡ lists.course.client → session_now.state ≡ after lists.course.client (state_now lists.course) line (answer_at (state_now lists.course) line)
       → Keeps (record { course = answered_with lists.course (answer_at (state_now lists.course) line); sent = sent; received = lists.received }) session_now ways.Nothing None
@@ -105,7 +105,7 @@ module _ (lists : Lists) (line : Line) (at : open_line lists.course ≡ Some lin
       in
       let share = closed_share lists line at answer [] lists.course.asks asks sent lists.received keeps.share
       (answered_alone lists.course.table lists.course.client S (lists.course.asks + 1) line answer no_ask lawful)
-      (λ w of. sends w of ∙ ap (λ its. to_worker w (sent_from lists.course.table lists.course.client start 1 (map length keeps.share.replies) lists.course.lines lists.course.answers ++ its))
+      (λ w of. sends w of ∙ ap (λ its. to_worker w (sent_from lists.course.table lists.course.client (starting lists.course) 1 (map length keeps.share.replies) lists.course.lines lists.course.answers ++ its))
       (sym (sent_alone lists.course.table lists.course.client S (lists.course.asks + 1) 0 line answer no_ask)))
       (subst (λ part. IsPartOf part (map (λ message. message.1) lists.received)) part keeps.share.received)
       in

@@ -9,7 +9,7 @@ use Rattle.mail_contract.specs.Takes.{from_sender}
 use Rattle.placement.specs.Asked.{ask_order}
 use Rattle.session_known.specs.Lawful.{required}
 use Rattle.session_known.specs.Requests.{Sent, asked_by, puts_sent, sent_by, sent_from}
-use Rattle.session_known.specs.Session.{Client, State, after, held_puts, puts_committed, start, state_after}
+use Rattle.session_known.specs.Session.{Client, State, after, held_puts, puts_committed, state_after}
 use Rattle.session_known.specs.declared.report.Answer.{Answer}
 use Rattle.session_known.specs.declared.report.Answer.TheVariants as answers
 use Rattle.session_known.specs.declared.script.Level.{Level}
@@ -27,7 +27,7 @@ use Rattle.session_proxy.proofs.SteppingLemmas.{due_if}
 use Rattle.session_proxy.specs.Lines.{is_worn, most_asks, most_of_line, most_sent, puts_due}
 use Rattle.session_proxy.specs.Run.{AreAnswered, IsAnswered}
 use Rattle.session_proxy.specs.Share.{HasSentFew, IsAsked, Share, open_most, open_sent, request_of, to_worker}
-use Rattle.session_proxy.specs.State.{Course, Lists, open_line, state_now}
+use Rattle.session_proxy.specs.State.{Course, Lists, open_line, starting, state_now}
 
 -- a get or an await sends no more than it may, and nothing of what is held changes
 asked_sends : (table : List (List ℕ)) (client : Client) (state : State) (first : ℕ) (line : Line) (answer : Answer) (its : List PlainReply) (most : ℕ) → IsAsked line → IsAnswered table client state first line answer its
@@ -132,7 +132,7 @@ open_few course (Some line) at =
 pub has_sent_few : (lists : Lists) → Share lists → HasSentFew lists
 has_sent_few lists share =
     let course : Course = lists.course in
-    let answered : List (ℕ × Sent) = sent_from course.table course.client start 1 (map length share.replies) course.lines course.answers in
+    let answered : List (ℕ × Sent) = sent_from course.table course.client (starting course) 1 (map length share.replies) course.lines course.answers in
     let all : List (ℕ × Sent) = answered ++ open_sent course in
     let each : (i : ℕ) → i < length lists.sent → length (slice_index_or lists.sent i []) ≡ length (to_worker (1 + i) all) = λ i low.
     let place : 1 + i - 1 ≡ i = omega arith in
@@ -140,6 +140,6 @@ has_sent_few lists share =
     let counted = lists_counted lists.sent 1 (λ w. length (to_worker w all)) each in
     let few = few_to_all (length lists.sent) all in
     let both = length-append answered (open_sent course) in
-    let lines = lines_send course.table course.client start 1 course.lines course.answers share.replies share.answered in
+    let lines = lines_send course.table course.client (starting course) 1 course.lines course.answers share.replies share.answered in
     let opened = open_few course (open_line course) refl in
     omega (arith, counted, few, both, lines, opened)

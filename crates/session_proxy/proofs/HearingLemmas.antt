@@ -12,7 +12,7 @@ use Rattle.placement.specs.Asked.{replicas_of}
 use Rattle.placement.specs.Config.{IsOneOf}
 use Rattle.session_known.specs.Lawful.{required}
 use Rattle.session_known.specs.Requests.{Sent, SentAsk, asks_sent, sent_by, sent_from}
-use Rattle.session_known.specs.Session.{Client, InState, Knowledge, State, after, held_puts, knows_shown, shown_of, shown_to, start, state_shown}
+use Rattle.session_known.specs.Session.{Client, InState, Knowledge, State, after, held_puts, knows_shown, shown_of, shown_to, state_shown}
 use Rattle.session_known.specs.declared.report.Answer.{Answer}
 use Rattle.session_known.specs.declared.script.Level.{Level}
 use Rattle.session_known.specs.declared.script.Level.TheVariants.{Causal, Committed, Eventual}
@@ -34,7 +34,7 @@ use Rattle.session_proxy.specs.Local.{AreAsks, CanHear, CanWork, Hears, KeepsAs,
 use Rattle.session_proxy.specs.Polls.{AnswersBy, Counts, Drops, IsTaken, KeepsOne, Polls, Rests}
 use Rattle.session_proxy.specs.Run.{IsAnswered, IsPartOf, IsReplied, IsReplyTo, Lacks, answer_by, answer_shown}
 use Rattle.session_proxy.specs.Share.{IsAsked, IsAwaited, awaited, kept_reply, lacks, open_most, open_sent, to_worker}
-use Rattle.session_proxy.specs.State.{Course, IsFixed, Lists, open_line, state_now}
+use Rattle.session_proxy.specs.State.{Course, IsFixed, Lists, open_line, starting, state_now}
 use Rattle.session_proxy.specs.declared.asks.Heard.{Heard}
 use Rattle.session_proxy.specs.declared.asks.Heard.TheVariants as heard
 use Rattle.session_proxy.specs.declared.local.Begun.{Begun}
@@ -294,7 +294,7 @@ module _ (lists : Lists) (session : InState) (clock : List (ℕ × ℕ)) (made :
           answer_is = ap (λ n. answer_by course.client.level n reply) (sym many);
         })
         in
-        let so_far : List (ℕ × Sent) = sent_from course.table course.client start 1 (map length keeps.share.replies) course.lines course.answers in
+        let so_far : List (ℕ × Sent) = sent_from course.table course.client (starting course) 1 (map length keeps.share.replies) course.lines course.answers in
         let sends : open_sent course ≡ sent_by course.table course.client S (course.asks + 1) (length its) line its_answer =
         ap (λ n. take n (open_most course)) (sym many) ∙ front ∙ sym (sent_by_replies course.table course.client S (course.asks + 1) line its_answer its asked answered)
         in
@@ -355,12 +355,13 @@ module _ (local : Local) (answers : Vec Answer) (items : answers.items ≡ local
         (IsReplyTo (worker_asked before.placement before.session.client line (before.out - 1), SentAsk (before.asks + before.out) (key_asked line) (clock_begun before.begun)))
 
     -- what no call changes stays
-    fixed_to : (now : Local) (to : Course) → course_of now ≡ to → to.client ≡ before.session.client → to.table ≡ before.placement → to.lines ≡ before.lines
+    fixed_to : (now : Local) (to : Course) → course_of now ≡ to → to.client ≡ before.session.client → to.table ≡ before.placement → to.lines ≡ before.lines → to.origin ≡ (course_of before).origin
         → IsFixed (course_of local) (course_of now)
-    fixed_to now to is client table lines = record {
+    fixed_to now to is client table lines origin = record {
       client = ap (λ course. course.client) is ∙ client ∙ ap (λ course. course.client) reserved;
       table = ap (λ course. course.table) is ∙ table ∙ ap (λ course. course.table) reserved;
       lines = ap (λ course. course.lines) is ∙ lines ∙ ap (λ course. course.lines) reserved;
+      origin = ap (λ course. course.origin) is ∙ origin ∙ ap (λ course. course.origin) reserved;
     }
 
     -- where all stays but the room for an answer
@@ -383,7 +384,7 @@ module _ (local : Local) (answers : Vec Answer) (items : answers.items ≡ local
         let is = subst (λ was. HearsAt (Ok was)) nothing hears keeps_asks.stands.1 keeps_asks.stands.2 in
         let course : course_of taken ≡ course_of local = is.1.course_is ∙ reserved in (
           keeps_taken is.1 is.2,
-          fixed_to taken (course_of before) is.1.course_is refl refl refl,
+          fixed_to taken (course_of before) is.1.course_is refl refl refl refl,
           λ i. record { course = course i; sent = sent; received = is.2 i },
           sym (ap (λ course. course.kept) reserved) ∙ is.0,
         )
@@ -409,7 +410,7 @@ module _ (local : Local) (answers : Vec Answer) (items : answers.items ≡ local
         in (
           keeps_as taken sent received_now (course_of before) before.session before.begun before.made is.1
               (subst (λ begun. Keeps (lists_with before received_now) before.session begun before.made) (sym (asks_begun before.begun asks)) kept),
-          fixed_to taken (course_of before) is.1.course_is refl refl refl,
+          fixed_to taken (course_of before) is.1.course_is refl refl refl refl,
           subst (λ course. Drops (record { course = course; sent = sent; received = received }) (lists_with taken received_now)) reserved drop,
         )
 
@@ -476,7 +477,7 @@ module _ (local : Local) (answers : Vec Answer) (items : answers.items ≡ local
               keeps_as now sent received_now (closed (course_of before) answer_now (before.asks + before.out)) session_now ways.Nothing before.made is
                   (subst (λ made. Keeps (record { course = closed (course_of before) answer_now (before.asks + before.out); sent = sent; received = received_now }) session_now ways.Nothing made)
                   (sym keeps_asks.stands.4) kept),
-              fixed_to now (closed (course_of before) answer_now (before.asks + before.out)) is.course_is refl refl refl,
+              fixed_to now (closed (course_of before) answer_now (before.asks + before.out)) is.course_is refl refl refl refl,
               inr (inl (subst (λ course. AnswersBy (record { course = course; sent = sent; received = received }) (lists_with now received_now)) reserved by), fulls),
             )
 
@@ -527,7 +528,7 @@ module _ (local : Local) (answers : Vec Answer) (items : answers.items ≡ local
               keeps_as now sent received_now (record (course_of before) { waits = false; kept = None }) before.session before.begun before.made works
                   (subst (λ begun. Keeps (record { course = record (course_of before) { waits = false; kept = None }; sent = sent; received = received_now }) before.session begun before.made)
                   (sym (asks_begun before.begun asks)) kept),
-              fixed_to now (record (course_of before) { waits = false; kept = None }) works.course_is refl refl refl,
+              fixed_to now (record (course_of before) { waits = false; kept = None }) works.course_is refl refl refl refl,
               (subst (λ course. Rests (record { course = course; sent = sent; received = received }) (lists_with now received_now)) reserved rest, fulls),
             )
 
@@ -545,7 +546,7 @@ module _ (local : Local) (answers : Vec Answer) (items : answers.items ≡ local
               keeps_as now sent received_now (record (course_of before) { kept = Some reply }) before.session before.begun before.made works
                   (subst (λ begun. Keeps (record { course = record (course_of before) { kept = Some reply }; sent = sent; received = received_now }) before.session begun before.made)
                   (sym (asks_begun before.begun asks)) kept),
-              fixed_to now (record (course_of before) { kept = Some reply }) works.course_is refl refl refl,
+              fixed_to now (record (course_of before) { kept = Some reply }) works.course_is refl refl refl refl,
               subst (λ course. (course_of now ≡ record course { kept = now.kept }) × (sent ≡ sent) × KeepsOne (record { course = course; sent = sent; received = received }) (lists_with now received_now))
                   reserved (course, refl, one),
             )

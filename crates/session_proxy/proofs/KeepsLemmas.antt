@@ -8,7 +8,7 @@ use Rattle.std.proofs.lemmas.Option.{get_or_from_slice_get, slice_get_within}
 use Rattle.placement.specs.Config.{IsOneOf}
 use Rattle.session_known.specs.Requests.{Sent, sent_by, sent_from}
 use Rattle.session_known.specs.Script.{AreEnded}
-use Rattle.session_known.specs.Session.{InState, after, held_puts, own_count, start}
+use Rattle.session_known.specs.Session.{InState, after, held_puts, own_count}
 use Rattle.session_known.specs.declared.report.Answer.{Answer}
 use Rattle.session_known.specs.declared.script.Line.{Line}
 use Rattle.store_msg.specs.Reply.{PlainReply}
@@ -21,7 +21,7 @@ use Rattle.session_proxy.specs.Local.{KeepsAs, course_of}
 use Rattle.session_proxy.specs.Polls.{IsUnbegun}
 use Rattle.session_proxy.specs.Run.{IsAnswered, IsPartOf, Lacks}
 use Rattle.session_proxy.specs.Share.{AreLacking, Share, lacks, open_most, to_worker}
-use Rattle.session_proxy.specs.State.{Course, Lists, open_line, state_now}
+use Rattle.session_proxy.specs.State.{Course, Lists, open_line, starting, state_now}
 use Rattle.session_proxy.specs.declared.local.Begun.{Begun}
 use Rattle.session_proxy.specs.declared.local.Begun.TheVariants as ways
 use Rattle.session_proxy.specs.declared.local.Local.{Local}
@@ -33,7 +33,7 @@ if_some (Some x) holds = holds x
 
 -- the course once the open line is answered, and its asks are counted
 abbrev pub closed : Course → Answer → ℕ → Course
-closed course answer asks = record { client = course.client; table = course.table; lines = course.lines; answers = course.answers ++ answer ∷ []; asks = asks; out = 0; waits = false; kept = None }
+closed course answer asks = record { client = course.client; table = course.table; lines = course.lines; origin = course.origin; answers = course.answers ++ answer ∷ []; asks = asks; out = 0; waits = false; kept = None }
 
 -- the next line is not begun then
 pub closed_unbegun : (course now : Course) (answer : Answer) (asks : ℕ) → now ≡ closed course answer asks → IsUnbegun now
@@ -56,11 +56,11 @@ module _ (lists : Lists) (line : Line) (at : open_line lists.course ≡ Some lin
     (sent : List (List Request)) (received : List (ℕ × PlainReply)) where
   -- the state after the line
   pub closed_state : state_now (closed lists.course answer asks) ≡ after lists.course.client (state_now lists.course) line answer
-  closed_state = state_after-push lists.course.client start lists.course.lines lists.course.answers line answer at
+  closed_state = state_after-push lists.course.client (starting lists.course) lists.course.lines lists.course.answers line answer at
 
   -- its share, once the line is answered by replies
   pub closed_share : (share : Share lists) → IsAnswered lists.course.table lists.course.client (state_now lists.course) (lists.course.asks + 1) line answer its
-      → ((w : ℕ) → IsOneOf (length sent) w → slice_index_or sent (w - 1) [] ≡ to_worker w (sent_from lists.course.table lists.course.client start 1 (map length share.replies) lists.course.lines lists.course.answers
+      → ((w : ℕ) → IsOneOf (length sent) w → slice_index_or sent (w - 1) [] ≡ to_worker w (sent_from lists.course.table lists.course.client (starting lists.course) 1 (map length share.replies) lists.course.lines lists.course.answers
       ++ sent_by lists.course.table lists.course.client (state_now lists.course) (lists.course.asks + 1) (length its) line answer))
       → IsPartOf (flat_map (λ answering. answering) share.replies ++ its) (map (λ message. message.1) received)
       → Share (record { course = closed lists.course answer asks; sent = sent; received = received })
@@ -76,12 +76,12 @@ module _ (lists : Lists) (line : Line) (at : open_line lists.course ≡ Some lin
       let all = sum_by-append length share.replies (its ∷ []) in
       omega (arith, last, all)
       in
-      let sent_so_far : List (ℕ × Sent) = sent_from lists.course.table lists.course.client start 1 (map length share.replies) lists.course.lines lists.course.answers in
+      let sent_so_far : List (ℕ × Sent) = sent_from lists.course.table lists.course.client (starting lists.course) 1 (map length share.replies) lists.course.lines lists.course.answers in
       record {
         replies = share.replies ++ its ∷ [];
         lacking = [];
         few = omega (arith, within, one);
-        answered = answered-push lists.course.table lists.course.client start 1 lists.course.lines lists.course.answers share.replies line answer its at share.answered
+        answered = answered-push lists.course.table lists.course.client (starting lists.course) 1 lists.course.lines lists.course.answers share.replies line answer its at share.answered
             (subst (λ n. IsAnswered lists.course.table lists.course.client (state_now lists.course) n line answer its) first answered);
         asks = asks_are ∙ ap (λ n. n + length its) share.asks ∙ sym said;
         lacking_are = none_lacking (closed lists.course answer asks) refl refl;
@@ -89,7 +89,7 @@ module _ (lists : Lists) (line : Line) (at : open_line lists.course ≡ Some lin
         kept = tt;
         sent = λ w of. sends w of ∙ ap (to_worker w) (
             ap (λ n. sent_so_far ++ sent_by lists.course.table lists.course.client (state_now lists.course) n (length its) line answer) first
-            ∙ sym (sent-push lists.course.table lists.course.client start 1 lists.course.lines lists.course.answers share.replies line answer its at share.answered) ∙ sym (append-nil _));
+            ∙ sym (sent-push lists.course.table lists.course.client (starting lists.course) 1 lists.course.lines lists.course.answers share.replies line answer its at share.answered) ∙ sym (append-nil _));
         received = subst (λ part. IsPartOf part (map (λ message. message.1) received)) (sym flat ∙ sym (append-nil _) ∙ sym (append-nil _)) part;
       }
 

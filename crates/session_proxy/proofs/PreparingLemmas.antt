@@ -133,8 +133,8 @@ module _ (old now : Local) (puts : Puts) (request : Request) (sent : List (List 
   pub sent_fixed : IsFixed (course_of old) (course_of now)
   sent_fixed =
       elim sends [
-        | inl (left, is) ↦ record { client = ap (λ (course : Course). course.client) is.course_is; table = ap (λ (course : Course). course.table) is.course_is; lines = ap (λ (course : Course). course.lines) is.course_is }
-        | inr (last, is) ↦ record { client = ap (λ (course : Course). course.client) is.course_is; table = ap (λ (course : Course). course.table) is.course_is; lines = ap (λ (course : Course). course.lines) is.course_is }
+        | inl (left, is) ↦ record { client = ap (λ (course : Course). course.client) is.course_is; table = ap (λ (course : Course). course.table) is.course_is; lines = ap (λ (course : Course). course.lines) is.course_is; origin = ap (λ (course : Course). course.origin) is.course_is }
+        | inr (last, is) ↦ record { client = ap (λ (course : Course). course.client) is.course_is; table = ap (λ (course : Course). course.table) is.course_is; lines = ap (λ (course : Course). course.lines) is.course_is; origin = ap (λ (course : Course). course.origin) is.course_is }
       ]
 
 -- what a sender to a worker was asked to send

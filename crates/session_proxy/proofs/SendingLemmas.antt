@@ -7,7 +7,7 @@ use Rattle.composed_value.specs.declared.payload.Payload.TheVariants as payloads
 use Rattle.placement.specs.Asked.{home_at}
 use Rattle.placement.specs.Config.{IsOneOf}
 use Rattle.session_known.specs.Requests.{Sent, puts_sent, sent_from}
-use Rattle.session_known.specs.Session.{InState, State, after, held_puts, knows_committed, puts_by, start}
+use Rattle.session_known.specs.Session.{InState, State, after, held_puts, knows_committed, puts_by}
 use Rattle.session_known.specs.declared.script.Line.{Line}
 use Rattle.session_known.specs.declared.script.Line.TheVariants as lines
 use Rattle.store_msg.specs.declared.request.Request.{Request}
@@ -21,7 +21,7 @@ use Rattle.session_proxy.specs.Kept.{ArePutting, IsOn, Keeps}
 use Rattle.session_proxy.specs.Lines.{answer_at, is_worn, puts_due}
 use Rattle.session_proxy.specs.Local.{answer_sent, answered_with, put_at}
 use Rattle.session_proxy.specs.Share.{IsAsked, lacks, open_most, request_of, to_worker}
-use Rattle.session_proxy.specs.State.{Course, Lists, open_line, state_now}
+use Rattle.session_proxy.specs.State.{Course, Lists, open_line, starting, state_now}
 use Rattle.session_proxy.specs.declared.local.Begun.TheVariants as ways
 use Rattle.session_proxy.specs.declared.local.Puts.{Puts}
 
@@ -148,4 +148,4 @@ module _ (lists : Lists) (session : InState) (puts : Puts) (request : Request) (
       subst (λ answer. Keeps (record { course = answered_with course answer; sent = sent; received = lists.received }) session ways.Nothing None) (sym answer_is) (
       closes_alone lists line keeps.stands.2 putting.no_ask session (ways.Puts puts) (Some request) keeps keeps.stands.0.kept sent session (as_many_then lists keeps.share home its.0 its_home its.1 sent its.2)
       (λ w of. sent_then lists keeps.share home its.0 its_home its.1 sent its.2 w of
-      ∙ ap (λ its. to_worker w (sent_from course.table course.client start 1 (map length keeps.share.replies) course.lines course.answers ++ its)) (take_all (course.out + 1) (open_most course) all ∙ most_is)) keeps.client_is state_is)
+      ∙ ap (λ its. to_worker w (sent_from course.table course.client (starting course) 1 (map length keeps.share.replies) course.lines course.answers ++ its)) (take_all (course.out + 1) (open_most course) all ∙ most_is)) keeps.client_is state_is)

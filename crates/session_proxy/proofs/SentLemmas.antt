@@ -13,11 +13,10 @@ use Rattle.mail_contract.specs.declared.Refused.{Refused}
 use Rattle.mail_contract.specs.declared.Refused.TheVariants.{Full}
 use Rattle.placement.specs.Config.{IsOneOf}
 use Rattle.session_known.specs.Requests.{Sent, sent_from}
-use Rattle.session_known.specs.Session.{start}
 use Rattle.store_msg.specs.Reply.{is_found}
 use Rattle.store_msg.specs.declared.request.Request.{Request}
 use Rattle.session_proxy.specs.Share.{IsAsked, IsAwaited, Share, lacks, open_most, open_sent, request_of, to_worker}
-use Rattle.session_proxy.specs.State.{Lists, open_line}
+use Rattle.session_proxy.specs.State.{Lists, open_line, starting}
 
 -- the first items of a list, one more
 pub take_one_more : {X : Type 0} (items : List X) (i : ℕ) (item : X) → slice_get items i ≡ Some item → take (i + 1) items ≡ take i items ++ item ∷ []
@@ -75,7 +74,7 @@ module _ (lists : Lists) (share : Share lists) (worker : ℕ) (item : Sent) (goe
     (posted : sent_now ≡ slice_set lists.sent (worker - 1) (slice_index_or lists.sent (worker - 1) [] ++ request_of item ∷ [])) where
   -- what the answered lines sent
   abbrev so_far : List (ℕ × Sent)
-  so_far = sent_from lists.course.table lists.course.client start 1 (map length share.replies) lists.course.lines lists.course.answers
+  so_far = sent_from lists.course.table lists.course.client (starting lists.course) 1 (map length share.replies) lists.course.lines lists.course.answers
 
   -- there are as many workers, once the open line's next request is sent
   pub as_many_then : length sent_now ≡ length lists.sent

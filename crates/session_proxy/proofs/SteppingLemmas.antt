@@ -5,7 +5,7 @@ use Rattle.composed_value.specs.declared.payload.Payload.{Payload}
 use Rattle.placement.specs.Config.{IsOneOf}
 use Rattle.session_known.specs.Lawful.{required}
 use Rattle.session_known.specs.Requests.{Sent, puts_sent, sent_from}
-use Rattle.session_known.specs.Session.{InState, State, after, held_puts, puts_by, puts_committed, start}
+use Rattle.session_known.specs.Session.{InState, State, after, held_puts, puts_by, puts_committed}
 use Rattle.session_known.specs.declared.report.Answer.{Answer}
 use Rattle.session_known.specs.declared.script.Level.{Level}
 use Rattle.session_known.specs.declared.script.Level.TheVariants as levels
@@ -23,7 +23,7 @@ use Rattle.session_proxy.specs.Lines.{AreReplicas, MayRun, answer_at, is_worn, m
 use Rattle.session_proxy.specs.Local.{StaysAs, answered_with, course_of, key_asked}
 use Rattle.session_proxy.specs.Polls.{AnswersAlone}
 use Rattle.session_proxy.specs.Share.{IsAsked, open_most, open_sent, to_worker}
-use Rattle.session_proxy.specs.State.{Course, Lists, state_now}
+use Rattle.session_proxy.specs.State.{Course, Lists, starting, state_now}
 use Rattle.session_proxy.specs.Steps.{BeginsOpen}
 use Rattle.session_proxy.specs.declared.local.Begun.{Begun}
 use Rattle.session_proxy.specs.declared.local.Begun.TheVariants as ways
@@ -114,7 +114,7 @@ module _ (before now : Local) (sent : List (List Request)) (received : List (ℕ
       ap (puts_sent course.table course.client) (puts_by_due course.client S opens.line at_once.no_ask ∙ ap (puts_committed course.client S.knows (S.knows.lamport + 1) 0) none_due)
       in
       let none_sent : open_sent course ≡ [] = ap (λ n. take n (open_most course)) kept.stands.1 in
-      let so_far : List (ℕ × Sent) = sent_from course.table course.client start 1 (map length kept.share.replies) course.lines course.answers in
+      let so_far : List (ℕ × Sent) = sent_from course.table course.client (starting course) 1 (map length kept.share.replies) course.lines course.answers in
       let state_is : now.session.state ≡ after course.client S opens.line answer = at_once.state_is ∙ ap (λ state. after course.client state opens.line (answer_at state opens.line)) is in
       let closed = closes_alone (record { course = course; sent = sent; received = received }) opens.line opens.line_is at_once.no_ask before.session ways.Nothing before.made kept kept.stands.2.kept sent now.session refl
       (λ w of. kept.share.sent w of ∙ ap (λ its. to_worker w (so_far ++ its)) (none_sent ∙ sym none_put)) at_once.client_is state_is

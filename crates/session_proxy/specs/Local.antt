@@ -21,7 +21,7 @@ use Rattle.store_msg.specs.declared.request.Request.TheVariants as requests
 use Rattle.session_proxy.specs.Lines.{MayRun, most_asks}
 use Rattle.session_proxy.specs.Run.{answer_by}
 use Rattle.session_proxy.specs.Share.{IsAsked}
-use Rattle.session_proxy.specs.State.{Course, Lists, open_line}
+use Rattle.session_proxy.specs.State.{Course, Knew, Lists, open_line}
 use Rattle.session_proxy.specs.declared.asks.Heard.{Heard}
 use Rattle.session_proxy.specs.declared.asks.Heard.TheVariants as heard
 use Rattle.session_proxy.specs.declared.local.Begun.{Begun}
@@ -36,6 +36,7 @@ course_of local = record {
   client = local.session.client;
   table = local.placement;
   lines = local.lines;
+  origin = Knew local.origin.knows;
   answers = local.answers.items;
   asks = local.asks;
   out = local.out;
@@ -117,7 +118,7 @@ answer_sent line session puts = answers.Committed (length puts.puts) puts.lampor
 
 -- a line is answered, and the next one open
 abbrev pub answered_with : Course → Answer → Course
-answered_with course answer = record { client = course.client; table = course.table; lines = course.lines; answers = course.answers ++ answer ∷ []; asks = course.asks; out = 0; waits = false; kept = None }
+answered_with course answer = record { client = course.client; table = course.table; lines = course.lines; origin = course.origin; answers = course.answers ++ answer ∷ []; asks = course.asks; out = 0; waits = false; kept = None }
 
 -- one more of a line's puts is sent, and the line answered with the last
 abbrev pub SendsOf : Line → Begun → Local → Local → Type 0

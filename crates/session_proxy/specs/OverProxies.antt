@@ -1,5 +1,5 @@
 -- What a session's proxy is and does, by all that the traits of its ends let contracts see of them: the words of the other files over a proxy and its ends, and not over lists.
-use Rattle.std.specs.Prelude.{ℕ, Result}
+use Rattle.std.specs.Prelude.{Result}
 use Rattle.lattice_laws.specs.declared.lattice.NoMemory.{NoMemory}
 use Rattle.mail_contract.specs.OverBoxes as replies_in
 use Rattle.mail_contract.specs.declared.rx.Rx as boxes

@@ -4,7 +4,6 @@ use Rattle.std.specs.List.{AllZip}
 use Rattle.mail_contract.specs.Takes.{from_sender}
 use Rattle.placement.specs.Config.{IsOneOf}
 use Rattle.session_known.specs.Requests.{Sent, SentAsk, SentPut, sent_from}
-use Rattle.session_known.specs.Session.{start}
 use Rattle.session_known.specs.declared.script.Line.{Line}
 use Rattle.session_known.specs.declared.script.Line.TheVariants as lines
 use Rattle.store_msg.specs.Reply.{PlainReply, is_found}
@@ -12,7 +11,7 @@ use Rattle.store_msg.specs.declared.request.Request.{Request}
 use Rattle.store_msg.specs.declared.request.Request.TheVariants as requests
 use Rattle.session_proxy.specs.Lines.{most_of_line, most_sent}
 use Rattle.session_proxy.specs.Run.{AreAnswered, IsPartOf, IsReplyTo, Lacks}
-use Rattle.session_proxy.specs.State.{Course, Lists, open_line, state_now}
+use Rattle.session_proxy.specs.State.{Course, Lists, open_line, starting, state_now}
 
 -- a request as it is sent
 abbrev pub request_of : Sent → Request
@@ -69,13 +68,13 @@ pub record Share (lists : Lists) : Type 0 where
   pub replies : List (List PlainReply)
   pub lacking : List PlainReply
   pub few : length lists.course.answers ≤ length lists.course.lines
-  pub answered : AreAnswered lists.course.table lists.course.client start 1 lists.course.lines lists.course.answers replies
+  pub answered : AreAnswered lists.course.table lists.course.client (starting lists.course) 1 lists.course.lines lists.course.answers replies
   pub asks : lists.course.asks ≡ sum_by length replies
   pub lacking_are : AreLacking lists.course lacking
   pub out : lists.course.out ≤ length (open_most lists.course)
   pub kept : IfSome lists.course.kept (λ reply. IsAwaited lists.course reply × IsTrue (is_found reply.answered))
   pub sent : (worker : ℕ) → IsOneOf (length lists.sent) worker → slice_index_or lists.sent (worker - 1) []
-      ≡ to_worker worker (sent_from lists.course.table lists.course.client start 1 (map length replies) lists.course.lines lists.course.answers ++ open_sent lists.course)
+      ≡ to_worker worker (sent_from lists.course.table lists.course.client (starting lists.course) 1 (map length replies) lists.course.lines lists.course.answers ++ open_sent lists.course)
   pub received : IsPartOf (flat_map (λ answering. answering) replies ++ lacking ++ kept_reply lists.course.kept) (map (λ message. message.1) lists.received)
 
 -- how many requests a session sends at most, all its lines together

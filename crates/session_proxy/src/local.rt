@@ -4,7 +4,7 @@ use clock_lattice::Clock;
 use composed_value::Payload;
 use lattice_laws::Items;
 use placement::Placement;
-use session_known::{Answer, Line, SessionState};
+use session_known::{Answer, Known, Line, SessionState};
 use std::alloc::Global;
 use store_msg::{Reply, Request};
 
@@ -13,6 +13,8 @@ use store_msg::{Reply, Request};
 pub(crate) struct Local {
     pub(crate) lines: Items<Line>,
     pub(crate) placement: Placement,
+    /// What it knew at its start.
+    pub(crate) origin: Known,
     /// The session after the puts that were made.
     pub(crate) session: SessionState,
     pub(crate) answers: Vec<Answer>,

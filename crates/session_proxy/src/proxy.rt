@@ -1,12 +1,13 @@
 //! The proxy of a session.
-ghost use Rattle.std.specs.Prelude.{◌≡◌, ◌≤◌, ◌<◌, ◌^◌, ◌-◌, All, IsTrue, IfOk, [], false, length, map, min, slice_index_or};
+ghost use Rattle.std.specs.Prelude.{◌≡◌, ◌≤◌, ◌<◌, ◌^◌, ◌-◌, ◌==◌, All, IsTrue, IfOk, [], false, length, map, min, slice_index_or};
 ghost use Rattle.mail_contract.specs.OverBoxes as boxes;
 ghost use Rattle.mail_contract.specs.Standing.{AllPart};
 ghost use Rattle.session_known.specs.Script.{AreEnded};
+ghost use Rattle.session_known.specs.Session.{nothing_known};
 ghost use Rattle.session_proxy.specs.Lines.{AreReplicas, MayRun};
 ghost use Rattle.session_proxy.specs.OverProxies as over;
 ghost use Rattle.session_proxy.specs.Polls.{EndsWhereAnswered};
-ghost use Rattle.session_proxy.specs.State.{IsFixed, opening};
+ghost use Rattle.session_proxy.specs.State.{IsFixed, Knew, has_begun, opening, state_now};
 
 use crate::local::{Begun, Local};
 use crate::steps::step;
@@ -14,7 +15,7 @@ use crate::{Consistency, Progress};
 use lattice_laws::{Items, NoMemory};
 use mail_contract::{Rx, Tx};
 use placement::Placement;
-use session_known::{Answer, Line, SessionState};
+use session_known::{Answer, Known, Line, SessionState};
 use std::collections::LinkedList;
 use std::marker::{Model, PhantomData};
 use store_msg::{Meets, Reply, Request, SessionEndsOver, meet_ends};
@@ -60,12 +61,42 @@ impl<C: Consistency, T: Tx<Request>, R: Rx<Reply>> ProxyOver<C, T, R> {
         requires sent { All (λ sender. T.sent sender ≡ []) ends.requests.items }
         requires received { R.received ends.replies ≡ [] }
         ensures proxy { IfOk result (λ proxy. proxy ≡ record {
-          course = opening (record { session = me; level = C.level }) placement lines;
+          course = opening (record { session = me; level = C.level }) placement lines (Knew nothing_known);
           ends = ends;
         }) }
         ensures share { IfOk result (over.Share T.Tx R.Rx) }
     {
+        let known = Known::new(*ends.requests.allocator(), me, C::level());
+        ProxyOver::new_after(me, lines, placement, ends, known)
+    }
+
+    /// The same of a session that comes after another: it knows this at its start, and has made no puts.
+    pub fn new_after(
+        me: u16,
+        lines: Items<Line>,
+        placement: Placement,
+        ends: SessionEndsOver<T, R>,
+        known: Known,
+    ) -> Result<ProxyOver<C, T, R>, NoMemory>
+        requires me { 1 ≤ me }
+        requires few_lines { length lines ≤ 4096 }
+        requires lines { All (MayRun placement C.level) lines }
+        requires transactions { AreEnded false lines }
+        requires workers { length ends.requests.items < 2 ^ 16 }
+        requires replicas { All (AreReplicas (length ends.requests.items)) placement }
+        requires sent { All (λ sender. T.sent sender ≡ []) ends.requests.items }
+        requires received { R.received ends.replies ≡ [] }
+        requires client { known.client ≡ record { session = me; level = C.level } }
+        requires own { known.knows.own ≡ [] }
+        ensures proxy { IfOk result (λ proxy. proxy ≡ record {
+          course = opening (record { session = me; level = C.level }) placement lines (Knew known.knows);
+          ends = ends;
+        }) }
+        ensures share { IfOk result (over.Share T.Tx R.Rx) }
+    {
+        let _ = me;
         let alloc = *ends.requests.allocator();
+        let origin = known.copy()?;
         let mut answers = Vec::new(alloc);
         if answers.reserve(lines.as_slice().len()).is_err() {
             return Err(NoMemory);
@@ -73,7 +104,8 @@ impl<C: Consistency, T: Tx<Request>, R: Rx<Reply>> ProxyOver<C, T, R> {
         let local = Local {
             lines,
             placement,
-            session: SessionState::new(alloc, me, C::level()),
+            origin,
+            session: SessionState::start(alloc, known),
             answers,
             begun: Begun::Nothing,
             made: None,
@@ -113,8 +145,9 @@ impl<C: Consistency, T: Tx<Request>, R: Rx<Reply>> ProxyOver<C, T, R> {
     }
 
     /// What the session keeps from call to call. It does nothing.
-    pub(crate) fn attest(&self)
-        ensures { over.Share T.Tx R.Rx self.now }
+    pub fn attest(&self)
+        ensures share { over.Share T.Tx R.Rx self.now }
+        ensures begun { IsTrue (has_begun self.now.course) }
     {
         let _ = &self.local;
     }
@@ -124,6 +157,22 @@ impl<C: Consistency, T: Tx<Request>, R: Rx<Reply>> ProxyOver<C, T, R> {
         ensures { result.now ≡ self.now.course.answers }
     {
         self.local.answers.as_slice()
+    }
+
+    /// Whether every line is answered. Takes no memory.
+    pub fn has_ended(&self) -> bool
+        ensures { result ≡ (length self.now.course.answers == length self.now.course.lines) }
+    {
+        self.local.answers.len() == self.local.lines.as_slice().len()
+    }
+
+    /// What the session knows; where all its lines are answered, what it knows after the last. Takes no memory.
+    pub fn known(&self) -> &Known
+        ensures client { result.now.client ≡ self.now.course.client }
+        ensures knows { length self.now.course.answers ≡ length self.now.course.lines
+            → result.now.knows ≡ (state_now self.now.course).knows }
+    {
+        self.local.session.known()
     }
 
     /// Whether a reply is awaited. Takes no memory.

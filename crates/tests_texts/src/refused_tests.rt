@@ -5,7 +5,7 @@ use std::alloc::Global;
 use std::test::Fail;
 
 /// Texts, each with the line at which it is refused, and the code.
-const REFUSED: [(&str, u32, u8); 30] = [
+const REFUSED: [(&str, u32, u8); 32] = [
     // No header.
     ("anna 3\nworkers 1\nend\n", 1, 1),
     ("\nworkers 1\nend\n", 2, 1),
@@ -59,6 +59,17 @@ const REFUSED: [(&str, u32, u8); 30] = [
         6,
     ),
     ("anna 1\nworkers 1\nkey a max at 2\nend\n", 3, 6),
+    // A session to come after that is none, or is not causal.
+    (
+        "anna 2\nworkers 1\nsession s causal after t\nsession t causal\nend\n",
+        3,
+        6,
+    ),
+    (
+        "anna 2\nworkers 1\nsession s eventual\nsession t causal after s\nend\n",
+        4,
+        6,
+    ),
     // A payload of another kind.
     (
         "anna 1\nworkers 1\nkey a max\nsession s eventual\nput a five\nend\n",

@@ -55,6 +55,12 @@ const HELD: Worked = (
     "anna report 1\nsession s committed\nbegin\nput a held\nput l held\nabort 2\nbegin\nput a held\nput l held\nget a @1 clock - top 0 value none\ncommit 2 at 1\nget l @1 clock s:1 top 1 value red/1/s/1\nbegin\ncommit 0\nsession t eventual\nget a @1 clock s:1 top 1 value 5\nfinal\na @1 clock s:1 top 1 value 5\nl @1 clock s:1 top 1 value red/1/s/1\nend\n",
 );
 
+/// A session begins where another ended: with what that one knew, and with no puts made.
+const HANDED_OVER: Worked = (
+    "anna 2\nworkers 2\nkey a max at 1 2\nkey b max at 1\nsession s causal\nput a 5\nput b 1\nsession t causal after s\nput a 7\nget a\nget b\nend\n",
+    "anna report 2\nkey a max on 1 2\nkey b max on 1\nsession s causal\nput a 1 at 1\nput b 1 at 2\nsession t causal after s\nput a 1 at 3\nget a @2 clock s:1,t:1 top 3 value 7 needs a{s:1},b{s:1}\nget b @1 clock s:1 top 2 value 1 needs a{s:1}\nfinal\na @1 clock s:1,t:1 top 3 value 7\na @2 clock s:1,t:1 top 3 value 7\nb @1 clock s:1 top 2 value 1\nend\n",
+);
+
 /// A small shop, with sessions of all levels, keys of all kinds, and replicas on the ring.
 const SHOP: Worked = (
     "# a small shop\r\nanna 1\r\nworkers 4\r\nfactor 3\r\nround 2\r\nkey cart set\r\nkey hits map\r\nkey profile last\r\nkey stock max\r\nkey sale or\r\nkey notes versions\r\n\r\nsession ann eventual\r\nput cart milk\r\nput cart bread\r\nput hits home 3\r\nsession bob eventual\r\nput hits home 5\r\nput hits about 1\r\nget cart\r\nsession cid committed\r\nbegin\r\nput profile blue\r\nput stock 40\r\ncommit\r\nsession dee committed\r\nbegin\r\nput stock 90\r\nabort\r\nput sale on\r\nsession eve causal\r\nput notes draft\r\nawait stock cid 1\r\nget cart\r\nsession fay causal\r\nput notes final\r\nget notes\r\nend\r\n",
@@ -148,6 +154,7 @@ fn worked_reports_are_legal(rt: HostRuntime) -> Result<(), Fail> {
         CHAIN,
         GIVING_UP,
         HELD,
+        HANDED_OVER,
         SHOP,
     ];
     for worked in all {
@@ -160,12 +167,17 @@ fn worked_reports_are_legal(rt: HostRuntime) -> Result<(), Fail> {
 }
 
 /// Reports in which one line is another that is lawful too.
-const LAWFUL: [(Worked, u32, &str); 6] = [
+const LAWFUL: [(Worked, u32, &str); 7] = [
     (STALE, 4, "get a @2 clock s:1 top 1 value 5"),
     (AT_REPLICAS, 5, "get a @1 clock s:1 top 1 value {x}"),
     (CHAIN, 9, "get a @1 clock s:1 top 1 value 5 needs -"),
     (GIVING_UP, 3, "await a t 2 gave up after 16 @2 clock -"),
     (GIVING_UP, 9, "get a @1 clock t:2 top 2 value 2"),
+    (
+        HANDED_OVER,
+        9,
+        "get a @1 clock s:1,t:1 top 3 value 7 needs a{s:1},b{s:1}",
+    ),
     (SHOP, 22, "await stock cid 1 gave up after 24 @1 clock -"),
 ];
 
@@ -179,7 +191,7 @@ fn another_lawful_line_is_legal(rt: HostRuntime) -> Result<(), Fail> {
 }
 
 /// Reports in which one line is not lawful, each with its session and its command, both counted from 1.
-const UNLAWFUL: [(Worked, u32, &str, (u16, u32)); 36] = [
+const UNLAWFUL: [(Worked, u32, &str, (u16, u32)); 41] = [
     // The next number and the next Lamport number of a put.
     (FIRST, 3, "put a 2 at 1", (1, 1)),
     (FIRST, 4, "put a 2 at 3", (1, 2)),
@@ -291,6 +303,28 @@ const UNLAWFUL: [(Worked, u32, &str, (u16, u32)); 36] = [
     (HELD, 11, "commit 2 at 2", (1, 9)),
     (HELD, 11, "commit worn", (1, 9)),
     (HELD, 8, "put a 1 at 1", (1, 6)),
+    // A session that comes after another starts with the other's Lamport number and none of its puts, and is shown
+    // no less than the other saw; what it puts depends on all of that.
+    (HANDED_OVER, 8, "put a 1 at 1", (2, 1)),
+    (HANDED_OVER, 8, "put a 2 at 3", (2, 1)),
+    (
+        HANDED_OVER,
+        9,
+        "get a @2 clock t:1 top 3 value 7 needs a{s:1},b{s:1}",
+        (2, 2),
+    ),
+    (
+        HANDED_OVER,
+        9,
+        "get a @2 clock s:1,t:1 top 3 value 7 needs a{s:1}",
+        (2, 2),
+    ),
+    (
+        HANDED_OVER,
+        10,
+        "get b @1 clock - top 0 value none needs -",
+        (2, 3),
+    ),
 ];
 
 #[test]
@@ -338,5 +372,19 @@ fn what_is_decided_inside_a_session_comes_first(rt: HostRuntime) -> Result<(), F
     assert_eq!(rt; without_the_put, command(1, 10));
     let the_cell_alone = judged_with(rt.alloc(), HELD, &[changed[2]])?;
     assert_eq!(rt; the_cell_alone, cell(1, 1));
+    Ok(())
+}
+
+#[test]
+fn the_session_that_one_comes_after_is_named(rt: HostRuntime) -> Result<(), Fail> {
+    for words in [
+        "session t causal",
+        "session t causal after t",
+        "session t causal since s",
+        "session t causal after s s",
+    ] {
+        let verdict = judged_with(rt.alloc(), HANDED_OVER, &[(7, words)])?;
+        assert_eq!(rt; verdict, None, "{words}");
+    }
     Ok(())
 }

@@ -23,7 +23,7 @@ use Rattle.session_known.specs.Legal.{IsLawfulFinal, IsLegalAt}
 use Rattle.session_known.specs.Script.{IsValidSession, IsValidScript}
 use Rattle.worked_reports.specs.Worked.{apart_script, apart_table, apart_report}
 use Rattle.worked_reports.proofs.LegalLemmas.{below_differs, one_session_in, two_sessions_in, put_of, counts_within, sound_by_cell, needs_by_cell, needs_a}
-use Rattle.worked_reports.proofs.PlacesLemmas.{AllPairs-from_recursion, pins_are, names_differ, name, session_is_valid}
+use Rattle.worked_reports.proofs.PlacesLemmas.{AllPairs-from_recursion, none_follows, pins_are, names_differ, name, session_is_valid}
 use Rattle.session_known.specs.declared.script.Level.TheVariants.{Causal}
 use Rattle.session_known.specs.declared.script.SessionPlan.{SessionPlan}
 
@@ -206,4 +206,5 @@ apart_is_valid placed = record {
   few_sessions = lit≤ tt;
   few_lines = lit≤ tt;
   sessions = All-from_recursion (IsValidSession apart_script apart_table) apart_script.sessions (session_is_valid apart_script apart_table (((lit≤ tt, lit≤ tt), lit< tt, refl), (((lit≤ tt, lit≤ tt), lit< tt, refl), (((lit≤ tt, lit≤ tt), (lit≤ tt, lit≤ tt), refl), tt))) refl, (session_is_valid apart_script apart_table (((lit≤ tt, lit≤ tt), lit< tt, refl), (((lit≤ tt, lit≤ tt), tt), (((lit≤ tt, lit≤ tt), tt), (((lit≤ tt, lit≤ tt), tt), tt)))) refl, tt));
+  orders = none_follows apart_script (refl, (refl, tt));
 }

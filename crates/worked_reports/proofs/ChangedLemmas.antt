@@ -16,7 +16,7 @@ use Rattle.worked_reports.specs.Worked.{first_script, first_report, first_final,
 use Rattle.worked_reports.proofs.LegalLemmas.{below_differs}
 use Rattle.session_known.specs.declared.script.Level.TheVariants.{Eventual, Committed}
 use Rattle.session_known.specs.declared.script.Line.TheVariants as lines
-use Rattle.worked_reports.specs.Changed.{FirstRefuses, HomeRefuses, AwayRefuses, CommitRefuses, PlainRefuses, CausalRefuses, KeysRefuses, VersionsRefuses, ApartRefuses, IsValidNowhere, put_numbered_zero, put_at_a_later_lamport, get_by_another_worker, get_of_a_later_put, get_of_a_later_put_away, get_below_an_earlier_one, get_of_too_few_at_home, await_of_too_few, value_of_fewer_puts, top_of_fewer_puts, clock_of_more_than_accepted, needs_of_fewer, final_of_fewer_puts, held_in_an_eventual_session, answer_of_another_line, needs_in_an_eventual_session, value_of_another_kind, finals_in_another_order, answers_too_few, commit_of_too_few, abort_of_too_few, worn_while_numbers_are_left, put_in_a_transaction, commit_at_a_later_lamport, end_after_too_few_asks, end_with_the_awaited, entry_of_no_puts, get_by_another_than_the_named, await_by_no_replica, end_by_another_than_the_last, held_outside_a_transaction, causal_reply_without_needs, version_of_its_own_put_alone, end_of_more_than_accepted, end_below_an_earlier_one, end_of_too_few_at_home, worn_commit_with_numbers_left, worn_commit_of_nothing, commit_of_nothing_at_a_lamport, stray_script}
+use Rattle.worked_reports.specs.Changed.{FirstRefuses, HomeRefuses, AwayRefuses, CommitRefuses, PlainRefuses, CausalRefuses, KeysRefuses, VersionsRefuses, ApartRefuses, IsValidNowhere, put_numbered_zero, put_at_a_later_lamport, get_by_another_worker, get_of_a_later_put, get_of_a_later_put_away, get_below_an_earlier_one, get_of_too_few_at_home, await_of_too_few, value_of_fewer_puts, top_of_fewer_puts, clock_of_more_than_accepted, needs_of_fewer, final_of_fewer_puts, held_in_an_eventual_session, answer_of_another_line, needs_in_an_eventual_session, value_of_another_kind, finals_in_another_order, answers_too_few, commit_of_too_few, abort_of_too_few, worn_while_numbers_are_left, put_in_a_transaction, commit_at_a_later_lamport, end_after_too_few_asks, end_with_the_awaited, entry_of_no_puts, get_by_another_than_the_named, await_by_no_replica, end_by_another_than_the_last, held_outside_a_transaction, causal_reply_without_needs, version_of_its_own_put_alone, end_of_more_than_accepted, end_below_an_earlier_one, end_of_too_few_at_home, worn_commit_with_numbers_left, worn_commit_of_nothing, commit_of_nothing_at_a_lamport, stray_script, HandedRefuses, successor_at_the_first_lamport, successor_that_counts_on, successor_that_is_shown_less}
 
 pub put_numbered_zero_is_refused : FirstRefuses put_numbered_zero
 put_numbered_zero_is_refused legal = let wrong : 0 ≡ 1 = legal.answers.0.0.number_is in omega (arith, wrong)
@@ -153,6 +153,15 @@ commit_of_nothing_at_a_lamport_is_refused legal = let wrong : 2 ≡ 0 = legal.an
 
 pub stray_script_is_refused : IsValidNowhere stray_script
 stray_script_is_refused table valid =
-    let stands = (valid.sessions 0 (record { name = codes "s"; level = Eventual; lines = lines.Get 2 (Some 1) ∷ [] }) (lit< tt)).lines 0 lines.Begin (lit< tt) in
+    let stands = (valid.sessions 0 (record { name = codes "s"; level = Eventual; after = None; lines = lines.Get 2 (Some 1) ∷ [] }) (lit< tt)).lines 0 lines.Begin (lit< tt) in
     let has_it : Contains (2 ∷ []) 1 = subst (λ (at : List (List ℕ)). Contains (replicas_of at 2) 1) valid.placed.replicas stands.1 in
     elim (contains_cases 2 1 [] has_it) [ inl is ↦ below_differs 1 2 (lit< tt) (sym is) | inr others ↦ contains_none 1 others ]
+
+pub successor_at_the_first_lamport_is_refused : HandedRefuses successor_at_the_first_lamport
+successor_at_the_first_lamport_is_refused legal = let wrong : 1 ≡ 2 = legal.answers.1.0.0.lamport_is in omega (arith, wrong)
+
+pub successor_that_counts_on_is_refused : HandedRefuses successor_that_counts_on
+successor_that_counts_on_is_refused legal = let wrong : 2 ≡ 1 = legal.answers.1.0.0.number_is in omega (arith, wrong)
+
+pub successor_that_is_shown_less_is_refused : HandedRefuses successor_that_is_shown_less
+successor_that_is_shown_less_is_refused legal = let wrong : false ≡ true = legal.answers.1.0.1.0.covers_required in (cc)

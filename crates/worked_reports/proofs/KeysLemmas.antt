@@ -23,7 +23,7 @@ use Rattle.session_known.specs.Legal.{IsLawfulFinal, IsLegalAt}
 use Rattle.session_known.specs.Script.{IsValidSession, IsValidScript}
 use Rattle.worked_reports.specs.Worked.{commit_table, keys_script, keys_report}
 use Rattle.worked_reports.proofs.LegalLemmas.{below_differs, one_session_in, put_of, sound_by_cell}
-use Rattle.worked_reports.proofs.PlacesLemmas.{AllPairs-from_recursion, name, session_is_valid, commit_is_valid}
+use Rattle.worked_reports.proofs.PlacesLemmas.{AllPairs-from_recursion, none_follows, name, session_is_valid, commit_is_valid}
 use Rattle.session_known.specs.declared.script.SessionPlan.{SessionPlan}
 
 -- its put
@@ -126,4 +126,5 @@ keys_is_valid placed =
       few_sessions = lit≤ tt;
       few_lines = lit≤ tt;
       sessions = All-from_recursion (IsValidSession keys_script commit_table) keys_script.sessions (session_is_valid keys_script commit_table (((lit≤ tt, lit≤ tt), lit< tt, refl), (((lit≤ tt, lit≤ tt), tt), (((lit≤ tt, lit≤ tt), tt), (refl, (refl, tt))))) (refl, (refl, refl)), tt);
+      orders = none_follows keys_script (refl, tt);
     }

@@ -1,5 +1,5 @@
 -- Where the keys of the worked scripts live, and that the scripts are valid there.
-use Rattle.std.specs.Prelude.{◌≡◌, ◌≢◌, ℕ, ◌≤◌, true, false, List, [], ◌∷◌, length, slice_index_or, All, AllPairs, ⊤, codes}
+use Rattle.std.specs.Prelude.{◌≡◌, ◌≢◌, ℕ, ◌≤◌, true, false, List, [], ◌∷◌, length, take, slice_get, slice_index_or, MatchOption, Some, None, All, AllPairs, ⊤, codes}
 use Rattle.std.specs.List.{AllByRecursion, list_all}
 use Rattle.std.proofs.Common.{refl, sym, ap, subst, ◌∙◌, arith, lit<, lit≤}
 use Rattle.std.proofs.lemmas.List.Elements.{All-from_recursion, All-head}
@@ -11,7 +11,8 @@ use Rattle.placement.specs.Name.{IsName}
 use Rattle.placement.specs.Config.{IsOneOf, ArePins, IsOwnFactor, IsPlacement, EachHasReplicas}
 use Rattle.placement.specs.declared.config.KeyPlace.{KeyPlace}
 use Rattle.session_known.specs.Legal.{IsLegalAt, IsLegal}
-use Rattle.session_known.specs.Script.{MayStand, AreEnded, IsValidSession, IsValidScript}
+use Rattle.session_known.proofs.EndsLemmas.{none_comes_after}
+use Rattle.session_known.specs.Script.{MayStand, MayComeAfter, AreEnded, IsValidSession, IsValidScript}
 use Rattle.worked_reports.specs.Worked.{first_script, first_table, home_script, home_table, commit_script, commit_table, causal_script, causal_table}
 use Rattle.session_known.specs.declared.report.Report.{Report}
 use Rattle.session_known.specs.declared.script.Script.{Script}
@@ -79,6 +80,10 @@ word bytes allowed some few = record { some = some; short = few; allowed = AllPa
 pub session_is_valid : (script : Script) (table : List (List ℕ)) {plan : SessionPlan} → AllByRecursion (MayStand script table plan.level) plan.lines → AreEnded false plan.lines → IsValidSession script table plan
 session_is_valid script table {plan} stand ended = record { lines = All-from_recursion (MayStand script table plan.level) plan.lines stand; transactions = ended }
 
+-- no session of a script comes after another
+pub none_follows : (script : Script) → AllByRecursion (λ plan. plan.after ≡ None) script.sessions → (place : ℕ) (plan : SessionPlan) → slice_get script.sessions place ≡ Some plan → MatchOption plan.after ⊤ (MayComeAfter script.version (take place script.sessions) plan.level)
+none_follows script none = none_comes_after script (All-from_recursion (λ plan. plan.after ≡ None) script.sessions none)
+
 -- The first script is valid.
 pub first_is_valid : IsPlacement first_script.config first_table → IsValidScript first_script first_table
 first_is_valid placed = record {
@@ -102,6 +107,7 @@ first_is_valid placed = record {
   few_sessions = lit≤ tt;
   few_lines = lit≤ tt;
   sessions = All-from_recursion (IsValidSession first_script first_table) first_script.sessions (session_is_valid first_script first_table (((lit≤ tt, lit≤ tt), lit< tt, refl), (((lit≤ tt, lit≤ tt), lit< tt, refl), (((lit≤ tt, lit≤ tt), tt), tt))) refl, tt);
+  orders = none_follows first_script (refl, tt);
 }
 
 -- The second script is valid.
@@ -127,6 +133,7 @@ home_is_valid placed = record {
   few_sessions = lit≤ tt;
   few_lines = lit≤ tt;
   sessions = All-from_recursion (IsValidSession home_script home_table) home_script.sessions (session_is_valid home_script home_table (((lit≤ tt, lit≤ tt), word (codes "x") refl (lit≤ tt) (lit≤ tt), refl), (((lit≤ tt, lit≤ tt), tt), (((lit≤ tt, lit≤ tt), word (codes "y") refl (lit≤ tt) (lit≤ tt), refl), (((lit≤ tt, lit≤ tt), tt), tt)))) refl, tt);
+  orders = none_follows home_script (refl, tt);
 }
 
 -- The third script is valid.
@@ -152,6 +159,7 @@ commit_is_valid placed = record {
   few_sessions = lit≤ tt;
   few_lines = lit≤ tt;
   sessions = All-from_recursion (IsValidSession commit_script commit_table) commit_script.sessions (session_is_valid commit_script commit_table (refl, (((lit≤ tt, lit≤ tt), lit< tt, refl), (((lit≤ tt, lit≤ tt), word (codes "red") refl (lit≤ tt) (lit≤ tt), refl), (refl, (refl, (((lit≤ tt, lit≤ tt), lit< tt, refl), (((lit≤ tt, lit≤ tt), word (codes "red") refl (lit≤ tt) (lit≤ tt), refl), (refl, (((lit≤ tt, lit≤ tt), tt), tt))))))))) (refl, (refl, (refl, (refl, refl)))), tt);
+  orders = none_follows commit_script (refl, tt);
 }
 
 -- The fourth script is valid.
@@ -177,6 +185,7 @@ causal_is_valid placed = record {
   few_sessions = lit≤ tt;
   few_lines = lit≤ tt;
   sessions = All-from_recursion (IsValidSession causal_script causal_table) causal_script.sessions (session_is_valid causal_script causal_table (((lit≤ tt, lit≤ tt), lit< tt, refl), (((lit≤ tt, lit≤ tt), (lit≤ tt, lit≤ tt), refl), (((lit≤ tt, lit≤ tt), lit< tt, refl), tt))) refl, (session_is_valid causal_script causal_table (((lit≤ tt, lit≤ tt), (lit≤ tt, lit≤ tt), refl), (((lit≤ tt, lit≤ tt), lit< tt, refl), tt)) refl, tt));
+  orders = none_follows causal_script (refl, (refl, tt));
 }
 
 -- Where the table that is the placement is the one at which a script is valid and its report legal, the script is valid and the report legal.

@@ -24,7 +24,7 @@ use Rattle.session_known.specs.Legal.{IsLawfulFinal, IsLegalAt}
 use Rattle.session_known.specs.Script.{IsValidSession, IsValidScript}
 use Rattle.worked_reports.specs.Worked.{first_table, versions_script, version_x, version_y, versions_report}
 use Rattle.worked_reports.proofs.LegalLemmas.{below_differs, one_session_in, two_sessions_in, put_of, sound_by_cell, x_is_word, y_is_word}
-use Rattle.worked_reports.proofs.PlacesLemmas.{AllPairs-from_recursion, names_differ, name, word, session_is_valid, first_is_valid}
+use Rattle.worked_reports.proofs.PlacesLemmas.{AllPairs-from_recursion, none_follows, names_differ, name, word, session_is_valid, first_is_valid}
 use Rattle.session_known.specs.declared.script.SessionPlan.{SessionPlan}
 
 -- the clocks of its cells
@@ -134,4 +134,5 @@ versions_is_valid placed =
       few_sessions = lit≤ tt;
       few_lines = lit≤ tt;
       sessions = All-from_recursion (IsValidSession versions_script first_table) versions_script.sessions (session_is_valid versions_script first_table (((lit≤ tt, lit≤ tt), word (codes "x") refl (lit≤ tt) (lit≤ tt), refl), tt) refl, (session_is_valid versions_script first_table (((lit≤ tt, lit≤ tt), tt), (((lit≤ tt, lit≤ tt), word (codes "y") refl (lit≤ tt) (lit≤ tt), refl), tt)) refl, tt));
+      orders = none_follows versions_script (refl, (refl, tt));
     }

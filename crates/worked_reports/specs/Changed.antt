@@ -3,7 +3,7 @@ use Rattle.std.specs.Prelude.{true, ℕ, List, [], ◌∷◌, Some, None, codes}
 use Rattle.lattice_laws.specs.declared.maybe.Maybe.TheVariants.{Is, Bottom}
 use Rattle.composed_value.specs.declared.payload.Payload.TheVariants as payloads
 use Rattle.composed_value.specs.declared.value.Value.TheVariants as values
-use Rattle.worked_reports.specs.Worked.{first_script, first_table, first_report, first_cell, first_final, home_script, home_table, home_report, home_cell_one, home_cell_both, home_final, commit_script, commit_table, commit_report, red, commit_cell, commit_final_a, commit_final_l, causal_script, causal_table, causal_report, causal_cell_a, causal_cell_b, causal_final_a, causal_final_b, keys_script, keys_report, keys_cell_a, keys_cell_l, keys_final_l, versions_script, versions_report, versions_final, version_x, apart_script, apart_table, apart_report, apart_cell_b}
+use Rattle.worked_reports.specs.Worked.{first_script, first_table, first_report, first_cell, first_final, home_script, home_table, home_report, home_cell_one, home_cell_both, home_final, commit_script, commit_table, commit_report, red, commit_cell, commit_final_a, commit_final_l, causal_script, causal_table, causal_report, causal_cell_a, causal_cell_b, causal_final_a, causal_final_b, keys_script, keys_report, keys_cell_a, keys_cell_l, keys_final_l, versions_script, versions_report, versions_final, version_x, apart_script, apart_table, apart_report, apart_cell_b, handed_script, handed_report, handed_cell, handed_final}
 use Rattle.session_known.specs.declared.report.Answer.TheVariants as answers
 use Rattle.session_known.specs.declared.report.Report.{Report}
 use Rattle.session_known.specs.declared.script.Level.TheVariants.{Eventual, Committed}
@@ -33,6 +33,9 @@ VersionsRefuses report = IsLegalAt first_table versions_script report → ⊥
 
 abbrev pub ApartRefuses : Report → Type 0
 ApartRefuses report = IsLegalAt apart_table apart_script report → ⊥
+
+abbrev pub HandedRefuses : Report → Type 0
+HandedRefuses report = IsLegalAt first_table handed_script report → ⊥
 
 -- The puts have the numbers 0 and 1, and the clocks count one.
 abbrev pub put_numbered_zero : Report
@@ -66,6 +69,7 @@ away_script = record home_script {
   sessions = record {
     name = codes "s";
     level = Eventual;
+    after = None;
     lines = lines.Put 1 (payloads.Add (codes "x")) ∷ lines.Get 1 (Some 1) ∷ lines.Put 1 (payloads.Add (codes "y")) ∷ lines.Get 1 (Some 1) ∷ [];
   } ∷ [];
 }
@@ -233,7 +237,7 @@ end_by_another_than_the_last = record {
 -- A committed session that begins no transaction.
 --     put a 5
 abbrev pub plain_script : Script
-plain_script = record commit_script { sessions = record { name = codes "s"; level = Committed; lines = lines.Put 1 (payloads.Max 5) ∷ [] } ∷ [] }
+plain_script = record commit_script { sessions = record { name = codes "s"; level = Committed; after = None; lines = lines.Put 1 (payloads.Max 5) ∷ [] } ∷ [] }
 
 abbrev pub PlainRefuses : Report → Type 0
 PlainRefuses report = IsLegalAt commit_table plain_script report → ⊥
@@ -303,8 +307,28 @@ commit_of_nothing_at_a_lamport = record keys_report { answers = (answers.Put 1 1
 -- An eventual session that gets b of worker 1, where b lives at worker 2.
 --     get b @1
 abbrev pub stray_script : Script
-stray_script = record causal_script { sessions = record { name = codes "s"; level = Eventual; lines = lines.Get 2 (Some 1) ∷ [] } ∷ [] }
+stray_script = record causal_script { sessions = record { name = codes "s"; level = Eventual; after = None; lines = lines.Get 2 (Some 1) ∷ [] } ∷ [] }
 
 -- The script is not valid, wherever its keys live.
 abbrev pub IsValidNowhere : Script → Type 0
 IsValidNowhere script = (table : List (List ℕ)) → IsValidScript script table → ⊥
+
+-- The put of the session that comes after another stands at 1, as if the session knew nothing.
+abbrev pub successor_at_the_first_lamport : Report
+successor_at_the_first_lamport = record {
+  answers = (answers.Put 1 1 ∷ []) ∷ (answers.Put 1 1 ∷ answers.Got 1 (record handed_cell { top = 1 }) ∷ []) ∷ [];
+  finals = record handed_final { top = 1 } ∷ [];
+}
+
+-- It has the number 2, as if the other's put were one of its own.
+abbrev pub successor_that_counts_on : Report
+successor_that_counts_on = record {
+  answers = (answers.Put 1 1 ∷ []) ∷ (answers.Put 2 2 ∷ answers.Got 1 (record handed_cell { clock = (1, 1) ∷ (2, 2) ∷ [] }) ∷ []) ∷ [];
+  finals = record handed_final { clock = (1, 1) ∷ (2, 2) ∷ [] } ∷ [];
+}
+
+-- It is not shown the other's put.
+abbrev pub successor_that_is_shown_less : Report
+successor_that_is_shown_less = record handed_report {
+  answers = (answers.Put 1 1 ∷ []) ∷ (answers.Put 1 2 ∷ answers.Got 1 (record handed_cell { clock = (2, 1) ∷ [] }) ∷ []) ∷ [];
+}

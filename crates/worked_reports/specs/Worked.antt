@@ -1,4 +1,4 @@
--- Seven scripts, each with a legal report. Beside each script stands the report, abridged.
+-- Eight scripts, each with a legal report. Beside each script stands the report, abridged.
 use Rattle.std.specs.Prelude.{ℕ, List, [], ◌∷◌, Some, None, codes}
 use Rattle.lattice_laws.specs.declared.maybe.Maybe.TheVariants.{Is, Bottom}
 use Rattle.basic_lattices.specs.declared.stamped.Stamped.{Stamped}
@@ -41,6 +41,7 @@ first_script = record {
   sessions = record {
     name = codes "s";
     level = Eventual;
+    after = None;
     lines = lines.Put 1 (payloads.Max 5) ∷ lines.Put 1 (payloads.Max 3) ∷ lines.Get 1 None ∷ [];
   } ∷ [];
 }
@@ -83,6 +84,7 @@ home_script = record {
   sessions = record {
     name = codes "s";
     level = Eventual;
+    after = None;
     lines = lines.Put 1 (payloads.Add (codes "x")) ∷ lines.Get 1 None ∷ lines.Put 1 (payloads.Add (codes "y")) ∷ lines.Get 1 None ∷ [];
   } ∷ [];
 }
@@ -135,6 +137,7 @@ commit_script = record {
   sessions = record {
     name = codes "s";
     level = Committed;
+    after = None;
     lines =
         lines.Begin ∷ lines.Put 1 (payloads.Max 5) ∷ lines.Put 2 (payloads.Last (codes "red")) ∷ lines.Abort
         ∷ lines.Begin ∷ lines.Put 1 (payloads.Max 5) ∷ lines.Put 2 (payloads.Last (codes "red")) ∷ lines.Commit ∷ lines.Get 2 None ∷ [];
@@ -189,8 +192,8 @@ causal_script = record {
   round = 4;
   kinds = kinds.Max ∷ kinds.Max ∷ [];
   sessions =
-      record { name = codes "s"; level = Causal; lines = lines.Put 1 (payloads.Max 1) ∷ lines.Await 2 2 1 ∷ lines.Put 1 (payloads.Max 2) ∷ [] }
-      ∷ record { name = codes "t"; level = Causal; lines = lines.Await 1 1 1 ∷ lines.Put 2 (payloads.Max 7) ∷ [] } ∷ [];
+      record { name = codes "s"; level = Causal; after = None; lines = lines.Put 1 (payloads.Max 1) ∷ lines.Await 2 2 1 ∷ lines.Put 1 (payloads.Max 2) ∷ [] }
+      ∷ record { name = codes "t"; level = Causal; after = None; lines = lines.Await 1 1 1 ∷ lines.Put 2 (payloads.Max 7) ∷ [] } ∷ [];
 }
 
 -- the cell of b that s awaits: the put needs the first put of a
@@ -238,6 +241,7 @@ keys_script = record commit_script {
   sessions = record {
     name = codes "s";
     level = Committed;
+    after = None;
     lines = lines.Put 1 (payloads.Max 5) ∷ lines.Get 1 None ∷ lines.Get 2 None ∷ lines.Begin ∷ lines.Commit ∷ [];
   } ∷ [];
 }
@@ -275,8 +279,8 @@ abbrev pub versions_script : Script
 versions_script = record first_script {
   kinds = kinds.Versions ∷ [];
   sessions =
-      record { name = codes "s"; level = Eventual; lines = lines.Put 1 (payloads.Version (codes "x")) ∷ [] }
-      ∷ record { name = codes "t"; level = Eventual; lines = lines.Get 1 None ∷ lines.Put 1 (payloads.Version (codes "y")) ∷ [] } ∷ [];
+      record { name = codes "s"; level = Eventual; after = None; lines = lines.Put 1 (payloads.Version (codes "x")) ∷ [] }
+      ∷ record { name = codes "t"; level = Eventual; after = None; lines = lines.Get 1 None ∷ lines.Put 1 (payloads.Version (codes "y")) ∷ [] } ∷ [];
 }
 
 -- the version of s has seen itself alone
@@ -324,8 +328,8 @@ apart_script = record {
   round = 64;
   kinds = kinds.Max ∷ kinds.Max ∷ [];
   sessions =
-      record { name = codes "s"; level = Causal; lines = lines.Put 1 (payloads.Max 5) ∷ lines.Put 2 (payloads.Max 7) ∷ lines.Await 2 2 1 ∷ [] }
-      ∷ record { name = codes "t"; level = Causal; lines = lines.Put 1 (payloads.Max 3) ∷ lines.Get 2 None ∷ lines.Get 1 None ∷ lines.Get 1 None ∷ [] } ∷ [];
+      record { name = codes "s"; level = Causal; after = None; lines = lines.Put 1 (payloads.Max 5) ∷ lines.Put 2 (payloads.Max 7) ∷ lines.Await 2 2 1 ∷ [] }
+      ∷ record { name = codes "t"; level = Causal; after = None; lines = lines.Put 1 (payloads.Max 3) ∷ lines.Get 2 None ∷ lines.Get 1 None ∷ lines.Get 1 None ∷ [] } ∷ [];
 }
 
 -- the cell of b: its put needs the put of s on a
@@ -351,3 +355,36 @@ apart_report = record {
 -- the keys live at their pins, in their order
 abbrev pub apart_table : List (List ℕ)
 apart_table = (2 ∷ 1 ∷ []) ∷ (1 ∷ []) ∷ []
+
+-- A session that comes after another.
+--     anna 2                           anna report 2
+--     workers 1                        key a max on 1
+--     key a max                        session s causal
+--     session s causal                 put a 1 at 1
+--     put a 5                          session t causal after s
+--     session t causal after s         put a 1 at 2
+--     put a 7                          get a @1 clock s:1,t:1 top 2 value 7 needs a{s:1}
+--     get a                            final
+--                                      a @1 clock s:1,t:1 top 2 value 7
+abbrev pub handed_script : Script
+handed_script = record first_script {
+  version = 2;
+  sessions =
+      record { name = codes "s"; level = Causal; after = None; lines = lines.Put 1 (payloads.Max 5) ∷ [] }
+      ∷ record { name = codes "t"; level = Causal; after = Some 1; lines = lines.Put 1 (payloads.Max 7) ∷ lines.Get 1 None ∷ [] } ∷ [];
+}
+
+-- the cell that counts both puts
+abbrev pub handed_cell : Shown
+handed_cell = record { clock = (1, 1) ∷ (2, 1) ∷ []; top = 2; value = values.Max (Is 7); needs = Some ((1, (1, 1) ∷ []) ∷ []) }
+
+-- at the end the worker has it
+abbrev pub handed_final : FinalCell
+handed_final = record { key = 1; worker = 1; clock = (1, 1) ∷ (2, 1) ∷ []; top = 2; value = values.Max (Is 7) }
+
+-- the report
+abbrev pub handed_report : Report
+handed_report = record {
+  answers = (answers.Put 1 1 ∷ []) ∷ (answers.Put 1 2 ∷ answers.Got 1 handed_cell ∷ []) ∷ [];
+  finals = handed_final ∷ [];
+}

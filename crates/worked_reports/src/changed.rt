@@ -1,6 +1,6 @@
 //! Changed reports and a changed script, each of which one condition refuses.
 ghost use Rattle.worked_reports.specs.Changed as changed;
-ghost use Rattle.worked_reports.specs.Changed.{FirstRefuses, HomeRefuses, AwayRefuses, CommitRefuses, PlainRefuses, CausalRefuses, KeysRefuses, VersionsRefuses, ApartRefuses, IsValidNowhere};
+ghost use Rattle.worked_reports.specs.Changed.{FirstRefuses, HomeRefuses, AwayRefuses, CommitRefuses, PlainRefuses, CausalRefuses, KeysRefuses, VersionsRefuses, ApartRefuses, HandedRefuses, IsValidNowhere};
 
 /// The changed reports of `specs/Changed.antt` are not legal where their script's keys live; each clause
 /// is named for what was changed, and its proof takes the one condition that refuses it.
@@ -44,6 +44,9 @@ pub fn changed_reports_are_refused()
     ensures worn_commit_with_numbers_left { CommitRefuses changed.worn_commit_with_numbers_left }
     ensures worn_commit_of_nothing { KeysRefuses changed.worn_commit_of_nothing }
     ensures commit_of_nothing_at_a_lamport { KeysRefuses changed.commit_of_nothing_at_a_lamport }
+    ensures successor_at_the_first_lamport { HandedRefuses changed.successor_at_the_first_lamport }
+    ensures successor_that_counts_on { HandedRefuses changed.successor_that_counts_on }
+    ensures successor_that_is_shown_less { HandedRefuses changed.successor_that_is_shown_less }
 {}
 
 /// A script is not valid that has a get which names a worker that is no replica of the key.

@@ -1,5 +1,5 @@
 //! Whole runs at gates: that parties take their turns beside each other, and how their turns are told.
-use super::tests::{GET, GET_REPORT, ended, ended_at, push_line};
+use super::tests::{GET, GET_REPORT, LATE, ended, ended_at, push_line};
 use super::*;
 use std::sync::atomic::{AtomicBool, AtomicU64, Ordering};
 use std::test::Fail;
@@ -300,5 +300,44 @@ fn what_never_comes_is_given_up_after_eight_asks_of_each_replica(
         // One ask at most comes to nothing in an epoch, in each of which the last session takes one turn.
         assert!(rt; gate.turns_of(workers.saturating_add(2)) >= asks, "{asks}");
     }
+    Ok(())
+}
+
+// ---- a session that waits
+
+/// A gate that notes to which turn the session with the number 1 had come when that with the number 2 took its first.
+#[derive(Drop)]
+struct Succession {
+    first: AtomicU64,
+    first_then: AtomicU64,
+    second: AtomicU64,
+}
+
+impl Gate for Succession {
+    fn at(&self, party: u16, turn: u64) {
+        if party == 1 {
+            self.first.store(turn, Ordering::SeqCst);
+        }
+        if party == 2 && self.second.swap(turn, Ordering::SeqCst) == 0 {
+            self.first_then
+                .store(self.first.load(Ordering::SeqCst), Ordering::SeqCst);
+        }
+    }
+}
+
+#[test]
+fn a_session_that_waits_takes_no_turn(rt: HostRuntime) -> Result<(), Fail> {
+    let gate = Succession {
+        first: AtomicU64::new(0),
+        first_then: AtomicU64::new(0),
+        second: AtomicU64::new(0),
+    };
+    let (script, report) = LATE;
+    let (status, text) = ended_at(&rt, rt.alloc(), &gate, "run", script.as_bytes())?;
+    assert_eq!(rt; status, Status::Done);
+    assert_eq!(rt; text.as_slice(), report.as_bytes());
+    // One ask of the first at most comes to nothing in an epoch, and it makes eight.
+    assert!(rt; gate.first_then.load(Ordering::SeqCst) >= 8);
+    assert!(rt; gate.second.load(Ordering::SeqCst) > 0);
     Ok(())
 }

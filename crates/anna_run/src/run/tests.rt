@@ -131,8 +131,20 @@ pub(super) const COUNTED: (&str, &str) = (
     "anna report 2\nkey c counter on 1\nkey w orset on 1\nsession s eventual\nput c 1 at 1\nput c 2 at 2\nget c @1 clock s:2 top 2 value 2{s:1+5-0,s:2+0-3}\nput w 1 at 3\nput w 2 at 4\nput w 3 at 5\nget w @1 clock s:3 top 5 value {milk@s:3;milk(s:2)}\nfinal\nc @1 clock s:2 top 2 value 2{s:1+5-0,s:2+0-3}\nw @1 clock s:3 top 5 value {milk@s:3;milk(s:2)}\nend\n",
 );
 
+/// A session begins where another ended.
+pub(super) const HANDED_OVER: (&str, &str) = (
+    "anna 2\nworkers 1\nkey a max\nsession s causal\nput a 5\nsession t causal after s\nput a 7\nget a\nend\n",
+    "anna report 2\nkey a max on 1\nsession s causal\nput a 1 at 1\nsession t causal after s\nput a 1 at 2\nget a @1 clock s:1,t:1 top 2 value 7 needs a{s:1}\nfinal\na @1 clock s:1,t:1 top 2 value 7\nend\n",
+);
+
+/// A session awaits in vain what the session that comes after it puts.
+pub(super) const LATE: (&str, &str) = (
+    "anna 2\nworkers 1\nkey a max\nsession s causal\nawait a t 1\nsession t causal after s\nput a 5\nend\n",
+    "anna report 2\nkey a max on 1\nsession s causal\nawait a t 1 gave up after 8 @1 clock -\nsession t causal after s\nput a 1 at 1\nfinal\na @1 clock t:1 top 1 value 5\nend\n",
+);
+
 /// Scripts whose reports are the same on every schedule, and those reports.
-const SETTLED: [(&str, &str); 8] = [
+const SETTLED: [(&str, &str); 12] = [
     CONVERGED,
     // A key has a factor of its own.
     (
@@ -160,6 +172,19 @@ const SETTLED: [(&str, &str); 8] = [
     (
         "anna 1\nworkers 1\nkey a max\nsession s committed\nbegin\nput a 5\nget a\ncommit\nget a\nend\n",
         "anna report 1\nsession s committed\nbegin\nput a held\nget a @1 clock - top 0 value none\ncommit 1 at 1\nget a @1 clock s:1 top 1 value 5\nfinal\na @1 clock s:1 top 1 value 5\nend\n",
+    ),
+    HANDED_OVER,
+    // A session that waits is no party of the epochs in which the other gives up.
+    LATE,
+    // Two sessions come after one.
+    (
+        "anna 2\nworkers 1\nkey a max\nsession s causal\nput a 5\nsession t causal after s\nput a 7\nsession u causal after s\nput a 9\nend\n",
+        "anna report 2\nkey a max on 1\nsession s causal\nput a 1 at 1\nsession t causal after s\nput a 1 at 2\nsession u causal after s\nput a 1 at 2\nfinal\na @1 clock s:1,t:1,u:1 top 2 value 9\nend\n",
+    ),
+    // Sessions without lines hand over what they were handed.
+    (
+        "anna 2\nworkers 1\nkey a max\nsession s causal\nput a 5\nsession t causal after s\nsession u causal after t\nsession v causal after u\nput a 7\nend\n",
+        "anna report 2\nkey a max on 1\nsession s causal\nput a 1 at 1\nsession t causal after s\nsession u causal after t\nsession v causal after u\nput a 1 at 2\nfinal\na @1 clock s:1,v:1 top 2 value 7\nend\n",
     ),
     // Nothing is asked for.
     (
@@ -211,6 +236,64 @@ fn a_chain_of_causes(rt: HostRuntime) -> Result<(), Fail> {
             || has_line(&text, "get a @2 clock s:1 top 1 value 5 needs -")
             || has_line(&text, "get a @3 clock s:1 top 1 value 5 needs -")
     );
+    Ok(())
+}
+
+#[test]
+fn a_successor_is_shown_what_its_predecessor_saw(rt: HostRuntime) -> Result<(), Fail> {
+    let script =
+        "anna 2\nworkers 2\nkey a max at 1 2\nkey b max at 1 2\nsession s causal\nput a 5\nsession t causal\nawait a s 1\nsession u causal after t\nget a\nput b 6\nend\n";
+    let (status, text) = run_on(&rt, rt.alloc(), script.as_bytes())?;
+    assert_eq!(rt; status, Status::Done);
+    assert!(rt;
+        has_line(&text, "get a @1 clock s:1 top 1 value 5 needs -")
+            || has_line(&text, "get a @2 clock s:1 top 1 value 5 needs -")
+    );
+    assert!(rt; has_line(&text, "put b 1 at 2"));
+    Ok(())
+}
+
+/// Sixteen sessions, each of which puts and comes after the one before, and the last of which gets; and the report.
+fn chain(alloc: Global) -> Result<(String, String), Fail> {
+    let mut script = String::from_str(alloc, "anna 2\nworkers 1\nkey a max\n")?;
+    let mut report = String::from_str(alloc, "anna report 2\nkey a max on 1\n")?;
+    let mut clock = String::new(alloc);
+    let mut needs = String::new(alloc);
+    for number in 1..17 {
+        let session = if number == 1 {
+            format!(in alloc; "session s1 causal")?
+        } else {
+            format!(in alloc; "session s{number} causal after s{}", number - 1)?
+        };
+        push_line(&mut script, &session)?;
+        push_line(&mut report, &session)?;
+        push_line(&mut script, &format!(in alloc; "put a {number}")?)?;
+        push_line(&mut report, &format!(in alloc; "put a 1 at {number}")?)?;
+        needs = String::from_str(alloc, &clock)?;
+        if number > 1 {
+            clock.push_str(",")?;
+        }
+        clock.push_str(&format!(in alloc; "s{number}:1")?)?;
+    }
+    push_line(&mut script, "get a")?;
+    push_line(
+        &mut report,
+        &format!(in alloc; "get a @1 clock {clock} top 16 value 16 needs a{{{needs}}}")?,
+    )?;
+    push_line(&mut script, "end")?;
+    push_line(
+        &mut report,
+        &format!(in alloc; "final\na @1 clock {clock} top 16 value 16\nend")?,
+    )?;
+    Ok((script, report))
+}
+
+#[test]
+fn sixteen_sessions_come_one_after_another(rt: HostRuntime) -> Result<(), Fail> {
+    let (script, report) = chain(rt.alloc())?;
+    let (status, text) = run_on(&rt, rt.alloc(), script.as_bytes())?;
+    assert_eq!(rt; status, Status::Done);
+    assert_eq!(rt; text.as_slice(), report.as_bytes());
     Ok(())
 }
 
@@ -288,6 +371,48 @@ fn factors_of_keys_are_refused(rt: HostRuntime) -> Result<(), Fail> {
         let (status, text) = run_on(&rt, rt.alloc(), script.as_bytes())?;
         assert_eq!(rt; status, Status::Refused, "{fourth:?}");
         assert_eq!(rt; text.as_slice(), want.as_bytes(), "{fourth:?}");
+    }
+    Ok(())
+}
+
+#[test]
+fn hand_overs_are_refused(rt: HostRuntime) -> Result<(), Fail> {
+    // The first line, the fourth and the sixth, and what is said of the script.
+    let cases = [
+        ("anna 2", "session s causal", "session t causal after u", 6),
+        ("anna 2", "session s causal", "session t causal after t", 6),
+        (
+            "anna 2",
+            "session s causal",
+            "session t eventual after s",
+            2,
+        ),
+        ("anna 2", "session s causal", "session t causal since s", 2),
+        (
+            "anna 2",
+            "session s eventual",
+            "session t causal after s",
+            6,
+        ),
+        ("anna 1", "session s causal", "session t causal after s", 2),
+        ("anna 2", "session s causal", "session t causal after", 2),
+        (
+            "anna 2",
+            "session s causal",
+            "session t causal after s s",
+            2,
+        ),
+        ("anna 2", "session s causal", "session t causal after s+", 4),
+        ("anna 2", "session s causal", "session s causal after u", 5),
+    ];
+    for (first, fourth, sixth, code) in cases {
+        let script = format!(in rt.alloc();
+            "{first}\nworkers 1\nkey a max\n{fourth}\nput a 5\n{sixth}\nput a 7\nget a\nend\n"
+        )?;
+        let want = format!(in rt.alloc(); "refused line 6: code {code}\n")?;
+        let (status, text) = run_on(&rt, rt.alloc(), script.as_bytes())?;
+        assert_eq!(rt; status, Status::Refused, "{sixth:?}");
+        assert_eq!(rt; text.as_slice(), want.as_bytes(), "{sixth:?}");
     }
     Ok(())
 }

@@ -169,6 +169,48 @@ fn refuses_factors_of_keys(rt: HostRuntime) -> Result<(), Fail> {
 }
 
 #[test]
+fn refuses_sessions_to_come_after(rt: HostRuntime) -> Result<(), Fail> {
+    // The version, the last line of a script in which `s` and `t` are causal and `e` is eventual, and the code.
+    let cases = [
+        (1, "session u causal after s", 2),
+        (2, "session u causal after", 2),
+        (2, "session u causal after s t", 2),
+        (2, "session u causal After s", 2),
+        (2, "session u eventual after s", 2),
+        (2, "session u committed after s", 2),
+        (2, "session u lazy after s", 2),
+        (2, "session u+ causal after s", 4),
+        (2, "session u causal after s+", 4),
+        (2, "session s+ causal after u+", 4),
+        (2, "session t causal after u", 5),
+        (2, "session u causal after u", 6),
+        (2, "session u causal after e", 6),
+        (2, "session u causal after a", 6),
+    ];
+    for (version, line, code) in cases {
+        let text = format!(in rt.alloc();
+            "anna {version}\nworkers 1\nkey a max\nsession s causal\nsession e eventual\nsession t causal\n{line}\nend\n"
+        )?;
+        let fault = read_script(rt.alloc(), text.as_bytes()).err();
+        assert_eq!(rt; fault, refusal(7, code), "{line:?}");
+    }
+    Ok(())
+}
+
+#[test]
+fn reads_sessions_that_come_after_others(rt: HostRuntime) -> Result<(), Fail> {
+    let text =
+        "anna 2\nworkers 1\nsession e eventual\nsession s causal\nsession t causal after s\nsession u causal after s\nsession v causal after u\nend\n";
+    let script = read_script(rt.alloc(), text.as_bytes())?;
+    let wanted = [None, None, Some(2), Some(2), Some(4)];
+    assert_eq!(rt; script.sessions.as_slice().len(), wanted.len());
+    for (plan, after) in script.sessions.as_slice().iter().zip(&wanted) {
+        assert_eq!(rt; plan.after, *after);
+    }
+    Ok(())
+}
+
+#[test]
 fn refuses_kinds_of_version_2_in_version_1(rt: HostRuntime) -> Result<(), Fail> {
     // The third line of a script of two workers, and its code in versions 1 and 2.
     let cases = [

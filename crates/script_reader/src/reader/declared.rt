@@ -1,17 +1,19 @@
 //! Reads the lines that declare: workers, options, keys, sessions, and the end.
-ghost use Rattle.std.specs.Prelude.{◌≡◌, ◌<◌, List, ℕ, ◌∷◌, [], true, false, length, MatchResult};
+ghost use Rattle.std.specs.Prelude.{◌≡◌, ◌<◌, List, ℕ, ◌∷◌, [], true, false, ◌&&◌, not, length, MatchResult};
 ghost use Rattle.std.specs.List.{list_any};
+ghost use Rattle.std.specs.Option.{option_map, option_map_or};
 ghost use Rattle.std.specs.Str.{bytes_eq};
 ghost use Rattle.script_reader.specs.Entries.{AreKeyWords, AreSessionWords};
-ghost use Rattle.script_reader.specs.Faults.{is_version, sessions_of};
+ghost use Rattle.script_reader.specs.Faults.{is_causal, has_causal, is_version, sessions_of};
 ghost use Rattle.script_reader.specs.Reader.{so_far, begun_of, IsKept, SuitsPlace, Reads, IsNameFault, HasOpened};
-ghost use Rattle.script_reader.specs.Words.{is_name, number_of, texts};
+ghost use Rattle.script_reader.specs.Said.{session_number};
+ghost use Rattle.script_reader.specs.Words.{is_name, number_of, lent, texts};
 ghost use Rattle.script_reader.specs.declared.keyword.Keyword.TheVariants as keywords;
 
 use crate::code::Code;
 use crate::pins::{are_workers, has_repeat, is_factor, is_within, numbers, pins, pins_or_factor};
 use crate::reader::{LineFault, Reader, Sessions};
-use crate::words::number;
+use crate::words::{is_spelling, number};
 use composed_value::Kind;
 use lattice_laws::Items;
 use placement::{KeyPlace, Name, Placement};
@@ -29,6 +31,23 @@ fn read_name(word: &[u8]) -> Result<Name, LineFault>
         Ok(name) => Ok(name),
         Err(_) => Err(LineFault::Code(Code::Name)),
     }
+}
+
+/// Whether a word spells a name, where there is one.
+fn is_name_if_any(word: Option<&[u8]>) -> bool
+    ensures { result ≡ option_map_or is_name (lent word.entry) true }
+{
+    match word {
+        Some(word) => is_spelling(word, 32),
+        None => true,
+    }
+}
+
+/// Whether a session has the name and is causal.
+fn is_causal_of_name(plan: &SessionPlan, name: &[u8]) -> bool
+    ensures { result ≡ (bytes_eq name.now plan.now.name && is_causal plan.now.level) }
+{
+    name == plan.name.as_bytes() && plan.level == Level::Causal
 }
 
 /// The version that a header says.
@@ -161,6 +180,39 @@ impl<'a> Reader<'a> {
             || name == sessions.last.name.as_bytes()
     }
 
+    /// Whether a session has the name and is causal.
+    fn has_causal(&self, name: &[u8]) -> bool
+        ensures { result ≡ has_causal (so_far self.now).script.sessions name.now }
+    {
+        let Some(sessions) = &self.sessions else {
+            return false;
+        };
+        sessions
+            .done
+            .iter()
+            .any(|plan| is_causal_of_name(plan, name))
+            || is_causal_of_name(&sessions.last, name)
+    }
+
+    /// Whether a session that is named to come before is no causal one so far.
+    fn lacks_predecessor(&self, after: Option<&[u8]>) -> bool
+        ensures { result ≡ option_map_or
+            (λ other. not (has_causal (so_far self.now).script.sessions other)) (lent after.entry) false }
+    {
+        match after {
+            Some(name) => !self.has_causal(name),
+            None => false,
+        }
+    }
+
+    /// The number of the session that is named to come before.
+    fn number_after(&self, after: Option<&[u8]>) -> Option<u16>
+        ensures { result ≡ option_map (session_number self.now.named) (lent after.entry) }
+    {
+        let place = self.named.place_of(after?).unwrap_or(0);
+        Some(place.min(65534) as u16 + 1)
+    }
+
     /// The number of sessions.
     fn sessions_len(&self) -> usize
         requires kept { IsKept self.now }
@@ -188,16 +240,23 @@ impl<'a> Reader<'a> {
         alloc: Global,
         name: &[u8],
         level: Level,
+        after: Option<&[u8]>,
     ) -> Result<(), LineFault>
         requires kept { IsKept self.old }
         requires workers { self.old.has_workers ≡ true }
-        ensures { (words : List (List ℕ)) → AreSessionWords words name.now level
+        ensures { (words : List (List ℕ)) → AreSessionWords words name.now level (lent after.entry)
             → SuitsPlace (so_far self.old) keywords.Session words
             → Reads self.old result self.new keywords.Session words }
     {
         let session_name = read_name(name)?;
+        if !is_name_if_any(after) {
+            return Err(LineFault::Code(Code::Name));
+        }
         if self.has_session(name) {
             return Err(LineFault::Code(Code::Twice));
+        }
+        if self.lacks_predecessor(after) {
+            return Err(LineFault::Code(Code::Unknown));
         }
         if self.sessions_len() >= 16 {
             return Err(LineFault::Code(Code::Limit));
@@ -208,6 +267,7 @@ impl<'a> Reader<'a> {
         let plan = SessionPlan {
             name: session_name,
             level,
+            after: self.number_after(after),
             lines: Items::new(Vec::new(alloc)),
         };
         self.open(alloc, plan)

@@ -1,5 +1,5 @@
-use Rattle.std.proofs.Common.{◌≡◌, ◌∙◌, Ok, ap, arith, false, inl, inr, refl, subst, sym}
-use Rattle.session_proxy.specs.State.{lists_of, Lists}
+use Rattle.std.proofs.Common.{◌≡◌, ◌∙◌, IsTrue, Ok, ap, arith, false, inl, inr, refl, subst, sym}
+use Rattle.session_proxy.specs.State.{begins, lists_of, Lists}
 use Rattle.std.proofs.lemmas.Bool.{false≢true}
 use Rattle.parties.specs.Session.{proxy_of}
 use Rattle.run_measure.proofs.PaceLemmas.{still_paced}
@@ -34,7 +34,7 @@ module _ (g : Over) (c : After-poll g) where
   polled : HasPolled g.S.Tx g.R.Rx (proxy_of c.args.session.now) (proxy_of c.poll.new.self)
   polled =
       polled_through c.loop.invariant.polled
-      (polled_once (proxy_of c.loop.session) (proxy_of c.poll.new.self) c.poll.ensures.fixed c.poll.ensures.keys c.poll.ensures.share
+      (polled_once (proxy_of c.loop.session) (proxy_of c.poll.new.self) c.poll.result _ _ _ _ c.poll.ensures.polls c.poll.ensures.ended c.poll.ensures.fixed c.poll.ensures.keys c.poll.ensures.share
       c.poll.ensures.takes)
 
   -- how far it is, by the answer
@@ -63,6 +63,9 @@ module _ (g : Over) (c : After-poll g) where
   waited is =
       waits_once g.S.Tx g.R.Rx c.poll.result c.loop.counter _ c.loop.moved
       (proxy_of c.args.session.now) (proxy_of c.loop.session) (proxy_of c.poll.new.self) _ _ is c.poll.ensures.polls c.poll.ensures.takes c.loop.invariant.waited
+
+pub poll-requires : goal.poll-requires
+poll-requires g c = subst (λ origin. IsTrue (begins origin)) (sym c.loop.invariant.polled.fixed.origin) c.requires
 
 pub loop-init : goal.loop-init
 loop-init g c =

@@ -12,6 +12,7 @@ use Rattle.party_turns.specs.Running.{GoesOn}
 use Rattle.parties.specs.Session.{proxy_of}
 use Rattle.parties.specs.Polling.{HasPolled, HasWaited, IsAllAnswered}
 use Rattle.parties.specs.Progress.{HasMovedOn}
+use Rattle.parties.proofs.ChangedLemmas.{read_there}
 use Rattle.parties.proofs.OneChangedLemmas.{made_at_place, made_goes_on, now_made, on_ok, where_value}
 use Rattle.parties.proofs.PlacedLemmas.{may_be_polled}
 use Rattle.parties.proofs.PolledLemmas.{polled_still}
@@ -29,6 +30,11 @@ module _ (g : Over) where
       g.row.P-ReqTx-Key.Denot g.row.P-RepTx-Key.Denot g.row.P-GosTx-Key.Denot g.row.P-ReqRx-Key.Denot g.row.P-GosRx-Key.Denot g.row.P-RepRx-Key.Denot
   mail = mail_of g.P.ReqTx.Tx g.P.RepTx.Tx g.P.GosTx.Tx g.P.ReqRx.Rx g.P.GosRx.GossipRx g.P.RepRx.Rx
 
+pub poll_often-requires : goal.poll_often-requires
+poll_often-requires g c =
+    c.requires.begun (proxy_of c.index_mut.result.now) (mapped proxy_of c.args.parties.now.sessions.items c.args.place c.index_mut.result.now
+    (read_there c.args.parties.now.sessions.items c.args.place c.index_mut.result.now c.requires.within c.index_mut.ensures.value))
+
 pub returns-clause-others : goal.returns-clause-others
 returns-clause-others g c other apart =
     let sessions = c.args.parties.now.sessions.items in
@@ -38,13 +44,13 @@ returns-clause-others g c other apart =
 pub returns-clause-ended : goal.returns-clause-ended
 returns-clause-ended g c =
     on_ok c.poll_often.result (λ polled answered is proxy there.
-    subst IsAllAnswered (now_made proxy_of c.args.parties.now.sessions.items c.args.place c.poll_often.new.session c.requires proxy there) (answered is)) c.poll_often.ensures.ended
+    subst IsAllAnswered (now_made proxy_of c.args.parties.now.sessions.items c.args.place c.poll_often.new.session c.requires.within proxy there) (answered is)) c.poll_often.ensures.ended
 
 pub returns-clause-moved : goal.returns-clause-moved
 returns-clause-moved g c =
     let lists = session_lists (mail g) in
     made_at_place (λ was now. IsPlaced (lists was) → Share (lists was) → IfOk c.poll_often.result (λ polled. HasMovedOn polled (lists was) (lists now))) proxy_of
-    c.args.parties.now.sessions.items c.args.place c.index_mut.result.now c.poll_often.new.session c.requires c.index_mut.ensures.value c.poll_often.ensures.moved
+    c.args.parties.now.sessions.items c.args.place c.index_mut.result.now c.poll_often.new.session c.requires.within c.index_mut.ensures.value c.poll_often.ensures.moved
 
 module _ (g : Over) (c : After-poll_often g) where
   abbrev its : PlainProxy g.row.P-ReqTx.Denot g.row.P-RepRx.Denot → Lists
@@ -58,7 +64,7 @@ module _ (g : Over) (c : After-poll_often g) where
 
   -- the session that was polled
   there : slice_get c.args.parties.now.sessions.items c.args.place ≡ Some c.index_mut.result.now
-  there = slice_get-get_or c.args.parties.now.sessions.items c.args.place c.index_mut.result.now c.requires ∙ ap Some (sym c.index_mut.ensures.value)
+  there = slice_get-get_or c.args.parties.now.sessions.items c.args.place c.index_mut.result.now c.requires.within ∙ ap Some (sym c.index_mut.ensures.value)
 
   -- each session has gone on, if the one that was polled did
   each : ((at : ℕ) (proxy : PlainProxy g.row.P-ReqTx.Denot g.row.P-RepRx.Denot) → slice_get proxies at ≡ Some proxy → IsPlaced (its proxy) × Share (its proxy))
@@ -67,7 +73,7 @@ module _ (g : Over) (c : After-poll_often g) where
       → (at : ℕ) (was is : PlainProxy g.row.P-ReqTx.Denot g.row.P-RepRx.Denot) → slice_get proxies at ≡ Some was → slice_get proxies_now at ≡ Some is → HasDone (its was) (its is)
   each may goes at was is there also =
       made_goes_on (λ was now. IsPlaced (its was) → Share (its was) → HasDone (its was) (its now)) (λ proxy placed share. goes_still (its proxy)) proxy_of
-      c.args.parties.now.sessions.items c.args.place c.index_mut.result.now c.poll_often.new.session c.requires c.index_mut.ensures.value goes at was is there also
+      c.args.parties.now.sessions.items c.args.place c.index_mut.result.now c.poll_often.new.session c.requires.within c.index_mut.ensures.value goes at was is there also
       (may at was there).0 (may at was there).1
 
   goes_on : GoesOn (mail g)
@@ -78,7 +84,7 @@ module _ (g : Over) (c : After-poll_often g) where
       polled_goes_on c.args.parties.now.workers.items proxies proxies_now
       (length-map sessions_now proxy_of ∙ length-set sessions c.args.place c.poll_often.new.session ∙ sym (length-map sessions proxy_of))
       (made_goes_on (HasPolled g.P.ReqTx.Tx g.P.RepRx.Rx) polled_still proxy_of sessions
-      c.args.place c.index_mut.result.now c.poll_often.new.session c.requires c.index_mut.ensures.value c.poll_often.ensures.polled)
+      c.args.place c.index_mut.result.now c.poll_often.new.session c.requires.within c.index_mut.ensures.value c.poll_often.ensures.polled)
 
 pub returns-clause-waited : goal.returns-clause-waited
 returns-clause-waited g c was before =

@@ -7,6 +7,7 @@ use Rattle.placement.specs.Config.{IsOneOf, IsValidConfig, placed}
 use Rattle.placement.specs.Name.{IsName}
 use Rattle.placement.specs.declared.config.Config.{Config}
 use Rattle.placement.proofs.ConfigLemmas.{is_placement}
+use Rattle.session_known.proofs.EndsLemmas.{none_comes_after}
 use Rattle.session_known.specs.Script.{IsValidScript, IsValidSession, MayStand}
 use Rattle.session_known.specs.declared.script.Level.{Level}
 use Rattle.session_known.specs.declared.script.Level.TheVariants.{Causal, Committed, Eventual}
@@ -18,13 +19,13 @@ use Rattle.party_ends.proofs.tests.small_script.Goals as goal
 
 -- the sessions, named e, c and a
 abbrev eventual : SessionPlan
-eventual = record { name = 101 ∷ []; level = Eventual; lines = Get 1 None ∷ [] }
+eventual = record { name = 101 ∷ []; level = Eventual; after = None; lines = Get 1 None ∷ [] }
 
 abbrev committed : SessionPlan
-committed = record { name = 99 ∷ []; level = Committed; lines = Begin ∷ Commit ∷ [] }
+committed = record { name = 99 ∷ []; level = Committed; after = None; lines = Begin ∷ Commit ∷ [] }
 
 abbrev causal : SessionPlan
-causal = record { name = 97 ∷ []; level = Causal; lines = Await 1 1 1 ∷ [] }
+causal = record { name = 97 ∷ []; level = Causal; after = None; lines = Await 1 1 1 ∷ [] }
 
 abbrev small : Config → Script
 small config = record { version = 1; config = config; round = 4; kinds = Max ∷ []; sessions = eventual ∷ committed ∷ causal ∷ [] }
@@ -64,21 +65,22 @@ small_is_valid config valid one named first second third =
           ),
         ),
       );
+      orders = none_comes_after (small config) (All-from_recursion (λ plan. plan.after ≡ None) (small config).sessions (refl, (refl, (refl, tt))));
     }
 
 -- a session of a name, a level and lines
-session_is : (plan : SessionPlan) (name : List ℕ) (level : Level) (lines : List Line) → plan.name ≡ name → plan.level ≡ level → plan.lines ≡ lines → plan ≡ record { name = name; level = level; lines = lines }
-session_is plan name level lines name_is level_is lines_are = λ j. record { name = name_is j; level = level_is j; lines = lines_are j }
+session_is : (plan : SessionPlan) (name : List ℕ) (level : Level) (lines : List Line) → plan.name ≡ name → plan.level ≡ level → plan.after ≡ None → plan.lines ≡ lines → plan ≡ record { name = name; level = level; after = None; lines = lines }
+session_is plan name level lines name_is level_is after_is lines_are = λ j. record { name = name_is j; level = level_is j; after = after_is j; lines = lines_are j }
 
 pub returns : goal.returns
 returns c =
     let config = c.in_ok-one_key.field-0 in
     let first : c.in_ok-eventual.eventual ≡ eventual =
-    session_is c.in_ok-eventual.eventual eventual.name eventual.level eventual.lines c.in_ok-eventual.ensures.name c.in_ok-eventual.ensures.level (c.in_ok-eventual.ensures.lines ∙ c.in_ok-vec.ensures.items) in
+    session_is c.in_ok-eventual.eventual eventual.name eventual.level eventual.lines c.in_ok-eventual.ensures.name c.in_ok-eventual.ensures.level c.in_ok-eventual.ensures.after (c.in_ok-eventual.ensures.lines ∙ c.in_ok-vec.ensures.items) in
     let second : c.in_ok-committed.committed ≡ committed =
-    session_is c.in_ok-committed.committed committed.name committed.level committed.lines c.in_ok-committed.ensures.name c.in_ok-committed.ensures.level (c.in_ok-committed.ensures.lines ∙ c.in_ok-vec-2.ensures.items) in
+    session_is c.in_ok-committed.committed committed.name committed.level committed.lines c.in_ok-committed.ensures.name c.in_ok-committed.ensures.level c.in_ok-committed.ensures.after (c.in_ok-committed.ensures.lines ∙ c.in_ok-vec-2.ensures.items) in
     let third : c.in_ok-causal.causal ≡ causal =
-    session_is c.in_ok-causal.causal causal.name causal.level causal.lines c.in_ok-causal.ensures.name c.in_ok-causal.ensures.level (c.in_ok-causal.ensures.lines ∙ c.in_ok-vec-3.ensures.items) in
+    session_is c.in_ok-causal.causal causal.name causal.level causal.lines c.in_ok-causal.ensures.name c.in_ok-causal.ensures.level c.in_ok-causal.ensures.after (c.in_ok-causal.ensures.lines ∙ c.in_ok-vec-3.ensures.items) in
     let kinds : c.new.result ≡ Max ∷ [] = c.new.ensures ∙ c.in_ok-vec-4.ensures.items in
     let sessions : c.new-2.result ≡ eventual ∷ committed ∷ causal ∷ [] = c.new-2.ensures ∙ c.in_ok-vec-5.ensures.items ∙ (λ j. first j ∷ second j ∷ third j ∷ []) in
     let are : record { version = 1; config = config; round = 4; kinds = c.new.result; sessions = c.new-2.result } ≡ small config = λ j. record { version = 1; config = config; round = 4; kinds = kinds j; sessions = sessions j } in

@@ -1,5 +1,5 @@
 use Rattle.std.proofs.Common.{◌≡◌, ℕ, ◌+◌, ◌≤◌, ap, arith, false, inl, inr, length, map, subst, sum_by, sym}
-use Rattle.std.specs.Prelude.{List, ⊤}
+use Rattle.std.specs.Prelude.{List}
 use Rattle.std.proofs.lemmas.Result.{on_ok_weaker}
 use Rattle.session_proxy.specs.State as sessions
 use Rattle.worker_core.specs.State as workers
@@ -7,11 +7,11 @@ use Rattle.party_turns.specs.Ends.{Ends, mail_of, session_lists}
 use Rattle.run_measure.specs.Steps.{done}
 use Rattle.parties.specs.Session.{proxy_of}
 use Rattle.party_turns.specs.Steps.{StepsOn}
-use Rattle.parties.specs.Sweeping.{AllAwait, AllToAsks, EachMoves, rested_at}
+use Rattle.parties.specs.Sweeping.{AllAwait, AllToAsks, EachMoves, HasBegun, WaitsForOther, rested_at}
 use Rattle.party_turns.proofs.StepsLemmas.{steps_go_on, steps_long}
 use Rattle.party_turns.proofs.StepsLemmas.{steps_through}
 use Rattle.party_turns.proofs.TogetherLemmas.{done_no_less}
-use Rattle.party_run.specs.Ready.{HasSwept}
+use Rattle.party_run.specs.Ready.{HasSwept, IsPolled}
 use Rattle.party_run.proofs.RoundLemmas.{HaveMovedOn, all_move, await_still, by_steps, more_done, no_less_done, some_rested}
 use Rattle.party_run.proofs.driver.round.Given.{Over}
 use Rattle.party_run.proofs.driver.round.Goals as goal
@@ -84,12 +84,19 @@ returns-clause-moved g c =
     let then_on = steps_go_on _ _ _ _ (came g here) c.requires.running c.requires.none_kept in
     let now = told g (map proxy_of c.sweep.new.run.sessions.items) in
     by_steps c.sweep.result _ (λ ended. HasSwept c.deref.result.now ended (told g (then g here)) now)
-    (λ ended. EachMoves (λ at. ⊤) (told g (map proxy_of c.args.parties.now.sessions.items)) now)
+    (λ ended. EachMoves (HasBegun (told g (map proxy_of c.args.parties.now.sessions.items))) (told g (map proxy_of c.args.parties.now.sessions.items)) now)
     c.sweep.ensures.steps c.sweep.ensures.swept (λ steps ended swept.
-    subst (λ those. EachMoves (λ at. ⊤) those now) c.part_all.ensures.sessions
+    subst (λ those. EachMoves (HasBegun those) those now) c.part_all.ensures.sessions
     (all_move c.in_ok-came.came.items (told g (before g here)) (told g (then g here)) (of_each g here) (long g here) (moved_on g here) now
     (steps_go_on _ _ _ _ steps then_on.0 then_on.1).2.done_more
-    (subst (λ those. EachMoves (λ at. rested_at those at ≡ false) (told g (then g here)) now) c.deref.ensures.value swept.moved)))
+    (subst (λ those. EachMoves (IsPolled those (told g (then g here))) (told g (then g here)) now) c.deref.ensures.value swept.moved)))
+
+pub returns-clause-waits : goal.returns-clause-waits
+returns-clause-waits g c =
+    let here = (goal.at.returns-clause-waits g c).In_ok-came in
+    let now = told g (map proxy_of c.sweep.new.run.sessions.items) in
+    by_steps c.sweep.result _ (λ ended. HasSwept c.deref.result.now ended (told g (then g here)) now) (λ ended. (at : ℕ) → WaitsForOther now at)
+    c.sweep.ensures.steps c.sweep.ensures.swept (λ steps ended swept. swept.waits)
 
 pub returns-clause-await_theirs : goal.returns-clause-await_theirs
 returns-clause-await_theirs g c =

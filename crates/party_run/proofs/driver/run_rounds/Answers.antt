@@ -39,3 +39,6 @@ loop-turns-smaller g c =
 
 pub returns-clause-steps : goal.returns-clause-steps
 returns-clause-steps g c = steps_through _ _ _ _ _ _ c.loop-turns.invariant.steps c.in_ok-round.ensures.steps
+
+pub returns-clause-ended : goal.returns-clause-ended
+returns-clause-ended g c = c.in_ok-round.ensures.ended c.if-not-branch.false

@@ -1,11 +1,14 @@
 use Rattle.std.proofs.Common.{◌≡◌, ◌∙◌, All, ap, slice_get, subst, sym}
 use Rattle.std.proofs.lemmas.List.Elements.{All-weaker}
 use Rattle.parties.specs.Waiting.{AreSigned, AreToAsks}
-use Rattle.parties.specs.Sweeping.{AllAwait, AllServed, AreAnswered}
-use Rattle.party_run.specs.Ready.{HasSwept, IsReady}
+use Rattle.parties.specs.Sweeping.{AllAwait, AllServed, HasBegun}
+use Rattle.party_turns.proofs.ItemsLemmas.{there_too}
+use Rattle.run_measure.proofs.DoneLemmas.{begun_still}
+use Rattle.party_run.proofs.BegunLemmas.{all_swept}
+use Rattle.party_run.specs.Ready.{HasPolledAll, HasSwept, IsReady}
 use Rattle.party_run.proofs.sweeping.sweep.Given.{Over}
 use Rattle.party_run.proofs.sweeping.sweep.Goals as goal
-use Rattle.party_run.proofs.sweeping.sweep.Goals.{After-show_all-2, In_ok-ended, In_ok-turn_workers, In_ok-turn_workers-2}
+use Rattle.party_run.proofs.sweeping.sweep.Goals.{After-show_all-2, In_ok-begin_sessions, In_ok-turn_workers, In_ok-turn_workers-2}
 
 module _ (g : Over) where
   -- all workers have taken turns once,
@@ -44,9 +47,18 @@ module _ (g : Over) where
         c.in_ok-turn_workers-2.ensures.served place at worker its (ap (λ all. slice_get all place) (sym c.show_all-2.ensures.workers) ∙ there)
         (ap (λ all. slice_get all at) (sym c.show_all-2.ensures.sessions) ∙ here)
 
-  -- The sessions that are to be polled have taken steps, and the run is one that all are held beside each other in once more.
-  polled : (c : In_ok-ended g) → g.R.Run.step_on c.args.run.now c.poll_sessions.new.run
-  polled c =
+  -- so has each session that could begin,
+  begun : (c : In_ok-begin_sessions g) → g.R.Run.step_on c.args.run.now c.begin_sessions.new.run
+  begun c =
+      g.met.R.Run.more_steps _ _ _
+      (g.met.R.Run.more_steps _ _ _
+      (g.met.R.Run.more_steps _ _ _
+      (g.met.R.Run.more_steps _ _ _ (g.met.R.Run.more_steps _ _ _ c.show_all.ensures.steps c.in_ok-turn_workers.ensures.steps) c.in_ok-turn_workers-2.ensures.steps)
+      c.show_all-2.ensures.steps) c.in_ok-ended.ensures.steps) c.in_ok-begin_sessions.ensures.steps
+
+  -- and those that had begun before the polls are in the parties that they were polled in
+  polled_before : (c : In_ok-begin_sessions g) → g.R.Run.step_on c.args.run.now c.poll_sessions.new.run
+  polled_before c =
       g.met.R.Run.more_steps _ _ _
       (g.met.R.Run.more_steps _ _ _
       (g.met.R.Run.more_steps _ _ _ (g.met.R.Run.more_steps _ _ _ c.show_all.ensures.steps c.in_ok-turn_workers.ensures.steps) c.in_ok-turn_workers-2.ensures.steps)
@@ -83,32 +95,52 @@ show_all-requires-2-clause-none_kept g c =
 
 pub show_all-requires-3-clause-running : goal.show_all-requires-3-clause-running
 show_all-requires-3-clause-running g c =
-    (g.met.R.Run.goes_on _ _ (polled g (goal.at.show_all-requires-3-clause-running g c).In_ok-ended) c.requires.ready.running c.requires.ready.none_kept).0
+    (g.met.R.Run.goes_on _ _ (begun g (goal.at.show_all-requires-3-clause-running g c).In_ok-begin_sessions) c.requires.ready.running c.requires.ready.none_kept).0
 
 pub show_all-requires-3-clause-none_kept : goal.show_all-requires-3-clause-none_kept
 show_all-requires-3-clause-none_kept g c =
-    (g.met.R.Run.goes_on _ _ (polled g (goal.at.show_all-requires-3-clause-none_kept g c).In_ok-ended) c.requires.ready.running c.requires.ready.none_kept).1
+    (g.met.R.Run.goes_on _ _ (begun g (goal.at.show_all-requires-3-clause-none_kept g c).In_ok-begin_sessions) c.requires.ready.running c.requires.ready.none_kept).1
 
 pub returns-clause-steps : goal.returns-clause-steps
-returns-clause-steps g c = g.met.R.Run.more_steps _ _ _ (polled g (goal.at.returns-clause-steps g c).In_ok-ended) c.show_all-3.ensures.steps
+returns-clause-steps g c = g.met.R.Run.more_steps _ _ _ (begun g (goal.at.returns-clause-steps g c).In_ok-begin_sessions) c.show_all-3.ensures.steps
 
+-- Where every session has ended each had begun, so none begins after it.
 pub returns-clause-ended : goal.returns-clause-ended
-returns-clause-ended g c ended = subst AreAnswered (sym c.show_all-3.ensures.sessions) (c.in_ok-ended.ensures.ended ended)
+returns-clause-ended g c ended at its there =
+    let all = c.in_ok-ended.ensures.ended ended in
+    let is = c.show_all-3.ensures.sessions in
+    let stays = c.in_ok-begin_sessions.ensures.begun at (λ its there. (all at its there).0) in
+    all at its (sym stays ∙ ap (λ those. slice_get those at) (sym is) ∙ there)
 
 pub returns-clause-rested : goal.returns-clause-rested
 returns-clause-rested g c at rests =
-    let before = stay g (goal.at.returns-clause-rested g c).After-show_all-2 in
-    ap (λ those. slice_get those at) c.show_all-3.ensures.sessions ∙ c.in_ok-ended.ensures.rested at rests ∙ ap (λ those. slice_get those at) before
+    let here = goal.at.returns-clause-rested g c in
+    let same = stay g here.After-show_all-2 in
+    let on = (g.met.R.Run.goes_on _ _ (polled_before g here.In_ok-begin_sessions) c.requires.ready.running c.requires.ready.none_kept).2 in
+    let begun_then : HasBegun (g.R.Run.session_lists c.poll_sessions.new.run) at = λ its there.
+    let was = there_too (g.R.Run.session_lists c.args.run.now) (g.R.Run.session_lists c.poll_sessions.new.run) at its on.sessions_long there in
+    begun_still was.0 its (on.done_more at was.0 its was.1 there) (rests.1 was.0 was.1) in
+    ap (λ those. slice_get those at) c.show_all-3.ensures.sessions ∙ c.in_ok-begin_sessions.ensures.begun at begun_then
+    ∙ c.in_ok-ended.ensures.rested at (rests.0, subst (λ those. HasBegun those at) (sym same) rests.1) ∙ ap (λ those. slice_get those at) same
 
 pub returns-clause-swept : goal.returns-clause-swept
 returns-clause-swept g c =
-    let here = (goal.at.returns-clause-swept g c).After-show_all-2 in
+    let here = goal.at.returns-clause-swept g c in
     let came = c.args.came.now in
-    let swept = c.in_ok-ended.ensures.swept (record {
-      ready = ready g here;
+    let polled = c.in_ok-ended.ensures.swept (record {
+      ready = ready g here.After-show_all-2;
       beside = c.show_all-2.ensures.beside;
-      served = served g here;
+      served = served g here.After-show_all-2;
       to_asks = c.show_all-2.ensures.to_asks;
     }) in
-    subst (HasSwept came c.in_ok-ended.ended (g.R.Run.session_lists c.args.run.now)) (sym c.show_all-3.ensures.sessions)
-    (subst (λ those. HasSwept came c.in_ok-ended.ended those (g.R.Run.session_lists c.poll_sessions.new.run)) (stay g here) swept)
+    let before = g.R.Run.session_lists c.args.run.now in
+    let mid = g.R.Run.session_lists c.poll_sessions.new.run in
+    let now = g.R.Run.session_lists c.begin_sessions.new.run in
+    let then_on = g.met.R.Run.goes_on _ _ (polled_before g here.In_ok-begin_sessions) c.requires.ready.running c.requires.ready.none_kept in
+    let last_on = g.met.R.Run.goes_on _ _ (begun g here.In_ok-begin_sessions) c.requires.ready.running c.requires.ready.none_kept in
+    let from_then = g.met.R.Run.goes_on _ _ c.in_ok-begin_sessions.ensures.steps then_on.0 then_on.1 in
+    let polled_all = subst (λ those. HasPolledAll came c.in_ok-ended.ended those mid) (stay g here.After-show_all-2) polled in
+    subst (HasSwept came c.in_ok-ended.ended before) (sym c.show_all-3.ensures.sessions)
+    (all_swept came c.in_ok-ended.ended before mid now polled_all last_on.2.sessions_long then_on.2.sessions_long last_on.2.done_more from_then.2.done_more
+    (c.in_ok-begin_sessions.ensures.await_theirs polled.await_theirs) (c.in_ok-begin_sessions.ensures.waits then_on.0 then_on.1)
+    (g.met.R.Run.in_order c.begin_sessions.new.run last_on.0) c.in_ok-begin_sessions.ensures.begun)

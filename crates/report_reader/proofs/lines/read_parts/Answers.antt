@@ -3,7 +3,7 @@ use Rattle.std.specs.List.{All}
 use Rattle.std.proofs.lemmas.List.{length-map}
 use Rattle.session_known.proofs.FormLemmas.{IsPlace, places_known}
 use Rattle.report_lines.specs.Text.{head_lines}
-use Rattle.report_reader.specs.ReadLines.{Exactly, FinalOf, HasGotSessions, HasGotFinals, IsPartFault, exact_dues, sessions_dues, finals_dues, report_dues}
+use Rattle.report_reader.specs.ReadLines.{FinalOf, HasGotSessions, HasGotFinals, IsPartFault, exact_dues, sessions_dues, finals_dues, report_dues}
 use Rattle.report_reader.proofs.ReadLineLemmas.{fault_before, fault_told, got_line}
 use Rattle.report_reader.proofs.ReadPartLemmas.{head_few, head_count, final_word, end_word, wanted_out, few_lines, fault_in_sessions, fault_at_final, fault_in_finals, fault_at_end, all_got}
 use Rattle.report_reader.proofs.lines.read_parts.Goals as goal
@@ -22,13 +22,13 @@ pub read_sessions-requires-clause-room : goal.read_sessions-requires-clause-room
 read_sessions-requires-clause-room c =
     let few = few_lines c.args.script.now c.args.placement.now c.requires.valid in
     let head = head_count c.args.script.now c.args.placement.now c.requires.valid c.args.lines.now c.read_head.new.lines c.in_ok-read_head.ensures.got in
-    omega (arith, head, c.requires.first, ap (λ plans. length (sessions_dues plans)) c.as_slice.ensures, few.0)
+    omega (arith, head, c.requires.first, ap (λ plans. length (sessions_dues c.args.script.now plans)) c.as_slice.ensures, few.0)
 
 pub read_exactly-requires-clause-room : goal.read_exactly-requires-clause-room
 read_exactly-requires-clause-room c =
     let few = few_lines c.args.script.now c.args.placement.now c.requires.valid in
     let head = head_count c.args.script.now c.args.placement.now c.requires.valid c.args.lines.now c.read_head.new.lines c.in_ok-read_head.ensures.got in
-    omega (arith, head, c.requires.first, ap (λ plans. length (sessions_dues plans)) c.as_slice.ensures, few.0, c.in_ok-answers.ensures.got.number)
+    omega (arith, head, c.requires.first, ap (λ plans. length (sessions_dues c.args.script.now plans)) c.as_slice.ensures, few.0, c.in_ok-answers.ensures.got.number)
 
 pub read_finals-requires-clause-places : goal.read_finals-requires-clause-places
 read_finals-requires-clause-places c =
@@ -38,20 +38,20 @@ pub read_finals-requires-clause-room : goal.read_finals-requires-clause-room
 read_finals-requires-clause-room c =
     let few = few_lines c.args.script.now c.args.placement.now c.requires.valid in
     let head = head_count c.args.script.now c.args.placement.now c.requires.valid c.args.lines.now c.read_head.new.lines c.in_ok-read_head.ensures.got in
-    omega (arith, head, c.requires.first, ap (λ plans. length (sessions_dues plans)) c.as_slice.ensures, few, c.in_ok-answers.ensures.got.number, c.in_ok-read_exactly.ensures.ok.1, ap length c.requires.places)
+    omega (arith, head, c.requires.first, ap (λ plans. length (sessions_dues c.args.script.now plans)) c.as_slice.ensures, few, c.in_ok-answers.ensures.got.number, c.in_ok-read_exactly.ensures.ok.1, ap length c.requires.places)
 
 pub read_exactly-requires-2-clause-room : goal.read_exactly-requires-2-clause-room
 read_exactly-requires-2-clause-room c =
     let few = few_lines c.args.script.now c.args.placement.now c.requires.valid in
     let head = head_count c.args.script.now c.args.placement.now c.requires.valid c.args.lines.now c.read_head.new.lines c.in_ok-read_head.ensures.got in
     let place_due = λ (place : ℕ × ℕ). FinalOf place.0 place.1 in
-    omega (arith, head, c.requires.first, ap (λ plans. length (sessions_dues plans)) c.as_slice.ensures, few, c.in_ok-answers.ensures.got.number, c.in_ok-read_exactly.ensures.ok.1, ap length c.requires.places, c.in_ok-finals.ensures.got.number, length-map c.args.places.now place_due)
+    omega (arith, head, c.requires.first, ap (λ plans. length (sessions_dues c.args.script.now plans)) c.as_slice.ensures, few, c.in_ok-answers.ensures.got.number, c.in_ok-read_exactly.ensures.ok.1, ap length c.requires.places, c.in_ok-finals.ensures.got.number, length-map c.args.places.now place_due)
 
 pub returns-in_err-answers-clause-fault : goal.returns-in_err-answers-clause-fault
 returns-in_err-answers-clause-fault c =
     let script = c.args.script.now in
     let table = c.args.placement.now in
-    let out = subst (λ plans. IsPartFault script (sessions_dues plans) c.read_head.new.lines c.in_err-answers.field-0.0) c.as_slice.ensures c.in_err-answers.ensures.fault in
+    let out = subst (λ plans. IsPartFault script (sessions_dues script plans) c.read_head.new.lines c.in_err-answers.field-0.0) c.as_slice.ensures c.in_err-answers.ensures.fault in
     let fault = fault_in_sessions script table c.args.lines.now c.read_head.new.lines c.in_ok-read_head.ensures.got c.in_err-answers.field-0.0 out in
     fault_told c.from_residual-in_err-answers.result (IsPartFault script (report_dues script table) c.args.lines.now) c.from_residual-in_err-answers.ensures.1 refl fault
 

@@ -15,15 +15,15 @@ read_exactly-requires-clause-line c =
 pub returns-in_err-read_exactly-clause-fault : goal.returns-in_err-read_exactly-clause-fault
 returns-in_err-read_exactly-clause-fault c =
     let plan = c.args.plan.now in
-    let words = session_words plan in
+    let words = session_words c.args.script.now plan in
     let out = wanted_out c.args.script.now words c.deref.result.now c.args.lines.now.0 (c.deref.ensures.value ∙ c.in_ok-line.ensures.line) c.in_err-read_exactly.ensures.fault.1 in
     let fault = fault_first c.args.script.now (Exactly words) (answers_dues plan.level plan.lines) c.args.lines.now c.args.lines.now.1 refl out in
-    fault_told c.from_residual-in_err-read_exactly.result (IsPartFault c.args.script.now (session_dues plan) c.args.lines.now) c.from_residual-in_err-read_exactly.ensures.1 c.in_err-read_exactly.ensures.fault.0 fault
+    fault_told c.from_residual-in_err-read_exactly.result (IsPartFault c.args.script.now (session_dues c.args.script.now plan) c.args.lines.now) c.from_residual-in_err-read_exactly.ensures.1 c.in_err-read_exactly.ensures.fault.0 fault
 
 pub returns-clause-fault : goal.returns-clause-fault
 returns-clause-fault c =
     let plan = c.args.plan.now in
-    let words = session_words plan in
+    let words = session_words c.args.script.now plan in
     let got = got_line c.args.script.now words c.deref.result.now c.args.lines.now c.read_exactly.new.lines (c.deref.ensures.value ∙ c.in_ok-line.ensures.line) c.in_ok-read_exactly.ensures.ok in
-    fault_so c.read_answers.result (IsPartFault c.args.script.now (session_dues plan) c.args.lines.now) _ c.read_answers.ensures.fault
+    fault_so c.read_answers.result (IsPartFault c.args.script.now (session_dues c.args.script.now plan) c.args.lines.now) _ c.read_answers.ensures.fault
     (λ fault out. fault_after c.args.script.now (Exactly words ∷ []) (answers_dues plan.level plan.lines) (words ∷ []) c.args.lines.now c.read_exactly.new.lines fault got (subst (λ lines. IsPartFault c.args.script.now (answers_dues plan.level lines) c.read_exactly.new.lines fault) c.as_slice.ensures out))

@@ -11,7 +11,7 @@ pub returns-in_err-read_session_part-clause-fault : goal.returns-in_err-read_ses
 returns-in_err-read_session_part-clause-fault c =
     let fault = c.in_err-read_session_part.field-0.0 in
     let out = sessions_fault c.args.script.now c.args.plans.now c.args.lines.now c.loop-plan.plan-index c.loop-plan.lines c.loop-plan.answers c.plan-item.result fault (search rules) (search rules) c.loop-plan.invariant c.in_err-read_session_part.ensures.fault in
-    fault_told c.from_residual.result (IsPartFault c.args.script.now (sessions_dues c.args.plans.now) c.args.lines.now) c.from_residual.ensures.1 refl out
+    fault_told c.from_residual.result (IsPartFault c.args.script.now (sessions_dues c.args.script.now c.args.plans.now) c.args.lines.now) c.from_residual.ensures.1 refl out
 
 pub loop-plan-preserved : goal.loop-plan-preserved
 loop-plan-preserved c =

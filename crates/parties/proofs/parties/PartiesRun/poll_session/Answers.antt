@@ -1,4 +1,4 @@
-use Rattle.std.proofs.Common.{◌≡◌, ◌∙◌, ◌≤◌, None, Some, ap, arith, false, inl, inr, length, map, slice_get, subst, sym}
+use Rattle.std.proofs.Common.{◌≡◌, ◌∙◌, ◌≤◌, IsTrue, None, Some, ap, arith, false, inl, inr, length, map, slice_get, subst, sym}
 use Rattle.std.proofs.lemmas.Bool.{cases_Bool}
 use Rattle.std.proofs.lemmas.List.{length-map}
 use Rattle.std.proofs.lemmas.Option.{slice_get_within}
@@ -21,6 +21,10 @@ module _ (g : Over) where
       g.row.P-ReqTx-Key.Denot g.row.P-RepTx-Key.Denot g.row.P-GosTx-Key.Denot g.row.P-ReqRx-Key.Denot g.row.P-GosRx-Key.Denot g.row.P-RepRx-Key.Denot
   mail = mail_of g.P.ReqTx.Tx g.P.RepTx.Tx g.P.GosTx.Tx g.P.ReqRx.Rx g.P.GosRx.GossipRx g.P.RepRx.Rx
 
+pub poll_session-requires-clause-begun : goal.poll_session-requires-clause-begun
+poll_session-requires-clause-begun g c proxy there =
+    c.requires.begun (session_lists (mail g) proxy) (mapped (session_lists (mail g)) (map proxy_of c.args.self.now.sessions.items) c.args.place proxy there)
+
 pub returns-clause-others : goal.returns-clause-others
 returns-clause-others g c other differs =
     same_told (session_lists (mail g)) (map proxy_of c.args.self.now.sessions.items) (map proxy_of c.poll_session.new.parties.sessions.items) other
@@ -34,7 +38,7 @@ pub returns-clause-ended : goal.returns-clause-ended
 returns-clause-ended g c =
     on_ok c.poll_session.result (λ came answered ended its here.
     let proxy = of_mapped (session_lists (mail g)) (map proxy_of c.poll_session.new.parties.sessions.items) c.args.place its here in
-    subst (λ (lists : sessions.Lists). length lists.course.answers ≡ length lists.course.lines) proxy.2 (answered ended proxy.0 proxy.1)) c.poll_session.ensures.ended
+    subst (λ (lists : sessions.Lists). IsTrue (sessions.has_begun lists.course) × (length lists.course.answers ≡ length lists.course.lines)) proxy.2 (answered ended proxy.0 proxy.1)) c.poll_session.ensures.ended
 
 pub returns-clause-moved : goal.returns-clause-moved
 returns-clause-moved g c running =
@@ -58,7 +62,7 @@ returns-clause-served g c running none most free beside served =
     let proxies = map proxy_of c.args.self.now.sessions.items in
     let many = length-map c.args.self.now.sessions.items proxy_of in
     let told = length-map proxies (session_lists (mail g)) in
-    let proxy = there_is proxies c.args.place (omega (arith, c.requires, many, told)) in
+    let proxy = there_is proxies c.args.place (omega (arith, c.requires.within, many, told)) in
     let its_lists = mapped (session_lists (mail g)) proxies c.args.place proxy.0 proxy.1 in
     let low = slice_get_within proxies c.args.place proxy.0 proxy.1 in
     let its = served (session_lists (mail g) proxy.0) its_lists in

@@ -124,7 +124,7 @@ returns-in-Key c =
 
 pub returns-in-Session : goal.returns-in-Session
 returns-in-Session c =
-    let shows = shown (entries.Session c.in-Session.name c.in-Session.level) c.args.keyword (map (λ word. word.now) c.args.words.now) c.in-Session.is c.in_ok-version.ensures.0 in
+    let shows = shown (entries.Session c.in-Session.name c.in-Session.level c.in-Session.after) c.args.keyword (map (λ word. word.now) c.args.words.now) c.in-Session.is c.in_ok-version.ensures.0 in
     reads_at c.args.self.now c.take_session.new.self c.take_session.result _ Session _ (map (λ word. word.now) c.args.words.now) shows.0 refl (c.take_session.ensures (map (λ word. word.now) c.args.words.now) shows.1 (stands_at (so_far c.args.self.now) _ Session _ (map (λ word. word.now) c.args.words.now) shows.0 refl c.in_ok-version.ensures.1))
 
 pub take_header-requires : goal.take_header-requires
