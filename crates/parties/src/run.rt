@@ -100,8 +100,9 @@ pub trait Run {
         ensures { AtPlace (session_lists self.now) place
             (λ its. result ≡ sessions.has_begun its.course) };
 
-    /// Polls the session at a place, which has begun, at most so many times: until it answers NotYet, Rest or Ended, or drops a reply.
-    /// Tells what came of it. Where all workers have served it and are beside it still, it moves or has ended.
+    /// Polls the session at a place, which has begun, at most so many times: until it answers NotYet, Rest or Ended, or
+    /// drops a reply. Tells what came of it. Where all workers have served it and are beside it still, it moves or has
+    /// ended.
     fn poll_session(&mut self, place: usize, most: u32) -> Result<Polled, NoMemory>
         requires within { place < length (session_lists self.old) }
         requires begun { HasBegun (session_lists self.old) place }

@@ -50,8 +50,8 @@ pub struct Polled {
     pub rested: bool,
 }
 
-/// Polls a session that has begun at a pace, at most so many times: until it answers Rest or Ended, or NotYet and is not to try
-/// again, or a reply was dropped.
+/// Polls a session that has begun at a pace, at most so many times: until it answers Rest or Ended, or NotYet and is not
+/// to try again, or a reply was dropped.
 ///
 /// A reply is dropped that is not the awaited one. None comes so, since each answers an ask that was sent; but as
 /// long as others run no party is told what they have sent. So the session takes no step more then, and what it

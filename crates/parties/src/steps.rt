@@ -33,8 +33,8 @@ pub(crate) fn turn_worker<P: Mail>(parties: &mut Parties<P>, place: usize) -> Re
     Ok(())
 }
 
-/// Polls the session at a place, which has begun, until it answers NotYet, Rest or Ended, or drops a reply, at most so many times.
-/// Tells whether it has ended, whether it did anything, and where not, what its ends told.
+/// Polls the session at a place, which has begun, until it answers NotYet, Rest or Ended, or drops a reply, at most so
+/// many times. Tells whether it has ended, whether it did anything, and where not, what its ends told.
 pub(crate) fn poll_session<P: Mail>(
     parties: &mut Parties<P>,
     place: usize,

@@ -49,7 +49,8 @@ where
     drain(by, script, workers, left)
 }
 
-/// Makes epochs, and polls all sessions that have begun after each, until every line of every session is answered. It may wait.
+/// Makes epochs, and polls all sessions that have begun after each, until every line of every session is answered. It
+/// may wait.
 fn run_epochs<P: Mail, E: Gate + Sync, H: Threads + Sync, W: Wait>(
     rt: &H,
     by: &Waiting<W>,

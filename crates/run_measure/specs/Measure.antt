@@ -53,8 +53,8 @@ abbrev pub between_all : ℕ → sessions.Lists → ℕ → List workers.Lists �
 between_all session its number [] = 0
 between_all session its number (worker ∷ others) = between session its number worker + between_all session its (number + 1) others
 
--- The measure of a session: 1 where it has not begun, its lines that are not answered, three times the requests that it may still send, twice those that no worker took, and
--- the replies that it did not take.
+-- The measure of a session: 1 where it has not begun, its lines that are not answered, three times the requests that
+-- it may still send, twice those that no worker took, and the replies that it did not take.
 abbrev pub measure : List workers.Lists → ℕ → sessions.Lists → ℕ
 measure all session its = (1 - begun its) + lines_left its + 3 * may_send its + between_all session its 1 all
 

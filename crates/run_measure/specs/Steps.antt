@@ -26,7 +26,8 @@ pub record HasServed (before now : workers.Lists) : Type 0 where
 abbrev pub done : sessions.Lists → ℕ
 done its = begun its + length its.course.answers + sum_by length its.sent + length its.received
 
--- A session has gone on: once it has begun, what it knew at its start stays; and what it answered, what it sent to each worker and what it took of each goes on from what that was before.
+-- A session has gone on: once it has begun, what it knew at its start stays; and what it answered, what it sent to each
+-- worker and what it took of each goes on from what that was before.
 pub record HasDone (before now : sessions.Lists) : Type 0 where
   pub client : now.course.client ≡ before.course.client
   pub table : now.course.table ≡ before.course.table
