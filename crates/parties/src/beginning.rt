@@ -20,14 +20,14 @@ pub(crate) fn begin_session<S: Tx<Request>, R: Rx<Reply>>(
         (map proxy_of sessions.old.items) (map proxy_of sessions.new.items)) }
     ensures waits { OnOk result (WaitsForOther place (map proxy_of sessions.new.items)) }
 {
-    let Some(after) = sessions[place].waits_for() else {
+    let Some(waiting) = sessions[place].waiting() else {
         return Ok(());
     };
-    let Some(end) = known_at_end(sessions, after) else {
+    let Some(end) = known_at_end(sessions, waiting.after()) else {
         return Ok(());
     };
-    let end = end.copy()?;
-    let session = sessions.remove(place).begin(&end)?;
+    let known = end.handed(waiting.me())?;
+    let session = sessions.remove(place).begin(known)?;
     sessions.insert(place, session)?;
     Ok(())
 }
@@ -41,7 +41,8 @@ fn known_at_end<S: Tx<Request>, R: Rx<Reply>>(
         × (slice_get (map proxy_of sessions.now) (session - 1) ≡ Some its)
         × KnowsAtEnd its known.now.knows) }
     ensures none { IsNone result → (its : _)
-        → slice_get (map proxy_of sessions.now) (session - 1) ≡ Some its → IsAllAnswered its → ⊥ }
+        → slice_get (map proxy_of sessions.now) (session - 1) ≡ Some its
+        → IsAllAnswered its → ⊥ }
 {
     match sessions.get(usize::from(session).saturating_sub(1)) {
         Some(its) => its.known_at_end(),

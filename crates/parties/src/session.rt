@@ -3,12 +3,12 @@ ghost use Rattle.std.specs.Prelude.{◌≡◌, ◌≤◌, ◌<◌, ◌^◌, All,
 ghost use Rattle.mail_contract.specs.OverBoxes as boxes;
 ghost use Rattle.mail_contract.specs.Standing.{AllPart};
 ghost use Rattle.session_known.specs.Script.{AreEnded};
-ghost use Rattle.session_known.specs.Session.{handed};
 ghost use Rattle.session_known.specs.declared.script.Level.TheVariants.{Causal};
 ghost use Rattle.session_proxy.specs.Lines.{AreReplicas, MayRun};
 ghost use Rattle.session_proxy.specs.OverProxies as over;
 ghost use Rattle.session_proxy.specs.Polls.{EndsWhereAnswered};
-ghost use Rattle.session_proxy.specs.State.{IsFixed, Knew, WaitsFor, first_origin, has_begun, opening};
+ghost use Rattle.session_proxy.specs.State.{IsFixed, Knew, first_origin, has_begun, opening};
+ghost use Rattle.parties.specs.PlainWaiting.{waiting_proxy};
 ghost use Rattle.parties.specs.Polling.{IsAllAnswered, KnowsAtEnd};
 ghost use Rattle.parties.specs.Session.{Waits, proxy_of};
 
@@ -139,17 +139,17 @@ impl<T: Tx<Request>, R: Rx<Reply>> SessionOver<T, R> {
         true
     }
 
-    /// The number of the session that it waits for, where it has not begun. Takes no memory.
-    pub fn waits_for(&self) -> Option<u16>
-        ensures waits { IfSome result (λ after. Waits self.now
-            × ((proxy_of self.now).course.origin ≡ WaitsFor after)) }
+    /// The session as it waits for the end of another, where it has not begun. Takes no memory.
+    pub fn waiting(&self) -> Option<&WaitingOver<T, R>>
+        ensures waits { IfSome result (λ waiting. Waits self.now
+            × (proxy_of self.now ≡ waiting_proxy waiting.now)) }
         ensures begun { IsNone result → IsTrue (has_begun (proxy_of self.now).course) }
     {
         match self {
             SessionOver::Eventual(proxy) => proxy.attest(),
             SessionOver::Committed(proxy) => proxy.attest(),
             SessionOver::Causal(proxy) => proxy.attest(),
-            SessionOver::Waiting(waiting) => return Some(waiting.after()),
+            SessionOver::Waiting(waiting) => return Some(waiting),
         }
         None
     }
@@ -167,17 +167,19 @@ impl<T: Tx<Request>, R: Rx<Reply>> SessionOver<T, R> {
         }
     }
 
-    /// It begins, where the session that it waits for knew this at its end.
-    pub fn begin(self, end: &Known) -> Result<SessionOver<T, R>, NoMemory>
-        requires { Waits self }
+    /// It begins, where this is what it knows at its start.
+    pub fn begin(self, known: Known) -> Result<SessionOver<T, R>, NoMemory>
+        requires waits { Waits self }
+        requires client { known.client ≡ (proxy_of self).course.client }
+        requires own { known.knows.own ≡ [] }
         ensures proxy { IfOk result (λ session. proxy_of session ≡ record {
-          course = record (proxy_of self).course { origin = Knew (handed end.now.knows) };
+          course = record (proxy_of self).course { origin = Knew known.knows };
           ends = (proxy_of self).ends;
         }) }
         ensures share { IfOk result (λ session. over.Share T.Tx R.Rx (proxy_of session)) }
     {
         match self {
-            SessionOver::Waiting(waiting) => Ok(SessionOver::Causal(waiting.begin(end)?)),
+            SessionOver::Waiting(waiting) => Ok(SessionOver::Causal(waiting.begin(known)?)),
             _ => unreachable!(),
         }
     }

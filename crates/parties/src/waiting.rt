@@ -2,7 +2,6 @@
 ghost use Rattle.std.specs.Prelude.{◌≡◌, ◌≤◌, ◌<◌, ◌^◌, All, IfOk, [], false, length};
 ghost use Rattle.parties.specs.PlainWaiting.{waiting_proxy};
 ghost use Rattle.session_known.specs.Script.{AreEnded};
-ghost use Rattle.session_known.specs.Session.{handed};
 ghost use Rattle.session_known.specs.declared.script.Level.TheVariants.{Causal};
 ghost use Rattle.session_proxy.specs.Lines.{AreReplicas, MayRun};
 ghost use Rattle.session_proxy.specs.OverProxies as over;
@@ -85,6 +84,13 @@ impl<T: Tx<Request>, R: Rx<Reply>> WaitingOver<T, R> {
         }
     }
 
+    /// The number of the session. Takes no memory.
+    pub fn me(&self) -> u16
+        ensures { result ≡ self.now.me }
+    {
+        self.me
+    }
+
     /// The number of the session that it waits for. Takes no memory.
     pub fn after(&self) -> u16
         ensures { result ≡ self.now.after }
@@ -99,15 +105,16 @@ impl<T: Tx<Request>, R: Rx<Reply>> WaitingOver<T, R> {
         let _ = &self.lines;
     }
 
-    /// The session's proxy, where the session that it waits for knew this at its end.
-    pub fn begin(self, end: &Known) -> Result<ProxyOver<CausalLevel, T, R>, NoMemory>
+    /// The session's proxy, where this is what it knows at its start.
+    pub fn begin(self, known: Known) -> Result<ProxyOver<CausalLevel, T, R>, NoMemory>
+        requires client { known.client ≡ record { session = self.me; level = Causal } }
+        requires own { known.knows.own ≡ [] }
         ensures proxy { IfOk result (λ proxy. proxy ≡ record {
-          course = record (waiting_proxy self).course { origin = Knew (handed end.now.knows) };
+          course = record (waiting_proxy self).course { origin = Knew known.knows };
           ends = self.ends;
         }) }
         ensures share { IfOk result (over.Share T.Tx R.Rx) }
     {
-        let known = end.handed(self.me)?;
         let WaitingOver {
             me,
             lines,

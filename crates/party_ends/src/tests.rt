@@ -239,6 +239,7 @@ fn parties_of_two_workers_and_three_levels(rt: HostRuntime) -> Result<(), Fail> 
     assert!(rt; matches!(&sessions[2], SessionOver::Causal(_)));
     for session in sessions.iter_mut() {
         assert!(rt; session.answers().is_empty());
+        assert!(rt; session.has_begun());
         assert_eq!(rt; session.poll()?, Progress::Moved);
     }
     assert_eq!(rt; sessions[0].answers().len(), 0);

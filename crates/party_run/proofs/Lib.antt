@@ -1,6 +1,6 @@
 pub mod BegunLemmas
-pub use Rattle.party_ends.proofs.FreshLemmas
 pub mod FinishedLemmas
+mod LateFreshLemmas
 pub mod NumberedLemmas
 pub mod RoundLemmas
 pub mod SweptLemmas

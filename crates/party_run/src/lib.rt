@@ -30,4 +30,6 @@ pub use sweeping::sweep;
 pub use waiting::serve_waiting;
 
 #[cfg(test)]
+mod late_tests;
+#[cfg(test)]
 mod tests;

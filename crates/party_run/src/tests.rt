@@ -20,7 +20,7 @@ const LEVELS: [&str; 3] = [
 ];
 
 /// The script that a text says.
-fn script_of(alloc: Global, text: &str) -> Result<Script, NoMemory>
+pub(super) fn script_of(alloc: Global, text: &str) -> Result<Script, NoMemory>
     ensures { IfOk result (λ script. IsValidScript script (placed script.config)) }
 {
     match read_script(alloc, text.as_bytes()) {

@@ -6,7 +6,6 @@ use Rattle.std.proofs.lemmas.Option.{none-some, same_Some, slice_get_within}
 use Rattle.mail_contract.proofs.FrontLemmas.{front_short, front_splits}
 use Rattle.mail_contract.specs.Takes.{IsFront}
 use Rattle.placement.specs.Asked.{home_at}
-use Rattle.composed_value.specs.declared.put.Put.{Put}
 use Rattle.session_known.specs.Requests.{Sent, SentPut, puts_sent}
 use Rattle.session_known.specs.Lawful.{lamport_of_commit}
 use Rattle.session_known.specs.Session.{Client, State, held_puts, own_count, puts_by}
@@ -44,9 +43,9 @@ module _ (table : List (List ℕ)) (client : Client) (state : State) (first : �
   asks_of_get lines.Abort asked place worker item is = absurd asked
 
   -- nothing is a reply to a put
-  no_reply_to_put : (made : List (ℕ × Put)) (place : ℕ) (one : ℕ × Sent) (reply : PlainReply) → slice_get (puts_sent table client made) place ≡ Some one → IsReplyTo one reply → ⊥
+  no_reply_to_put : (made : List (ℕ × _)) (place : ℕ) (one : ℕ × Sent) (reply : PlainReply) → slice_get (puts_sent table client made) place ≡ Some one → IsReplyTo one reply → ⊥
   no_reply_to_put made place one reply is to =
-      subst (λ one. IsReplyTo one reply) (sym (made_of (λ (entry : ℕ × Put). (home_at table client.session entry.0, SentPut entry.0 entry.1)) made place one is).1) to
+      subst (λ one. IsReplyTo one reply) (sym (made_of (λ entry. (home_at table client.session entry.0, SentPut entry.0 entry.1)) made place one is).1) to
 
   -- none but a get or an await has a request that is replied to
   replied_is_asked : (line : Line) (place : ℕ) (one : ℕ × Sent) (reply : PlainReply) → slice_get (most_sent table client state first line) place ≡ Some one → IsReplyTo one reply → IsAsked line

@@ -4,8 +4,6 @@ use Rattle.std.proofs.Common.{◌∙◌, refl, sym, ap, subst, arith}
 use Rattle.std.proofs.lemmas.List.{length-map}
 use Rattle.std.proofs.lemmas.List.Elements.{All-head, All-get_or, All-nil, All-push, All-tail}
 use Rattle.std.proofs.lemmas.Option.{get_or_from_slice_get, none-some, same_Some, slice_get_within}
-use Rattle.composed_value.specs.declared.payload.Payload.{Payload}
-use Rattle.composed_value.specs.declared.payload.Payload.TheVariants as payloads
 use Rattle.placement.specs.Asked.{home_at}
 use Rattle.placement.specs.Config.{IsOneOf}
 use Rattle.session_known.specs.Lawful.{required}
@@ -49,6 +47,11 @@ held_on table client state (line ∷ lines) (answer ∷ given) may held =
     (held_after table client state line answer (All-head (MayRun table client.level) line lines may) held)
 held_on table client state lines given may held = held
 
+-- a list with a place has an item
+some_of : {X : Type 0} (items : List X) (place : ℕ) → place < length items → X
+some_of [] place within = absurd (omega (arith, within))
+some_of (first ∷ rest) place within = first
+
 module _ (workers : ℕ) (table : List (List ℕ)) (placed : All (AreReplicas workers) table) where
   -- a session's home of a key is a worker, of whichever number the session is
   home_goes : (session key : ℕ) → IsOneOf (length table) key → IsOneOf workers (home_at table session key)
@@ -90,7 +93,7 @@ module _ (workers : ℕ) (table : List (List ℕ)) (placed : All (AreReplicas wo
     -- and where it makes puts
     of_puts : (line : Line) → MayRun table client.level line → (IsAsked line → ⊥) → IsAt line → IsOneOf workers worker
     of_puts line may no_ask there =
-        let due : List (ℕ × Payload) = puts_due state line in
+        let due = puts_due state line in
         let most : most_sent table client state first line ≡ puts_sent table client (puts_committed client state.knows (state.knows.lamport + 1) 0 due) =
         most_of_puts table client state first line no_ask ∙ ap (puts_sent table client) (puts_by_due client state line no_ask)
         in
@@ -98,11 +101,12 @@ module _ (workers : ℕ) (table : List (List ℕ)) (placed : All (AreReplicas wo
         ap length most ∙ length-map _ _ ∙ committed_length client state.knows (state.knows.lamport + 1) 0 due
         in
         let low : place < length due = omega (arith, slice_get_within _ place (worker, item) there, long) in
-        let put = put_there table client state.knows (state.knows.lamport + 1) 0 due place (0, payloads.On) low in
+        let some = some_of due place low in
+        let put = put_there table client state.knows (state.knows.lamport + 1) 0 due place some low in
         let is = same_Some _ _ (sym put.1 ∙ sym (ap (λ list. slice_get list place) most) ∙ there) in
         subst (IsOneOf workers) (ap (λ (entry : ℕ × Sent). entry.0) is)
-        (home_goes client.session (slice_index_or due place (0, payloads.On)).0
-        (All-get_or (IsOn table) due place (0, payloads.On) low (due_known table client.level state line may held)))
+        (home_goes client.session (slice_index_or due place some).0
+        (All-get_or (IsOn table) due place some low (due_known table client.level state line may held)))
 
     of_line : (line : Line) → MayRun table client.level line → IsAt line → IsOneOf workers worker
     of_line (lines.Get key named) may there = of_asks (lines.Get key named) may tt there

@@ -5,7 +5,6 @@ use Rattle.std.proofs.lemmas.List.{get_or-take, length-take}
 use Rattle.std.proofs.lemmas.List.Elements.{All-append, All-map, All-nil, All-weaker}
 use Rattle.std.proofs.lemmas.List.Sums.{sum_by-cons}
 use Rattle.std.proofs.lemmas.Option.{same_Some, slice_get-get_or, slice_get_within}
-use Rattle.composed_value.specs.declared.put.Put.{Put}
 use Rattle.placement.specs.Asked.{home_at}
 use Rattle.placement.specs.Config.{IsOneOf}
 use Rattle.session_known.specs.Lawful.{required}
@@ -88,9 +87,9 @@ module _ (table : List (List ℕ)) (client : Client) where
   -- where it asks nothing, it sends puts
   alone_below : (state : State) (first said number : ℕ) (line : Line) (answer : Answer) → (IsAsked line → ⊥) → AreBelow number (sent_by table client state first said line answer)
   alone_below state first said number line answer no_ask =
-      let puts : List (ℕ × Put) = puts_by client state line answer in
+      let puts = puts_by client state line answer in
       subst (AreBelow number) (sym (sent_alone table client state first said line answer no_ask))
-      (All-map (λ (one : ℕ × Sent). IsBelow number (request_of one.1)) (λ (entry : ℕ × Put). (home_at table client.session entry.0, SentPut entry.0 entry.1)) puts (λ k d low. tt))
+      (All-map (λ (one : ℕ × Sent). IsBelow number (request_of one.1)) (λ entry. (home_at table client.session entry.0, SentPut entry.0 entry.1)) puts (λ k d low. tt))
 
   line_below : (state : State) (first : ℕ) (line : Line) (answer : Answer) (its : List PlainReply) → IsAnswered table client state first line answer its
       → AreBelow (first + length its) (sent_by table client state first (length its) line answer)

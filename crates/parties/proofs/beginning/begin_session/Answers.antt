@@ -37,6 +37,7 @@ returns-clause-begins g c =
     let taken = read_there sessions c.args.place c.remove.result c.requires c.remove.ensures.value in
     let session_is = same_Some c.index.result.now c.remove.result (sym read ∙ taken) in
     let waits = c.in-Some.ensures.waits in
+    let number = c.after.ensures in
     let ended = c.in-Some-known_at_end.ensures.known in
     inr (
       proxy_of c.in_ok-session.session,
@@ -45,15 +46,15 @@ returns-clause-begins g c =
           let its : proxy_of c.index.result.now ≡ was = same_Some (proxy_of c.index.result.now) was (sym (mapped proxy_of sessions c.args.place c.index.result.now read) ∙ there) in
           let is : proxy_of c.remove.result ≡ was = ap proxy_of (sym session_is) ∙ its in
           record {
-            session = c.in-Some.after;
-            waited = ap (λ (proxy : PlainProxy _ _). proxy.course.origin) (sym its) ∙ waits.1;
+            session = c.after.result;
+            waited = ap (λ (proxy : PlainProxy _ _). proxy.course.origin) (sym its ∙ waits.1) ∙ ap WaitsFor (sym number);
             other = ended.0;
-            there = ap (λ all. slice_get (map proxy_of all) (c.in-Some.after - 1)) (sym c.deref.ensures.value) ∙ ended.1;
+            there = ap (λ all. slice_get (map proxy_of all) (c.after.result - 1)) (sym c.deref.ensures.value) ∙ ended.1;
             ended = ended.2.0;
             course =
                 ap (λ (proxy : PlainProxy _ _). proxy.course) c.in_ok-session.ensures.proxy
-                ∙ ap (λ (proxy : PlainProxy _ _). record proxy.course { origin = Knew (handed c.in_ok-end.end.knows) }) is
-                ∙ ap (λ (knows : Knowledge). record was.course { origin = Knew (handed knows) }) (ap (λ known. known.knows) c.in_ok-end.ensures ∙ ended.2.1);
+                ∙ ap (λ (proxy : PlainProxy _ _). record proxy.course { origin = Knew c.in_ok-known.known.knows }) is
+                ∙ ap (λ (knows : Knowledge). record was.course { origin = Knew knows }) (c.in_ok-known.ensures.knows ∙ ap handed ended.2.1);
             ends = ap (λ (proxy : PlainProxy _ _). proxy.ends) c.in_ok-session.ensures.proxy ∙ ap (λ (proxy : PlainProxy _ _). proxy.ends) is;
             share = c.in_ok-session.ensures.share;
             silent = ap (λ (proxy : PlainProxy _ _). proxy.course.waits) (sym its) ∙ silent c.index.result.now waits.0;
@@ -64,5 +65,5 @@ pub returns-clause-waits : goal.returns-clause-waits
 returns-clause-waits g c its session there waits other here ended =
     let after = (goal.at.returns-clause-waits g c).After-array_drop-end-inside-3 in
     let is = now_made proxy_of c.args.sessions.now.items c.args.place c.in_ok-session.session c.requires its (sym (ap (λ all. slice_get all c.args.place) (now_is g after)) ∙ there) in
-    absurd (waits_yet its.course.origin session waits (handed c.in_ok-end.end.knows)
+    absurd (waits_yet its.course.origin session waits c.in_ok-known.known.knows
     (ap (λ (proxy : PlainProxy _ _). proxy.course.origin) (sym is) ∙ ap (λ (proxy : PlainProxy _ _). proxy.course.origin) c.in_ok-session.ensures.proxy))

@@ -1,15 +1,10 @@
 //! A whole run over boxes of gossip that hand out late, judged.
-ghost use Rattle.std.specs.Prelude.{IfOk};
-ghost use Rattle.placement.specs.Config.{placed};
-ghost use Rattle.session_known.specs.Script.{IsValidScript};
-
+use super::tests::script_of;
 use super::*;
 use anna_check::{Verdict, check};
+use late_gossip::Late;
 use lattice_laws::NoMemory;
 use mail_rings::{RingRx, RingTx, rings};
-use party_run::{FreeGate, MakesGossip, MakesMail, MakesPost, RingPost, serve_with};
-use script_reader::read_script;
-use session_known::Script;
 use std::alloc::Global;
 use std::test::Fail;
 use store_msg::{Batch, Mail, Reply, Request};
@@ -79,16 +74,6 @@ impl MakesGossip<Batch> for LatePost {
 /// Two workers that both hold two keys, and two causal sessions that await what the other one put.
 const SCRIPT: &str =
     "anna 1\nworkers 2\nround 1\nkey a set at 1 2\nkey b max at 2 1\nsession s causal\nput a x\nawait b t 1\nput a z\nget b\nput b 9\nget a\nsession t causal\nawait a s 1\nput b 7\nget a\nawait a s 2\nput a y\nget b\nend\n";
-
-/// The script that a text says.
-fn script_of(alloc: Global, text: &str) -> Result<Script, NoMemory>
-    ensures { IfOk result (λ script. IsValidScript script (placed script.config)) }
-{
-    match read_script(alloc, text.as_bytes()) {
-        Ok(script) => Ok(script),
-        Err(_) => Err(NoMemory),
-    }
-}
 
 #[test]
 fn a_run_over_late_gossip_drains(rt: HostRuntime) -> Result<(), Fail> {

@@ -4,8 +4,8 @@ use Rattle.std.specs.List.{range_with_len}
 use Rattle.std.proofs.Common.{refl}
 use Rattle.mail_contract.specs.Lanes.{IsLaneOf}
 use Rattle.mail_contract.specs.Standing.{About, Apart}
-use Rattle.party_run.proofs.FreshLemmas.{lanes_are_fresh}
-use Rattle.party_run.specs.Fresh.{IsFreshWeak}
+use Rattle.party_ends.proofs.FreshLemmas.{lanes_are_fresh}
+use Rattle.party_ends.specs.Fresh.{IsFreshWeak}
 use Rattle.placement.specs.Config.{IsOneOf}
 
 module _ {S P M K : Type 0} (number : S → ℕ) (sent : S → List M) (sender_key : S → K) (key : P → List K)

@@ -1,6 +1,6 @@
 use Rattle.std.proofs.Common.{◌∙◌, ap, sym}
-use Rattle.late_gossip.proofs.FreshLemmas.{is_fresh_late}
-use Rattle.late_gossip.proofs.run_tests.LatePostMakesGossipBatch.make_weak.Goals as goal
+use Rattle.party_run.proofs.LateFreshLemmas.{is_fresh_late}
+use Rattle.party_run.proofs.late_tests.LatePostMakesGossipBatch.make_weak.Goals as goal
 
 pub returns-clause-fresh : goal.returns-clause-fresh
 returns-clause-fresh c =
