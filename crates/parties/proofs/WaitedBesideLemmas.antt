@@ -16,7 +16,7 @@ use Rattle.party_turns.proofs.ItemsLemmas.{of_mapped, there_is}
 use Rattle.parties.specs.Beside.{IsBeside, sent_at}
 use Rattle.parties.specs.Polling.{HasWaited}
 use Rattle.parties.specs.Sweeping.{FreeBoth, HasServedAll}
-use Rattle.parties.proofs.ServedLemmas.{of_shown, none_held}
+use Rattle.parties.proofs.ServedLemmas.{of_shown}
 use Rattle.party_turns.specs.Ends.{Ends, session_lists, worker_lists}
 
 module _ {S T O Q G R SK TK OK QK GK RK : Type 0} {mail : Ends S T O Q G R SK TK OK QK GK RK}

@@ -1,4 +1,4 @@
-use Rattle.std.proofs.Common.{◌≡◌, ◌∙◌, ◌-◌, false, Some, ap, inr, map, refl, slice_get, slice_set, subst, sym}
+use Rattle.std.proofs.Common.{◌≡◌, ◌∙◌, ◌-◌, false, ap, inr, map, refl, slice_get, slice_set, sym}
 use Rattle.std.specs.List.{insert}
 use Rattle.std.proofs.lemmas.List.{map-set}
 use Rattle.std.proofs.lemmas.Option.{same_Some}
@@ -13,7 +13,7 @@ use Rattle.parties.specs.declared.session.SessionOver.{SessionOver}
 use Rattle.parties.specs.declared.session.SessionOver.TheVariants as levels
 use Rattle.parties.proofs.beginning.begin_session.Given.{Over}
 use Rattle.parties.proofs.beginning.begin_session.Goals as goal
-use Rattle.parties.proofs.beginning.begin_session.Goals.{After-array_drop-end-inside-3}
+use Rattle.parties.proofs.beginning.begin_session.Goals.{In_ok-insert}
 
 -- one that waits for another awaits no reply
 silent : {T R TK From RK FromK : Type 0} (session : SessionOver T R TK From RK FromK) → Waits session → (proxy_of session).course.waits ≡ false
@@ -22,7 +22,7 @@ silent (levels.Committed proxy) waits = absurd waits
 silent (levels.Causal proxy) waits = absurd waits
 silent (levels.Waiting waiting) waits = refl
 
-module _ (g : Over) (c : After-array_drop-end-inside-3 g) where
+module _ (g : Over) (c : In_ok-insert g) where
   -- it stands where it stood
   now_is : map proxy_of c.insert.new.self.items ≡ map proxy_of (slice_set c.args.sessions.now.items c.args.place c.in_ok-session.session)
   now_is =
@@ -31,7 +31,6 @@ module _ (g : Over) (c : After-array_drop-end-inside-3 g) where
 
 pub returns-clause-begins : goal.returns-clause-begins
 returns-clause-begins g c =
-    let after = (goal.at.returns-clause-begins g c).After-array_drop-end-inside-3 in
     let sessions = c.args.sessions.now.items in
     let read = read_there sessions c.args.place c.index.result.now c.requires c.index.ensures in
     let taken = read_there sessions c.args.place c.remove.result c.requires c.remove.ensures.value in
@@ -41,7 +40,7 @@ returns-clause-begins g c =
     let ended = c.in-Some-known_at_end.ensures.known in
     inr (
       proxy_of c.in_ok-session.session,
-      now_is g after ∙ map-set proxy_of sessions c.args.place c.in_ok-session.session,
+      now_is g c ∙ map-set proxy_of sessions c.args.place c.in_ok-session.session,
       λ was there.
           let its : proxy_of c.index.result.now ≡ was = same_Some (proxy_of c.index.result.now) was (sym (mapped proxy_of sessions c.args.place c.index.result.now read) ∙ there) in
           let is : proxy_of c.remove.result ≡ was = ap proxy_of (sym session_is) ∙ its in
@@ -63,7 +62,6 @@ returns-clause-begins g c =
 
 pub returns-clause-waits : goal.returns-clause-waits
 returns-clause-waits g c its session there waits other here ended =
-    let after = (goal.at.returns-clause-waits g c).After-array_drop-end-inside-3 in
-    let is = now_made proxy_of c.args.sessions.now.items c.args.place c.in_ok-session.session c.requires its (sym (ap (λ all. slice_get all c.args.place) (now_is g after)) ∙ there) in
+    let is = now_made proxy_of c.args.sessions.now.items c.args.place c.in_ok-session.session c.requires its (sym (ap (λ all. slice_get all c.args.place) (now_is g c)) ∙ there) in
     absurd (waits_yet its.course.origin session waits c.in_ok-known.known.knows
     (ap (λ (proxy : PlainProxy _ _). proxy.course.origin) (sym is) ∙ ap (λ (proxy : PlainProxy _ _). proxy.course.origin) c.in_ok-session.ensures.proxy))

@@ -1,4 +1,4 @@
-use Rattle.std.proofs.Common.{◌≡◌, ◌∙◌, ◌<◌, ◌-◌, IsTrue, List, Some, ap, arith, length, map, slice_get, subst, sym}
+use Rattle.std.proofs.Common.{◌≡◌, ◌∙◌, ◌<◌, ◌-◌, IsTrue, List, ap, arith, length, map, subst, sym}
 use Rattle.std.proofs.lemmas.List.{length-map}
 use Rattle.session_proxy.specs.State.{Lists, PlainProxy, has_begun}
 use Rattle.party_turns.proofs.ItemsLemmas.{mapped, of_mapped}

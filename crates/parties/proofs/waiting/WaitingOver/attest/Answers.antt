@@ -1,4 +1,4 @@
-use Rattle.std.proofs.Common.{◌≡◌, ◌∙◌, arith, subst, sym, []}
+use Rattle.std.proofs.Common.{◌∙◌, arith, subst, sym, []}
 use Rattle.std.proofs.lemmas.List.{get_or-map, length-map}
 use Rattle.session_known.specs.declared.script.Level.TheVariants.{Causal}
 use Rattle.session_proxy.proofs.OpeningLemmas.{opening_share}
