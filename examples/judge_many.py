@@ -1,6 +1,6 @@
 #!/usr/bin/env python3
 """Runs the program on generated scripts, of both versions, all levels and kinds and with 1 to 8 workers, in version 2 with sessions that come after
-others, and has each report judged.
+others, every third with scrambled gossip, and has each report judged.
 
 usage: judge_many.py [COUNT [SEED]]   so many scripts, 300 where none is given, from this seed on
 """
@@ -87,7 +87,8 @@ def main():
     for number in range(seed, seed + count):
         text = script(random.Random(number))
         asked += text.count(b"\n")
-        run = subprocess.run([*program, "run"], input=text, capture_output=True)
+        words = ["run"] if number % 3 else ["run", "--scramble", str(number)]
+        run = subprocess.run([*program, *words], input=text, capture_output=True)
         check = subprocess.run([*program, "check"], input=text + run.stdout, capture_output=True)
         if run.returncode != 0 or check.stdout != b"legal\n":
             sys.stdout.buffer.write(text)

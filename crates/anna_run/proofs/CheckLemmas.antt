@@ -30,10 +30,10 @@ module _ (script : Script) (report : Report) where
   not_legal verdict is other legal = other (legal_alone (placed script.config) script report verdict (legal_at_placed legal) is)
 
   -- the status says whether the report is legal
-  told : (D : Type 0) (verdict : Verdict) (status : Status) (text : Vec ℕ Global) → IsVerdict (placed script.config) script report verdict → status ≡ verdict_status verdict → TellsOf {D = D} script report (outcomes.Line status text)
-  told D Legal status text is same = subst (λ status. TellsOf {D = D} script report (outcomes.Line status text)) (sym same) (legal_from_placed is)
-  told D (Command session command) status text is same = subst (λ status. TellsOf {D = D} script report (outcomes.Line status text)) (sym same) (not_legal (Command session command) is (λ e. absurd cc))
-  told D (Final key worker) status text is same = subst (λ status. TellsOf {D = D} script report (outcomes.Line status text)) (sym same) (not_legal (Final key worker) is (λ e. absurd cc))
+  told : (D C : Type 0) (verdict : Verdict) (status : Status) (text : Vec ℕ Global) → IsVerdict (placed script.config) script report verdict → status ≡ verdict_status verdict → TellsOf {D = D} {C = C} script report (outcomes.Line status text)
+  told D C Legal status text is same = subst (λ status. TellsOf {D = D} {C = C} script report (outcomes.Line status text)) (sym same) (legal_from_placed is)
+  told D C (Command session command) status text is same = subst (λ status. TellsOf {D = D} {C = C} script report (outcomes.Line status text)) (sym same) (not_legal (Command session command) is (λ e. absurd cc))
+  told D C (Final key worker) status text is same = subst (λ status. TellsOf {D = D} {C = C} script report (outcomes.Line status text)) (sym same) (not_legal (Final key worker) is (λ e. absurd cc))
 
   -- and it is what is found of the bytes
   found : (bytes : List ℕ) (verdict : Verdict) (status : Status) (text : List ℕ) → AreChecked bytes script report → IsVerdict (placed script.config) script report verdict → status ≡ verdict_status verdict → text ≡ verdict_text script verdict → IsFound bytes status text
@@ -44,13 +44,15 @@ module _ (script : Script) (report : Report) where
       subst (λ status. IsFound bytes status text) (sym same) (record { script = script; report = report; checked = checked; not_legal = not_legal (Final key worker) is (λ e. absurd cc); verdict = Final key worker; is_verdict = is; is_text = is_text })
 
 -- The line of the verdict is owed of the bytes.
-pub verdict_owed : {D : Type 0} (bytes : List ℕ) (script : Script) (report : Report) (outcome : OutcomeOver D) → AreChecked bytes script report → TellsVerdict script report outcome → IsOwedOf bytes outcome
+pub verdict_owed : {D C : Type 0} (bytes : List ℕ) (script : Script) (report : Report) (outcome : OutcomeOver D C) → AreChecked bytes script report → TellsVerdict script report outcome → IsOwedOf bytes outcome
 verdict_owed bytes script report (outcomes.Report served drained) checked tells = absurd tells
+verdict_owed bytes script report (outcomes.ScrambledReport served drained) checked tells = absurd tells
 verdict_owed bytes script report (outcomes.Summary number served drained) checked tells = absurd tells
 verdict_owed bytes script report (outcomes.Line status text) checked tells = found script report bytes tells.0 status text.items checked tells.1 tells.2 tells.3
 
 -- It says whether the report is legal.
-pub verdict_told : {D : Type 0} (script : Script) (report : Report) (outcome : OutcomeOver D) → TellsVerdict script report outcome → TellsOf script report outcome
+pub verdict_told : {D C : Type 0} (script : Script) (report : Report) (outcome : OutcomeOver D C) → TellsVerdict script report outcome → TellsOf script report outcome
 verdict_told script report (outcomes.Report served drained) tells = absurd tells
+verdict_told script report (outcomes.ScrambledReport served drained) tells = absurd tells
 verdict_told script report (outcomes.Summary number served drained) tells = absurd tells
-verdict_told {D} script report (outcomes.Line status text) tells = told script report D tells.0 status text tells.1 tells.2
+verdict_told {D} {C} script report (outcomes.Line status text) tells = told script report D C tells.0 status text tells.1 tells.2

@@ -22,59 +22,74 @@ use Rattle.anna_run.specs.declared.run.Status.{Status}
 use Rattle.anna_run.specs.declared.run.Status.TheVariants.{Done, WriteFault}
 use Rattle.anna_run.specs.declared.words.Command.{Command}
 use Rattle.anna_run.specs.declared.words.Command.TheVariants.{Big, Check, Run}
+use Rattle.anna_run.specs.declared.words.Gossip.{Gossip}
 
-module _ {D : Type 0} (made : D → Made) where
+-- A report of a script that was run is owed where the words ask to run it so.
+pub record IsServedFor (command : Option Command) (source : SourceUse) (script : Script) (made : Made) : Type 0 where
+  pub gossip : Gossip
+  pub asked : command ≡ Some (Run gossip)
+  pub served : HasServed source gossip script made
+
+module _ {D C : Type 0} (rings : D → Made) (scrambled : C → Made) where
   -- the outcome is the one that was found
-  pub owed_as : (command : Option Command) (source : SourceUse) (outcome found : OutcomeOver D) → outcome ≡ found → IsOwed made command source outcome
-      → IsOwed made command source found
-  owed_as command source outcome found same owed = subst (IsOwed made command source) same owed
+  pub owed_as : (command : Option Command) (source : SourceUse) (outcome found : OutcomeOver D C) → outcome ≡ found → IsOwed rings scrambled command source outcome
+      → IsOwed rings scrambled command source found
+  owed_as command source outcome found same owed = subst (IsOwed rings scrambled command source) same owed
 
-  -- where a report is owed it is that of a script that was run
-  pub served : (command : Option Command) (source : SourceUse) (script : Script) (drained : D) → IsOwed made command source (outcomes.Report script drained)
-      → (command ≡ Some Run) × HasServed source script (made drained)
-  served (Some Run) source script drained owed = (refl, owed)
+  -- where a report is owed it is that of a script that was run,
+  pub served : (command : Option Command) (source : SourceUse) (script : Script) (drained : D) → IsOwed rings scrambled command source (outcomes.Report script drained)
+      → IsServedFor command source script (rings drained)
+  served (Some (Run gossip)) source script drained owed = record { gossip = gossip; asked = refl; served = owed }
   served (Some (Big number)) source script drained owed = absurd owed
   served (Some Check) source script drained owed = absurd owed
   served None source script drained owed = absurd owed
 
+  -- also with gossip in disorder,
+  pub served_scrambled : (command : Option Command) (source : SourceUse) (script : Script) (drained : C)
+      → IsOwed rings scrambled command source (outcomes.ScrambledReport script drained) → IsServedFor command source script (scrambled drained)
+  served_scrambled (Some (Run gossip)) source script drained owed = record { gossip = gossip; asked = refl; served = owed }
+  served_scrambled (Some (Big number)) source script drained owed = absurd owed
+  served_scrambled (Some Check) source script drained owed = absurd owed
+  served_scrambled None source script drained owed = absurd owed
+
   -- and a summary is that of the large work of its number
   pub worked : (command : Option Command) (source : SourceUse) (number : ℕ) (script : Script) (drained : D)
-      → IsOwed made command source (outcomes.Summary number script drained)
-      → (command ≡ Some (Big number)) × (script ≡ script_of number) × HasWorked number (made drained)
-  worked (Some Run) source number script drained owed = absurd owed
+      → IsOwed rings scrambled command source (outcomes.Summary number script drained)
+      → (command ≡ Some (Big number)) × (script ≡ script_of number) × HasWorked number (rings drained)
+  worked (Some (Run gossip)) source number script drained owed = absurd owed
   worked (Some (Big asked)) source number script drained owed =
-      (ap (λ asked. Some (Big asked)) (sym owed.0), owed.1 ∙ ap script_of (sym owed.0), subst (λ number. HasWorked number (made drained)) (sym owed.0) owed.2)
+      (ap (λ asked. Some (Big asked)) (sym owed.0), owed.1 ∙ ap script_of (sym owed.0), subst (λ number. HasWorked number (rings drained)) (sym owed.0) owed.2)
   worked (Some Check) source number script drained owed = absurd owed
   worked None source number script drained owed = absurd owed
 
   -- a line is owed as it is
-  pub lined : (command : Option Command) (source : SourceUse) (status : Status) (text : Vec ℕ Global) → IsOwed made command source (outcomes.Line status text)
-      → Owed command source None status text.items
-  lined (Some Run) source status text owed = owed
+  pub lined : (command : Option Command) (source : SourceUse) (status : Status) (text : Vec ℕ Global)
+      → IsOwed rings scrambled command source (outcomes.Line status text) → Owed command source None status text.items
+  lined (Some (Run gossip)) source status text owed = owed
   lined (Some (Big number)) source status text owed = absurd owed
   lined (Some Check) source status text owed = owed
   lined None source status text owed = owed
 
-  -- a report that is served is owed
-  pub owed_report : (command : Option Command) (source : SourceUse) (script : Script) (drained : D) → IsOwed made command source (outcomes.Report script drained)
-      → Owed command source (Some (made drained)) Done (text_of script (made drained).report)
-  owed_report command source script drained owed =
-      let is = served command source script drained owed in
-      subst (λ (asked : Option Command). Owed asked source (Some (made drained)) Done (text_of script (made drained).report)) (sym is.0)
-      (record { script = script; served = is.1; is_text = refl })
-
-  -- and so a summary
+  -- a summary is owed
   pub owed_summary : (command : Option Command) (source : SourceUse) (number : ℕ) (script : Script) (drained : D)
-      → IsOwed made command source (outcomes.Summary number script drained)
-      → Owed command source (Some (made drained)) Done (summary_text number script (made drained).report)
+      → IsOwed rings scrambled command source (outcomes.Summary number script drained)
+      → Owed command source (Some (rings drained)) Done (summary_text number script (rings drained).report)
   owed_summary command source number script drained owed =
       let is = worked command source number script drained owed in
-      subst (λ (asked : Option Command). Owed asked source (Some (made drained)) Done (summary_text number script (made drained).report)) (sym is.0)
-      (record { worked = is.2; is_text = λ i. summary_text number (is.1 i) (made drained).report })
+      subst (λ (asked : Option Command). Owed asked source (Some (rings drained)) Done (summary_text number script (rings drained).report)) (sym is.0)
+      (record { worked = is.2; is_text = λ i. summary_text number (is.1 i) (rings drained).report })
 
--- a report that is served can be written
-pub can_write : (source : SourceUse) (script : Script) (made : Made) → HasServed source script made → HasFormSomewhere script made.report
-can_write source script made served =
+-- a report that is served is owed
+pub owed_report : (command : Option Command) (source : SourceUse) (script : Script) (made : Made) → IsServedFor command source script made
+    → Owed command source (Some made) Done (text_of script made.report)
+owed_report command source script made is =
+    subst (λ (asked : Option Command). Owed asked source (Some made) Done (text_of script made.report)) (sym is.asked)
+    (record { script = script; served = is.served; is_text = refl })
+
+-- and can be written
+pub can_write : (command : Option Command) (source : SourceUse) (script : Script) (made : Made) → IsServedFor command source script made → HasFormSomewhere script made.report
+can_write command source script made is =
+    let served = is.served in
     let legal = served.is_legal in (
       placed script.config,
       script_is_valid served.bytes script served.is_script,

@@ -1,5 +1,5 @@
 -- What the program owes, by its status.
-use Rattle.std.specs.Prelude.{◌≡◌, ℕ, ◌+◌, ◌<◌, ◌≤◌, ◌⊎◌, List, [], ◌∷◌, ◌++◌, take, drop, length, Option, Some, None, Result, Ok, Err, Vec, String, codes, ⊤}
+use Rattle.std.specs.Prelude.{◌≡◌, ℕ, ◌+◌, ◌<◌, ◌≤◌, ◌⊎◌, List, [], ◌∷◌, ◌++◌, take, drop, length, map, Option, Some, None, Result, Ok, Err, Vec, String, codes, ⊤}
 use Rattle.std.specs.Global.{Global}
 use Rattle.std.specs.Fmt.{decimal}
 use Rattle.lattice_laws.specs.Counts.{Rose}
@@ -21,15 +21,19 @@ use Rattle.anna_check.specs.Unlawful.{IsVerdict}
 use Rattle.anna_check.specs.declared.judge.Verdict.{Verdict}
 use Rattle.anna_check.specs.declared.judge.Verdict.TheVariants as verdicts
 use Rattle.big_work.specs.Big.{script_of, summary_text}
+use Rattle.mail_contract.specs.declared.gossip.GossipRx as weak
 use Rattle.party_run.specs.Drained.{IsDrained, ledger_in}
 use Rattle.party_run.specs.DrainedOver.{DrainedOver}
 use Rattle.party_run.specs.Ledger.{Ledger}
+use Rattle.party_run.specs.Numbers.{AreNumbered, in_order, scrambled_by}
 use Rattle.store_msg.specs.Reply.{PlainReply}
 use Rattle.store_msg.specs.declared.request.Request.{Request}
 use Rattle.worker_core.specs.State.{Entries}
 use Rattle.anna_run.specs.Words.{command_in}
 use Rattle.anna_run.specs.declared.words.Command.{Command}
 use Rattle.anna_run.specs.declared.words.Command.TheVariants.{Big, Check, Run}
+use Rattle.anna_run.specs.declared.words.Gossip.{Gossip}
+use Rattle.anna_run.specs.declared.words.Gossip.TheVariants.{InOrder, Scrambled}
 use Rattle.anna_run.specs.declared.words.WordsFault.{WordsFault}
 use Rattle.anna_run.specs.declared.words.WordsFault.TheVariants as faults
 use Rattle.anna_run.specs.declared.run.PartsOver.{PartsOver}
@@ -101,7 +105,7 @@ most_checked = 16777216
 -- the most bytes that are taken: one more than the input may have, which tells that it is too long; none where the words ask for no
 -- input, or are of no accepted form
 abbrev pub most_taken : Option Command → ℕ
-most_taken (Some Run) = most_bytes + 1
+most_taken (Some (Run gossip)) = most_bytes + 1
 most_taken (Some Check) = most_checked + 1
 most_taken (Some (Big number)) = 0
 most_taken None = 0
@@ -112,7 +116,7 @@ IsBounded command source = (bytes : List ℕ) × (length bytes ≤ most_taken co
 
 -- the words ask for no input
 abbrev pub TakesNothing : Option Command → Type 0
-TakesNothing (Some Run) = ⊥
+TakesNothing (Some (Run gossip)) = ⊥
 TakesNothing (Some Check) = ⊥
 TakesNothing (Some (Big number)) = ⊤
 TakesNothing None = ⊤
@@ -123,20 +127,32 @@ LeavesAlone command source = TakesNothing command → IsUntouched source
 
 -- ---- a run
 
--- A run that was made, as contracts see it: its report, and what is in hand of its parties once it is drained.
+-- A run that was made, as contracts see it: its report, what is in hand of its parties once it is drained, and the numbers that the box of gossip of
+-- each worker, in their order, was made with.
 pub record Made : Type 0 where
   pub report : Report
   pub ledger : Ledger
+  pub numbers : List (List ℕ)
 
 -- what a drained run is, over ends that tell what they handed out
-abbrev pub made_of : {Q G R QF QK QFK GF GK GFK RF RK RFK : Type 0} → (Q → List (ℕ × Request)) → (G → ℕ → ℕ → Option Entries) → (R → List (ℕ × PlainReply))
+abbrev pub made_of : {Q G R QF QK QFK GF GK GFK RF RK RFK : Type 0} → (Q → List (ℕ × Request)) → weak.Ghosts G Entries GF GK GFK → (R → List (ℕ × PlainReply))
     → DrainedOver Q G R QF QK QFK GF GK GFK RF RK RFK → Made
-made_of received got heard drained = record { report = drained.report; ledger = ledger_in received got heard drained.workers.items drained.replies.items }
+made_of received batches heard drained = record {
+  report = drained.report;
+  ledger = ledger_in received batches.got heard drained.workers.items drained.replies.items;
+  numbers = map (λ its. batches.made_with (batches.key its.gossip_in)) drained.workers.items;
+}
 
 -- what the parts of a run are
-abbrev pub ran_of : {D : Type 0} → (D → Made) → PartsOver D → Option Made
-ran_of made parts.Nothing = None
-ran_of made (parts.Rings drained) = Some (made drained)
+abbrev pub ran_of : {D C : Type 0} → (D → Made) → (C → Made) → PartsOver D C → Option Made
+ran_of rings scrambled parts.Nothing = None
+ran_of rings scrambled (parts.Rings drained) = Some (rings drained)
+ran_of rings scrambled (parts.Scrambled drained) = Some (scrambled drained)
+
+-- the numbers of the boxes of gossip, by their owners
+abbrev pub numbers_of : Gossip → ℕ → List ℕ
+numbers_of InOrder = in_order
+numbers_of (Scrambled number) = scrambled_by number
 
 abbrev pub usage_text : List ℕ
 usage_text = codes "usage: anna COMMAND" ++ 10 ∷ []
@@ -147,25 +163,28 @@ read_fault_text = codes "read fault" ++ 10 ∷ []
 abbrev pub refusal_text : ℕ → ℕ → List ℕ
 refusal_text line code = codes "refused line " ++ decimal line ++ codes ": code " ++ decimal code ++ 10 ∷ []
 
--- The whole input was taken, it is a script, and the report is legal for it: it came from a run of the script, of which this is in hand.
-pub record HasServed (source : SourceUse) (script : Script) (made : Made) : Type 0 where
+-- The whole input was taken, it is a script, and the report is legal for it: it came from a run of the script, of which this is in hand, with gossip as
+-- the words ask for it.
+pub record HasServed (source : SourceUse) (gossip : Gossip) (script : Script) (made : Made) : Type 0 where
   pub bytes : List ℕ
-  pub taken : TookMost (most_taken (Some Run)) source.left_before source.left_now bytes
+  pub taken : TookMost (most_taken (Some (Run gossip))) source.left_before source.left_now bytes
   pub whole : NoneLeft source.left_now
   pub is_script : IsScript bytes script
   pub is_legal : IsLegal script made.report
   pub is_drained : IsDrained script made.report made.ledger
+  pub numbered : AreNumbered (numbers_of gossip) made.numbers
 
 -- The text is that of such a report.
-pub record IsServed (source : SourceUse) (made : Made) (text : List ℕ) : Type 0 where
+pub record IsServed (source : SourceUse) (gossip : Gossip) (made : Made) (text : List ℕ) : Type 0 where
   pub script : Script
-  pub served : HasServed source script made
+  pub served : HasServed source gossip script made
   pub is_text : text ≡ text_of script made.report
 
 -- The report is legal for the script of the large work of a number, and came from a run of it, of which this is in hand.
 pub record HasWorked (number : ℕ) (made : Made) : Type 0 where
   pub is_legal : IsLegal (script_of number) made.report
   pub is_drained : IsDrained (script_of number) made.report made.ledger
+  pub numbered : AreNumbered in_order made.numbers
 
 -- The text is the summary of such a report.
 pub record IsWorked (number : ℕ) (made : Made) (text : List ℕ) : Type 0 where
@@ -177,7 +196,7 @@ pub record IsRefusal (source : SourceUse) (text : List ℕ) : Type 0 where
   pub bytes : List ℕ
   pub line : ℕ
   pub code : ℕ
-  pub taken : TookMost (most_taken (Some Run)) source.left_before source.left_now bytes
+  pub taken : TookMost (most_bytes + 1) source.left_before source.left_now bytes
   pub refused : IsRefused bytes line code
   pub is_text : text ≡ refusal_text line code
 
@@ -263,9 +282,9 @@ IsReadFault source text = Rose source.faults_before source.faults_now × (text �
 
 -- Which text goes with which status, where these words were given, the source was used so, and this run was made.
 abbrev pub Owed : Option Command → SourceUse → Option Made → Status → List ℕ → Type 0
-Owed (Some Run) source (Some made) Done text = IsServed source made text
-Owed (Some Run) source None Refused text = IsRefusal source text
-Owed (Some Run) source None ReadFault text = IsReadFault source text
+Owed (Some (Run gossip)) source (Some made) Done text = IsServed source gossip made text
+Owed (Some (Run gossip)) source None Refused text = IsRefusal source text
+Owed (Some (Run gossip)) source None ReadFault text = IsReadFault source text
 Owed (Some (Big number)) source (Some made) Done text = IsWorked number made text
 Owed (Some Check) source None Done text = IsChecked source Done text
 Owed (Some Check) source None Unlawful text = IsChecked source Unlawful text
@@ -284,7 +303,7 @@ IsEnd command source sink ran status =
 -- Where a script was asked to be run, and neither end failed, it was, unless memory ran out.
 abbrev pub IsComplete : Option Command → SourceUse → SinkUse → Status → Type 0
 IsComplete command source sink status =
-    (input : List ℕ) (script : Script) → command ≡ Some Run → source.left_before ≡ Some input → IsScript input script
+    (input : List ℕ) (script : Script) (gossip : Gossip) → command ≡ Some (Run gossip) → source.left_before ≡ Some input → IsScript input script
     → IsFaultless source sink → (status ≡ Done) ⊎ (status ≡ NoMemory)
 
 -- and so the large work of a number

@@ -8,14 +8,14 @@ ghost use Rattle.anna_run.specs.Run.{Made, IsBounded, IsComplete, IsEnd, IsExitO
 ghost use Rattle.anna_run.specs.Words.{command_in};
 
 use crate::texts::{line, refusal, report_refusal, verdict_line};
-use crate::words::{Command, WordsFault, read_words};
+use crate::words::{Command, Gossip, WordsFault, read_words};
 use anna_check::{Verdict, check};
 use big_work::{big_script, write_summary};
 use lattice_laws::NoMemory;
-use mail_contract::{GossipRx, Rx};
+use mail_contract::{GossipRx, Rx, Scramble};
 use mail_rings::RingRx;
 use outside::{Failed, ReadFault, Sink, Source, finish, read_all};
-use party_run::{Drained, Gate, RingPost, serve};
+use party_run::{Drained, Gate, RingPost, ScrambledPost, serve, serve_scrambled};
 use report_text::{ReportFault, read_report, write_report};
 use script_reader::{MOST_BYTES, ScriptFault, read_script, split_input};
 use session_known::{Report, Script};
@@ -67,19 +67,24 @@ impl Status {
 
 /// The run that was made, as it is once it is drained.
 #[derive(Drop)]
-pub enum PartsOver<D: Drop> {
+pub enum PartsOver<D: Drop, C: Drop> {
     /// None was.
     Nothing,
     /// One over rings.
     Rings(D),
+    /// One over rings with gossip in disorder.
+    Scrambled(C),
 }
 
 /// A run over rings that is drained.
 pub type Rings = Drained<RingPost>;
 
+/// The same with gossip in disorder.
+pub type ScrambledRings = Drained<ScrambledPost>;
+
 /// A run that is drained, as contracts see it.
 pub trait Ran {
-    // Its report, and what its parties have in hand.
+    // Its report, what its parties have in hand, and which numbers their boxes of gossip were made with.
     ghost made: { Self → Made };
 }
 
@@ -87,35 +92,46 @@ impl Ran for Rings {
     ghost use Rattle.anna_run.specs.Run.{made_of};
 
     ghost made = { made_of ⟦<RingRx<Request> as Rx<Request>>⟧.received
-        ⟦<RingRx<Batch> as GossipRx<Batch>>⟧.got ⟦<RingRx<Reply> as Rx<Reply>>⟧.received };
+        ⟦<RingRx<Batch> as GossipRx<Batch>>⟧ ⟦<RingRx<Reply> as Rx<Reply>>⟧.received };
+}
+
+impl Ran for ScrambledRings {
+    ghost use Rattle.anna_run.specs.Run.{made_of};
+
+    ghost made = { made_of ⟦<RingRx<Request> as Rx<Request>>⟧.received
+        ⟦<Scramble<Batch, RingRx<Batch>> as GossipRx<Batch>>⟧
+        ⟦<RingRx<Reply> as Rx<Reply>>⟧.received };
 }
 
 /// The run that was made.
-pub type Parts = PartsOver<Rings>;
+pub type Parts = PartsOver<Rings, ScrambledRings>;
 
 /// What a run owes to whoever asked.
 #[derive(Drop)]
-enum OutcomeOver<D: Drop> {
+enum OutcomeOver<D: Drop, C: Drop> {
     /// The report of a script that was run.
     Report(Script, D),
+    /// The same of a run with gossip in disorder.
+    ScrambledReport(Script, C),
     /// The summary of the large work of a number, which was run.
     Summary(u64, Script, D),
     /// A line of text, and the status that goes with it.
     Line(Status, Vec<u8>),
 }
 
-type Outcome = OutcomeOver<Rings>;
+type Outcome = OutcomeOver<Rings, ScrambledRings>;
 
 /// Reads a script and runs it.
 fn run_script<S: Source, E: Gate + Sync, H: Threads + Sync>(
     rt: &H,
     alloc: Global,
+    gossip: Gossip,
     src: &mut S,
     gate: &E,
 ) -> Result<Outcome, NoMemory>
-    ensures owed { Owes ⟦<Rings as Ran>⟧.made (Some Command.Run) (used S.Source src.old src.new)
-        result }
-    ensures bounded { IsBounded (Some Command.Run) (used S.Source src.old src.new) }
+    ensures owed { Owes ⟦<Rings as Ran>⟧.made ⟦<ScrambledRings as Ran>⟧.made
+        (Some (Command.Run gossip)) (used S.Source src.old src.new) result }
+    ensures bounded { IsBounded (Some (Command.Run gossip)) (used S.Source src.old src.new) }
     ensures count { S.faults src.old ≤ S.faults src.new }
     ensures complete { OnScript (used S.Source src.old src.new) (IfOk result IsReport) }
 {
@@ -127,10 +143,16 @@ fn run_script<S: Source, E: Gate + Sync, H: Threads + Sync>(
         Err(ReadFault::NoMemory) => return Err(NoMemory),
     };
     match read_script(alloc, &bytes) {
-        Ok(script) => {
-            let drained = serve(rt, gate, alloc, &script)?;
-            Ok(Outcome::Report(script, drained))
-        }
+        Ok(script) => match gossip {
+            Gossip::InOrder => {
+                let drained = serve(rt, gate, alloc, &script)?;
+                Ok(Outcome::Report(script, drained))
+            }
+            Gossip::Scrambled(number) => {
+                let drained = serve_scrambled(rt, gate, number, alloc, &script)?;
+                Ok(Outcome::ScrambledReport(script, drained))
+            }
+        },
         Err(ScriptFault::Refused { line, code }) => {
             Ok(Outcome::Line(Status::Refused, refusal(alloc, line, code)?))
         }
@@ -145,7 +167,8 @@ fn run_work<E: Gate + Sync, H: Threads + Sync>(
     number: u64,
     gate: &E,
 ) -> Result<Outcome, NoMemory>
-    ensures { IfOk result (IsOwedByWork ⟦<Rings as Ran>⟧.made number) }
+    ensures { IfOk result (IsOwedByWork ⟦<Rings as Ran>⟧.made ⟦<ScrambledRings as Ran>⟧.made
+        number) }
 {
     let script = big_script(alloc, number)?;
     let drained = serve(rt, gate, alloc, &script)?;
@@ -154,8 +177,8 @@ fn run_work<E: Gate + Sync, H: Threads + Sync>(
 
 /// Reads a script and the report after it, and judges the report.
 fn check_input<S: Source>(alloc: Global, src: &mut S) -> Result<Outcome, NoMemory>
-    ensures owed { Owes ⟦<Rings as Ran>⟧.made (Some Command.Check) (used S.Source src.old src.new)
-        result }
+    ensures owed { Owes ⟦<Rings as Ran>⟧.made ⟦<ScrambledRings as Ran>⟧.made (Some Command.Check)
+        (used S.Source src.old src.new) result }
     ensures bounded { IsBounded (Some Command.Check) (used S.Source src.old src.new) }
     ensures count { S.faults src.old ≤ S.faults src.new }
     ensures complete { OnReport (used S.Source src.old src.new) (Judges result) }
@@ -225,8 +248,8 @@ fn outcome_of<S: Source, E: Gate + Sync, H: Threads + Sync>(
     src: &mut S,
     gate: &E,
 ) -> Result<Outcome, NoMemory>
-    ensures owed { Owes ⟦<Rings as Ran>⟧.made (command_in words.now) (used S.Source src.old src.new)
-        result }
+    ensures owed { Owes ⟦<Rings as Ran>⟧.made ⟦<ScrambledRings as Ran>⟧.made
+        (command_in words.now) (used S.Source src.old src.new) result }
     ensures bounded { IsBounded (command_in words.now) (used S.Source src.old src.new) }
     ensures untouched { LeavesAlone (command_in words.now) (used S.Source src.old src.new) }
     ensures count { S.faults src.old ≤ S.faults src.new }
@@ -236,7 +259,7 @@ fn outcome_of<S: Source, E: Gate + Sync, H: Threads + Sync>(
         (used S.Source src.old src.new) (Judges result) }
 {
     match read_words(words) {
-        Some(Command::Run) => run_script(rt, alloc, src, gate),
+        Some(Command::Run(gossip)) => run_script(rt, alloc, gossip, src, gate),
         Some(Command::Big(number)) => run_work(rt, alloc, number, gate),
         Some(Command::Check) => check_input(alloc, src),
         None => Ok(Outcome::Line(Status::Usage, line(alloc, "usage: anna COMMAND")?)),
@@ -246,10 +269,11 @@ fn outcome_of<S: Source, E: Gate + Sync, H: Threads + Sync>(
 /// Does all that the program does: reads from the source what the words ask for, and writes to the sink.
 ///
 /// The words are those after the program's name. `run` takes a script of at most 1,048,576 bytes, runs it
-/// and writes its report. `big N` runs the large work of a number, of 1 to 20 digits, and writes its summary;
-/// it leaves the source alone. `check` takes a script directly followed by a report, at most 16,777,216
-/// bytes, and writes whether the report is legal, or its first place that is not lawful. Where the words are
-/// of no accepted form the source is left alone, and where memory runs out nothing is written.
+/// and writes its report; `run --scramble N` does so with gossip in disorder, told by a number of 1 to 20 digits.
+/// `big N` runs the large work of such a number and writes its summary; it leaves the source alone. `check` takes a
+/// script directly followed by a report, at most 16,777,216 bytes, and writes whether the report is legal, or its first
+/// place that is not lawful. Where the words are of no accepted form the source is left alone, and where memory runs
+/// out nothing is written.
 ///
 /// A script and the large work are run in threads: every worker and every session takes its turns beside the others,
 /// and the gate is called before each. Of what it says here nothing depends on the order in which they do.
@@ -266,8 +290,7 @@ pub fn run<S: Source, K: Sink, E: Gate + Sync, H: Threads + Sync>(
     // The status says what was owed, and that it was written.
     ensures ends { IsEnd (command_in words.now) (used S.Source src.old src.new)
         (wrote K.Sink sink.old sink.new)
-        (ran_of ⟦<Rings as Ran>⟧.made
-        result.1) result.0 }
+        (ran_of ⟦<Rings as Ran>⟧.made ⟦<ScrambledRings as Ran>⟧.made result.1) result.0 }
 
     // No more than one byte more than the input may have is taken, and nothing where no input is asked for.
     ensures bounded { IsBounded (command_in words.now) (used S.Source src.old src.new) }
@@ -290,6 +313,10 @@ pub fn run<S: Source, K: Sink, E: Gate + Sync, H: Threads + Sync>(
         Ok(Outcome::Report(script, drained)) => {
             let status = written(write_report(&script, &drained.report, sink));
             (status, Parts::Rings(drained))
+        }
+        Ok(Outcome::ScrambledReport(script, drained)) => {
+            let status = written(write_report(&script, &drained.report, sink));
+            (status, Parts::Scrambled(drained))
         }
         Ok(Outcome::Summary(number, script, drained)) => {
             let status = written(write_summary(number, &script, &drained.report, sink));
@@ -327,8 +354,7 @@ fn run_given<S: Source, K: Sink, E: Gate + Sync, H: Threads + Sync>(
 ) -> (Status, Parts)
     ensures { IsRunOf words (used S.Source src.old src.new)
         (wrote K.Sink sink.old sink.new)
-        (ran_of ⟦<Rings as Ran>⟧.made
-        result.1) result.0 }
+        (ran_of ⟦<Rings as Ran>⟧.made ⟦<ScrambledRings as Ran>⟧.made result.1) result.0 }
 {
     match words {
         Ok(words) => run(rt, alloc, &words, src, sink, gate),

@@ -1,5 +1,5 @@
 -- Boxes and their senders are fresh when they are made: what they tell, one by one.
-use Rattle.std.specs.Prelude.{◌≡◌, ℕ, ◌+◌, ◌-◌, List, [], length, map, replicate, slice_get, slice_index_or, IfOk, Result, Ok, Err, Some}
+use Rattle.std.specs.Prelude.{◌≡◌, ℕ, ◌+◌, ◌-◌, List, [], length, map, replicate, slice_get, slice_index_or, IfOk, Option, Result, Ok, Err, None, Some}
 use Rattle.std.specs.List.{range_with_len}
 use Rattle.std.proofs.Common.{◌∙◌, sym, ap, arith, refl}
 use Rattle.std.proofs.lemmas.List.{length-map}
@@ -93,6 +93,22 @@ module _ {S P M K : Type 0} (number : S → ℕ) (sent : S → List M) (sender_k
   lanes_are_fresh_weak =
       is_fresh_weak number sent sender_key key (IsLaneOf (λ lane its. its ≡ lane)) length received about many senders box numbers none_sent
       (pair_up number senders many numbers sender_key (key box) same) as_many_lanes none_received apart
+
+module _ {S P M K KP : Type 0} (number : S → ℕ) (sent : S → List M) (sender_key : S → K) (key : P → KP) (lanes : KP → List K)
+    (got : P → ℕ → ℕ → Option M) (about : P → ℕ → About M) (many : ℕ) (senders : List S) (box : P)
+    (numbers : map number senders ≡ range_with_len 1 many) (none_sent : map sent senders ≡ replicate many []) (same : map sender_key senders ≡ lanes (key box))
+    (none_got : (sender place : ℕ) → got box sender place ≡ None) (apart : (sender : ℕ) → IsOneOf many sender → (about box sender).standing ≡ Apart) where
+  -- A weak box that keeps its own account of what it handed out, over a box of lanes, is fresh with its senders where it has handed out nothing.
+  pub over_lanes_is_fresh : IsFreshWeak number sent sender_key key (λ its. IsLaneOf (λ lane its. its ≡ lane) (lanes its)) (λ its. length (lanes its)) got about many senders box
+  over_lanes_is_fresh = record {
+    long = as_many number senders many numbers;
+    numbered = numbered number senders many numbers;
+    nothing_sent = each_shows sent senders many [] none_sent;
+    paired = pair_up number senders many numbers sender_key (lanes (key box)) same;
+    senders_are = sym (ap length same) ∙ length-map senders sender_key ∙ as_many number senders many numbers;
+    none_got = none_got;
+    not_taken_in = λ sender within. apart_is_not_settled (about box sender).standing (apart sender within);
+  }
 
 -- What a clause of a result tells of each value that the result has holds of the result.
 pub if_made : {X E : Type 0} (Clause Holds : X → Type 0) (result : Result X E) → IfOk result Clause → ((made : X) → result ≡ Ok made → Clause made → Holds made) → IfOk result Holds

@@ -4,7 +4,7 @@ use Rattle.std.specs.List.{range_with_len}
 use Rattle.std.proofs.Common.{◌∙◌, sym, ap, subst, arith, length-append}
 use Rattle.std.proofs.lemmas.List.{length-map, map-append}
 use Rattle.std.proofs.lemmas.List.FromFn.{map-range_with_len_more}
-use Rattle.party_ends.specs.AllEnds.{AreNumbered}
+use Rattle.party_ends.specs.Numbers.{AreNumbered}
 
 -- one more was made with those of the next owner
 one_more : (numbers : ℕ → List ℕ) (boxes : List (List ℕ)) (its : List ℕ) → AreNumbered numbers boxes → its ≡ numbers (length boxes + 1) → AreNumbered numbers (boxes ++ its ∷ [])

@@ -1,16 +1,11 @@
 -- All ends of a run's parties, of one making.
 use Rattle.std.specs.Prelude.{◌≡◌, ℕ, ◌+◌, false, true, List, [], All, length, map, slice_get, Some, None}
-use Rattle.std.specs.List.{range_with_len}
 use Rattle.placement.specs.Config.{IsOneOf}
 use Rattle.store_msg.specs.declared.ends.SessionEndsOver.{SessionEndsOver}
 use Rattle.store_msg.specs.declared.ends.WorkerEndsOver.{WorkerEndsOver}
 use Rattle.party_turns.specs.Making.{AreOfOneMaking, IsBoxOf, IsWeakBoxOf}
 use Rattle.party_turns.specs.Mates.{IsMate}
 use Rattle.party_turns.specs.Ends.{Ends}
-
--- Boxes in the order of their owners were made with the numbers of each, from the owner with the number 1.
-abbrev pub AreNumbered : (ℕ → List ℕ) → List (List ℕ) → Type 0
-AreNumbered numbers boxes = boxes ≡ map numbers (range_with_len 1 (length boxes))
 
 -- The ends of so many workers and so many sessions are of one making, and nothing has gone through any of them. Each session has a sender to each worker,
 -- each worker one to each session and one of gossip to each other worker.

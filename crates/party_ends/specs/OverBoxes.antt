@@ -6,9 +6,9 @@ use Rattle.mail_contract.specs.declared.rx.Rx as boxes
 use Rattle.mail_contract.specs.declared.tx.Tx as senders
 use Rattle.party_turns.specs.Mates.{IsMate}
 use Rattle.party_turns.specs.Rows.{rows_in}
-use Rattle.party_ends.specs.AllEnds as all
 use Rattle.party_ends.specs.Dealt as dealt
 use Rattle.party_ends.specs.Fresh as fresh
+use Rattle.party_ends.specs.Numbers as numbers
 
 -- boxes, and their senders
 module _ {S Q M SK QK : Type 0} (from : senders.Ghosts S M SK) (its : boxes.Ghosts Q M S QK SK) where
@@ -59,4 +59,4 @@ module _ {O G M OK GK : Type 0} (from : senders.Ghosts O M OK) (its : weak.Ghost
 
 -- Boxes, one in each of some items, were made with the numbers of their owners, from the owner with the number 1.
 abbrev pub AreNumbered : {G M O X GK OK : Type 0} → weak.Ghosts G M O GK OK → (ℕ → List ℕ) → (X → G) → List X → Type 0
-AreNumbered its numbers mailbox items = all.AreNumbered numbers (map (λ item. its.made_with (its.key (mailbox item))) items)
+AreNumbered its owned mailbox items = numbers.AreNumbered owned (map (λ item. its.made_with (its.key (mailbox item))) items)

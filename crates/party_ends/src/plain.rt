@@ -30,11 +30,11 @@ impl MakesMail<Reply> for PlainPost {
 }
 
 impl MakesGossip<Batch> for PlainPost {
-    ghost use Rattle.std.specs.Prelude.{[]};
+    ghost use Rattle.party_ends.specs.Numbers.{in_order};
 
     type Mailbox = PlainRx<Batch>;
 
-    ghost numbers = { λ _ _. [] };
+    ghost numbers = { λ _. in_order };
 
     fn make_weak(
         &self,

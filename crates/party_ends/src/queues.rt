@@ -52,11 +52,11 @@ impl<W: Wait + Copy> MakesMail<Reply> for QueuePost<W> {
 }
 
 impl<W: Wait + Copy> MakesGossip<Batch> for QueuePost<W> {
-    ghost use Rattle.std.specs.Prelude.{[]};
+    ghost use Rattle.party_ends.specs.Numbers.{in_order};
 
     type Mailbox = QueueRx<Batch, W>;
 
-    ghost numbers = { λ _ _. [] };
+    ghost numbers = { λ _. in_order };
 
     fn make_weak(
         &self,

@@ -47,11 +47,11 @@ impl MakesMail<Reply> for RingPost {
 }
 
 impl MakesGossip<Batch> for RingPost {
-    ghost use Rattle.std.specs.Prelude.{[]};
+    ghost use Rattle.party_ends.specs.Numbers.{in_order};
 
     type Mailbox = RingRx<Batch>;
 
-    ghost numbers = { λ _ _. [] };
+    ghost numbers = { λ _. in_order };
 
     fn make_weak(
         &self,

@@ -11,7 +11,7 @@ use Rattle.worker_core.specs.State.{Entries, PlainWorker}
 use Rattle.drain_ledger.proofs.WorkersLemmas.{workers_long}
 use Rattle.party_turns.proofs.ItemsLemmas.{same_made, made_of_made}
 use Rattle.drain_ledger.specs.Drained.{GoesOn, IsDrained, end_in, ledger_in}
-use Rattle.party_ends.specs.AllEnds.{AreNumbered}
+use Rattle.party_ends.specs.Numbers.{AreNumbered}
 
 module _ {Q T O G R K : Type 0} (received : Q → List (ℕ × Request)) (key : G → K) (got : G → ℕ → ℕ → Option Entries) (heard : R → List (ℕ × PlainReply))
     (script : Script) (report : Report) (made ran : List (PlainWorker Q T O G)) (drained : List (PlainSealed Q G)) (replies : List R)

@@ -53,11 +53,11 @@ impl MakesMail<Reply> for LatePost {
 }
 
 impl MakesGossip<Batch> for LatePost {
-    ghost use Rattle.std.specs.Prelude.{[]};
+    ghost use Rattle.party_ends.specs.Numbers.{in_order};
 
     type Mailbox = Late<Batch, RingRx<Batch>>;
 
-    ghost numbers = { λ _ _. [] };
+    ghost numbers = { λ _. in_order };
 
     fn make_weak(
         &self,

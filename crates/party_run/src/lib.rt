@@ -3,7 +3,8 @@
 //!
 //! In each [`round`] every session moves that has a line not answered, so that [`run_rounds`] comes to an end, over
 //! ends that find places. A [`sweep`] takes the steps of any [`Run`](parties::Run). [`serve_with`] makes the parties
-//! of a script over some kind of mail, runs their rounds, and drains the run; [`serve`] does so over rings.
+//! of a script over some kind of mail, runs their rounds, and drains the run; [`serve`] does so over rings, and
+//! [`serve_scrambled`] over rings with gossip in disorder.
 //! [`serve_waiting`] serves a script over ends that keep no more than the contract of mail: it makes epochs without a
 //! sweep for as long as it takes, and what it promises holds if it returns. A gate is called before each turn in an
 //! epoch; the program lets everyone pass.
@@ -22,10 +23,10 @@ mod waiting;
 
 pub use drain_ledger::Drained;
 pub use driver::{round, run_rounds, serve_with};
-pub use party_ends::{MakesGossip, MakesMail, MakesPost, QueuePost, RingPost};
+pub use party_ends::{MakesGossip, MakesMail, MakesPost, QueuePost, RingPost, ScrambledPost};
 pub use party_epochs::{FreeGate, Gate};
 pub use party_turns::Waiting;
-pub use serving::serve;
+pub use serving::{serve, serve_scrambled};
 pub use sweeping::sweep;
 pub use waiting::serve_waiting;
 

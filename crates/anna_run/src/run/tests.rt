@@ -196,9 +196,11 @@ const SETTLED: [(&str, &str); 12] = [
 #[test]
 fn reports_of_every_schedule(rt: HostRuntime) -> Result<(), Fail> {
     for (script, report) in SETTLED {
-        let (status, text) = run_on(&rt, rt.alloc(), script.as_bytes())?;
-        assert_eq!(rt; status, Status::Done);
-        assert_eq!(rt; text.as_slice(), report.as_bytes());
+        for words in ["run", "run/--scramble/7"] {
+            let (status, text) = ended(&rt, rt.alloc(), words, script.as_bytes())?;
+            assert_eq!(rt; status, Status::Done);
+            assert_eq!(rt; text.as_slice(), report.as_bytes());
+        }
     }
     Ok(())
 }
@@ -259,18 +261,19 @@ fn chain(alloc: Global) -> Result<(String, String), Fail> {
     let mut report = String::from_str(alloc, "anna report 2\nkey a max on 1\n")?;
     let mut clock = String::new(alloc);
     let mut needs = String::new(alloc);
-    for number in 1..17 {
-        let session = if number == 1 {
+    for before in 0..16 {
+        let number = before + 1;
+        let session = if before == 0 {
             format!(in alloc; "session s1 causal")?
         } else {
-            format!(in alloc; "session s{number} causal after s{}", number - 1)?
+            format!(in alloc; "session s{number} causal after s{before}")?
         };
         push_line(&mut script, &session)?;
         push_line(&mut report, &session)?;
         push_line(&mut script, &format!(in alloc; "put a {number}")?)?;
         push_line(&mut report, &format!(in alloc; "put a 1 at {number}")?)?;
         needs = String::from_str(alloc, &clock)?;
-        if number > 1 {
+        if before > 0 {
             clock.push_str(",")?;
         }
         clock.push_str(&format!(in alloc; "s{number}:1")?)?;
@@ -318,6 +321,13 @@ const SHOP_FINALS: [(&str, &str); 6] = [
     ),
 ];
 
+/// How often a line with this front and this back stands in a text.
+fn many_lines(text: &[u8], front: &str, back: &str) -> usize {
+    text.split(|byte| *byte == b'\n')
+        .filter(|line| line.starts_with(front.as_bytes()) && line.ends_with(back.as_bytes()))
+        .count()
+}
+
 #[test]
 fn sessions_of_all_levels_on_keys_of_all_kinds(rt: HostRuntime) -> Result<(), Fail> {
     let (status, text) = run_on(&rt, rt.alloc(), SHOP.as_bytes())?;
@@ -327,11 +337,7 @@ fn sessions_of_all_levels_on_keys_of_all_kinds(rt: HostRuntime) -> Result<(), Fa
         assert!(rt; has_line(&text, line), "{line}");
     }
     for (front, back) in SHOP_FINALS {
-        let finals = text
-            .split(|byte| *byte == b'\n')
-            .filter(|line| line.starts_with(front.as_bytes()) && line.ends_with(back.as_bytes()))
-            .count();
-        assert_eq!(rt; finals, 3, "{front}");
+        assert_eq!(rt; many_lines(&text, front, back), 3, "{front}");
     }
     // The report is legal for its script.
     let mut both = SHOP.as_bytes().to_vec(rt.alloc())?;
@@ -339,6 +345,16 @@ fn sessions_of_all_levels_on_keys_of_all_kinds(rt: HostRuntime) -> Result<(), Fa
     let (status, text) = ended(&rt, rt.alloc(), "check", &both)?;
     assert_eq!(rt; status, Status::Done);
     assert_eq!(rt; text.as_slice(), b"legal\n".as_slice());
+    Ok(())
+}
+
+#[test]
+fn the_final_cells_of_scrambled_gossip_are_the_same(rt: HostRuntime) -> Result<(), Fail> {
+    let (status, text) = ended(&rt, rt.alloc(), "run/--scramble/1", SHOP.as_bytes())?;
+    assert_eq!(rt; status, Status::Done);
+    for (front, back) in SHOP_FINALS {
+        assert_eq!(rt; many_lines(&text, front, back), 3, "{front}");
+    }
     Ok(())
 }
 
@@ -446,6 +462,16 @@ fn words_of_no_accepted_form(rt: HostRuntime) -> Result<(), Fail> {
         "run/",
         "run/--scramble",
         "run/--scramble=7",
+        "run/--scramble/",
+        "run/--scramble/x",
+        "run/--scramble/7/7",
+        "run/--scramble/18446744073709551616",
+        "run/--scrambled/7",
+        "run/7",
+        "run/7/--scramble",
+        "--scramble/7",
+        "check/--scramble/7",
+        "big/--scramble/7",
         "Run",
         "run ",
         "--run",

@@ -1,7 +1,7 @@
 use Rattle.std.proofs.Common.{◌≡◌, [], arith, subst, sym}
 use Rattle.std.proofs.lemmas.List.{length-map}
 use Rattle.party_turns.specs.Ends.{mail_of}
-use Rattle.party_ends.specs.AllEnds.{AreNumbered}
+use Rattle.party_ends.specs.Numbers.{AreNumbered}
 use Rattle.party_ends.proofs.AllEndsLemmas.{are_all_ends, told_of_gossip_in}
 use Rattle.party_ends.proofs.MadeLemmas.{are_new, ends_of, of_each_box}
 use Rattle.party_ends.proofs.all_parties.all_ends.Goals as goal

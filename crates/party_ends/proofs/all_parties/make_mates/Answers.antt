@@ -1,6 +1,6 @@
 use Rattle.std.proofs.Common.{◌≡◌, ℕ, None, arith, false, map, subst, sym}
 use Rattle.std.proofs.lemmas.List.{length-map}
-use Rattle.party_ends.specs.AllEnds.{AreNumbered}
+use Rattle.party_ends.specs.Numbers.{AreNumbered}
 use Rattle.party_ends.specs.Dealt.{AreNew}
 use Rattle.party_ends.proofs.MadeLemmas.{are_new, of_each_box, weak_ends_of}
 use Rattle.party_ends.proofs.SettledLemmas.{empty_weak_boxes, keys_stay, may_take_own, still_new}

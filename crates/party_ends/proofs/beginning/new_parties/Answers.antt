@@ -4,7 +4,7 @@ use Rattle.placement.proofs.ConfigLemmas.{placement_is}
 use Rattle.session_known.specs.Script.{IsValidScript}
 use Rattle.session_known.specs.declared.script.Script.{Script}
 use Rattle.parties.specs.Session.{proxy_of}
-use Rattle.party_ends.specs.AllEnds.{AreNumbered}
+use Rattle.party_ends.specs.Numbers.{AreNumbered}
 use Rattle.party_ends.proofs.PartiesLemmas.{are_running, none_kept, none_waits, of_sessions, of_workers, told_of_ends}
 use Rattle.party_ends.proofs.beginning.new_parties.Goals as goal
 

@@ -1,6 +1,6 @@
 use Rattle.std.proofs.Common.{◌+◌, ◌∙◌, ap, arith, map, refl, subst, sym}
 use Rattle.std.proofs.lemmas.List.{length-map}
-use Rattle.party_ends.specs.AllEnds.{AreNumbered}
+use Rattle.party_ends.specs.Numbers.{AreNumbered}
 use Rattle.party_ends.specs.Dealt.{AreMade}
 use Rattle.party_ends.specs.Fresh.{IsFreshWeak}
 use Rattle.party_ends.proofs.DealLemmas.{none_made, one_made}

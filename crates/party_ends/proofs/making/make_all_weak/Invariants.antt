@@ -1,5 +1,5 @@
 use Rattle.std.proofs.Common.{map}
-use Rattle.party_ends.specs.AllEnds.{AreNumbered}
+use Rattle.party_ends.specs.Numbers.{AreNumbered}
 use Rattle.party_ends.specs.Dealt.{AreMade}
 use Rattle.party_ends.specs.Fresh.{IsFreshWeak}
 use Rattle.party_ends.proofs.making.make_all_weak.Given as goal

@@ -1,0 +1,10 @@
+use Rattle.std.proofs.Common.{◌∙◌, ap, sym}
+use Rattle.party_ends.proofs.FreshLemmas.{over_lanes_is_fresh}
+use Rattle.party_ends.proofs.scrambled.ScrambledPostMakesGossipBatch.make_weak.Goals as goal
+
+pub returns-clause-fresh : goal.returns-clause-fresh
+returns-clause-fresh c =
+    let rings = c.in_ok-txs.ensures in
+    let scramble = c.in_ok-mailbox.ensures in
+    over_lanes_is_fresh _ _ _ _ (λ its. its.0) _ _ c.args.senders _ _ rings.numbers rings.sent (rings.pairs ∙ sym (ap (λ its. its.0) scramble.key)) scramble.got
+    (λ sender within. ap (λ known. (known sender).standing) scramble.about ∙ ap (λ known. known.standing) (rings.about sender within.0 within.1))
