@@ -1,10 +1,9 @@
 -- Cells by key and worker: what a call asks of them and answers.
-use Rattle.std.specs.Prelude.{◌≡◌, ◌↔◌, ℕ, ◌-◌, Bool, IsTrue, List, [], ◌∷◌, length, map, replicate, slice_index_or, Result, IfOk}
+use Rattle.std.specs.Prelude.{◌≡◌, ◌↔◌, ℕ, ◌-◌, Bool, IsTrue, List, [], length, map, replicate, slice_index_or, Result, IfOk}
 use Rattle.lattice_laws.specs.declared.lattice.NoMemory.{NoMemory}
 use Rattle.composed_value.specs.Cell.{PlainCell, empty_cell, cell_of}
 use Rattle.composed_value.specs.Sound.{counted}
 use Rattle.composed_value.specs.declared.kind.Kind.{Kind}
-use Rattle.composed_value.specs.declared.kind.Kind.TheVariants.{Max}
 use Rattle.composed_value.specs.declared.put.Put.{Put}
 use Rattle.composed_value.specs.Keyed.{puts_on, kind_at}
 use Rattle.session_known.specs.Accepted.{made_on, AreNext}
@@ -55,7 +54,3 @@ TellsReplySound kind puts key shown result = IsAnsweredOf kind puts key result (
 -- whether a final cell is lawful
 abbrev pub TellsFinalLawful : Kind → List Put → FinalCell → Result Bool NoMemory → Type 0
 TellsFinalLawful kind puts last result = IsAnsweredOf kind puts last.key result (λ kinds accepted. IsLawfulFinal kinds accepted last)
-
--- the cells of one key at one worker, of accepted puts of which these are those on it
-abbrev pub AreOfOneKey : List Put → List (List PlainCell) → Type 0
-AreOfOneKey puts cells = (accepted : List (ℕ × Put)) × (puts ≡ puts_on 1 accepted) × AreOfTheirPuts (Max ∷ []) 1 accepted cells

@@ -162,25 +162,3 @@ impl Changeset {
         self.pairs
     }
 }
-
-#[cfg(test)]
-mod tests {
-    use super::*;
-    use std::test::Fail;
-
-    #[test]
-    fn keeps_pairs_once_and_in_order(rt: HostRuntime) -> Result<(), Fail> {
-        let mut changes = Changeset::new(rt.alloc(), 9, 2)?;
-        changes.mark(1, 7);
-        changes.mark(1, 3);
-        changes.mark(1, 7);
-        changes.mark(0, 5);
-        assert_eq!(rt; changes.keys(0), [5].as_slice());
-        assert_eq!(rt; changes.keys(1), [3, 7].as_slice());
-        assert_eq!(rt; changes.len(), 3);
-        changes.clear(1, 0, 1);
-        assert_eq!(rt; changes.keys(1), [7].as_slice());
-        assert_eq!(rt; changes.len(), 2);
-        Ok(())
-    }
-}

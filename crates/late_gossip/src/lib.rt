@@ -12,6 +12,3 @@
 mod late;
 
 pub use late::Late;
-
-#[cfg(test)]
-mod tests;

@@ -63,19 +63,3 @@ impl<T> From<Vec<T>> for Items<T> {
         Items::new(items)
     }
 }
-
-#[cfg(test)]
-mod tests {
-    use super::*;
-    use std::test::Fail;
-
-    #[test]
-    fn keeps_items_in_order(rt: HostRuntime) -> Result<(), Fail> {
-        let mut items = Items::new(Vec::new(rt.alloc()));
-        items.push(3)?;
-        items.push(1)?;
-        assert_eq!(rt; items.as_slice(), [3, 1].as_slice());
-        assert_eq!(rt; items.into_vec().len(), 2);
-        Ok(())
-    }
-}

@@ -93,18 +93,3 @@ pub trait Lattice: Sized + Drop {
 pub trait AllFit: Lattice {
     ghost all_fit: { (a b : Self.Plain) → Self.fits a b };
 }
-
-#[cfg(test)]
-mod tests {
-    use super::*;
-    use std::test::Fail;
-
-    #[test]
-    fn says_that_memory_ran_out(rt: HostRuntime) -> Result<(), Fail> {
-        assert_eq!(rt;
-            format!(in rt.alloc(); "{NoMemory}")?.as_str(),
-            "out of memory"
-        );
-        Ok(())
-    }
-}

@@ -47,6 +47,3 @@ pub enum Refused<M> {
     /// There was no place for it.
     Full(M),
 }
-
-#[cfg(test)]
-mod tests;

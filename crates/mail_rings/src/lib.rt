@@ -57,6 +57,3 @@ pub fn rings<M: Message + Send>(
     }
     Ok((txs, Gathered::new(alloc, lanes)))
 }
-
-#[cfg(test)]
-mod tests;

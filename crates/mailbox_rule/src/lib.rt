@@ -50,6 +50,3 @@ pub fn queue<M: Message + Send, R: Wait + Copy>(
     }
     Ok((txs, rx))
 }
-
-#[cfg(test)]
-mod tests;

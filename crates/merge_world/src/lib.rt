@@ -18,6 +18,3 @@ pub use event::Event;
 pub use private_map::{KeyCells, PrivateMap};
 pub use run::run_world;
 pub use world::{Took, World};
-
-#[cfg(test)]
-mod tests;

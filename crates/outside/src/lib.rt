@@ -73,6 +73,3 @@ pub trait Sink {
             (Grew (written self.old) (written self.new) (take 0 piece.now)) }
         ensures cause { HasCause (faults self.old) (faults self.new) result };
 }
-
-#[cfg(test)]
-mod tests;

@@ -65,6 +65,3 @@ pub fn read_report(alloc: Global, script: &Script, bytes: &[u8]) -> Result<Repor
     let placement = Placement::build(alloc, &script.config)?;
     read_text(alloc, script, &placement, bytes)
 }
-
-#[cfg(test)]
-mod tests;

@@ -16,6 +16,3 @@ mod values;
 pub use report::{write_final, write_report, write_short};
 pub use report_lines::texts_tell_reports_apart;
 pub use report_reader::{ReportFault, read_report};
-
-#[cfg(test)]
-mod tests;

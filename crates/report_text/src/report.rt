@@ -166,6 +166,3 @@ fn write_finals<K: Sink>(out: &mut Out<'_, K>, script: &Script, finals: &[FinalC
         write_final_line(out, script, cell);
     }
 }
-
-#[cfg(test)]
-mod tests;

@@ -182,6 +182,3 @@ fn read_text(alloc: Global, bytes: &[u8]) -> Result<Script, ScriptFault>
     let lines = lines_of(alloc, bytes)?;
     read_lines(alloc, &lines)
 }
-
-#[cfg(test)]
-mod tests;

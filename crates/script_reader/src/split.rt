@@ -62,31 +62,3 @@ pub fn scripts_are_split_off()
         → IsScript (with_feed text) script → EndsAlone text
         → split_place (text ++ 10 ∷ more) ≡ length text + 1 }
 {}
-
-#[cfg(test)]
-mod tests {
-    use super::*;
-
-    #[test]
-    fn splits_after_the_first_end(rt: HostRuntime) {
-        // An input and its place.
-        let cases = [
-            (b"".as_slice(), 0),
-            (b"end\n", 4),
-            (b"end", 3),
-            (b"end\nend\nb", 4),
-            (b"a\nend\nb\n", 6),
-            (b"a\r\nend\r\nb", 8),
-            (b" \tend \t\nb", 8),
-            (b"\n\nend\n\n", 6),
-            (b"end x\nb", 7),
-            (b"end x\nend\nb", 10),
-            (b"# end\nend\nb", 10),
-            (b"end\r \nb", 7),
-            (b"ends\nEnd\nb", 10),
-        ];
-        for (input, place) in cases {
-            assert_eq!(rt; split_input(input), place, "{input:?}");
-        }
-    }
-}

@@ -87,27 +87,3 @@ pub(crate) fn level(word: &[u8]) -> Option<Level>
         _ => None,
     }
 }
-
-#[cfg(test)]
-mod tests {
-    use super::*;
-
-    #[test]
-    fn reads_numbers(rt: HostRuntime) {
-        // A word and the number that it writes.
-        let cases = [
-            (b"0".as_slice(), Some(0)),
-            (b"007", Some(7)),
-            (b"18446744073709551615", Some(u64::MAX)),
-            (b"018446744073709551615", Some(u64::MAX)),
-            (b"18446744073709551616", None),
-            (b"", None),
-            (b"+1", None),
-            (b"-1", None),
-            (b"1x", None),
-        ];
-        for (word, want) in cases {
-            assert_eq!(rt; number(word), want, "{word:?}");
-        }
-    }
-}

@@ -17,6 +17,3 @@ pub use ends::{Mail, PlainPost, SessionEnds, SessionEndsOver, WorkerEnds, Worker
 pub use meets::{Meets, meet_ends};
 pub use reply::{Answered, Reply};
 pub use request::Request;
-
-#[cfg(test)]
-mod tests;

@@ -7,9 +7,9 @@ use std::alloc::Global;
 use std::test::Fail;
 
 /// A script, and a report that is legal for it.
-type Worked = (&'static str, &'static str);
+pub(crate) type Worked = (&'static str, &'static str);
 
-const FIRST: Worked = (
+pub(crate) const FIRST: Worked = (
     "anna 1\nworkers 1\nkey a max\nsession s eventual\nput a 5\nput a 3\nget a\nend\n",
     "anna report 1\nsession s eventual\nput a 1 at 1\nput a 2 at 2\nget a @1 clock s:2 top 2 value 5\nfinal\na @1 clock s:2 top 2 value 5\nend\n",
 );
@@ -29,6 +29,12 @@ const AT_REPLICAS: Worked = (
 const STALE: Worked = (
     "anna 1\nworkers 2\nkey a max at 1 2\nsession s eventual\nput a 5\nget a 2\nend\n",
     "anna report 1\nsession s eventual\nput a 1 at 1\nget a @2 clock - top 0 value none\nfinal\na @1 clock s:1 top 1 value 5\na @2 clock s:1 top 1 value 5\nend\n",
+);
+
+/// A later session was shown less of a worker than an earlier one: it asked sooner.
+const SHOWN_LESS: Worked = (
+    "anna 1\nworkers 1\nkey a max\nsession s eventual\nput a 5\nput a 7\nget a\nsession t eventual\nget a\nget a\nend\n",
+    "anna report 1\nsession s eventual\nput a 1 at 1\nput a 2 at 2\nget a @1 clock s:2 top 2 value 7\nsession t eventual\nget a @1 clock s:1 top 1 value 5\nget a @1 clock s:1 top 1 value 5\nfinal\na @1 clock s:2 top 2 value 7\nend\n",
 );
 
 /// Two causal sessions that await each other.
@@ -69,7 +75,7 @@ const SHOP: Worked = (
 
 /// Short ones: a key with a factor of its own, an empty cell, the greatest number, replies of the home, two transactions, a held put, and an
 /// await that gives up.
-const SHORT: [Worked; 7] = [
+pub(crate) const SHORT: [Worked; 7] = [
     (
         "anna 2\nworkers 2\nfactor 1\nkey a max factor 2\nkey b max at 2\nsession s eventual\nput a 5\nput b 6\nend\n",
         "anna report 2\nkey a max on 1 2\nkey b max on 2\nsession s eventual\nput a 1 at 1\nput b 1 at 2\nfinal\na @1 clock s:1 top 1 value 5\na @2 clock s:1 top 1 value 5\nb @2 clock s:1 top 2 value 6\nend\n",
@@ -143,21 +149,24 @@ fn cell(key: u16, worker: u16) -> Option<Verdict> {
     Some(Verdict::Final { key, worker })
 }
 
+/// The longer ones.
+pub(crate) const LONG: [Worked; 11] = [
+    FIRST,
+    CONVERGING,
+    AT_REPLICAS,
+    STALE,
+    SHOWN_LESS,
+    PING_PONG,
+    CHAIN,
+    GIVING_UP,
+    HELD,
+    HANDED_OVER,
+    SHOP,
+];
+
 #[test]
 fn worked_reports_are_legal(rt: HostRuntime) -> Result<(), Fail> {
-    let all = [
-        FIRST,
-        CONVERGING,
-        AT_REPLICAS,
-        STALE,
-        PING_PONG,
-        CHAIN,
-        GIVING_UP,
-        HELD,
-        HANDED_OVER,
-        SHOP,
-    ];
-    for worked in all {
+    for worked in LONG {
         assert_eq!(rt; judged_with(rt.alloc(), worked, &[])?, Some(Verdict::Legal));
     }
     for worked in SHORT {

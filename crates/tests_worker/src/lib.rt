@@ -1,4 +1,7 @@
-//! A worker's turns, over plain mail and over rings, worked as tests.
+//! The protocol alone, messages, and a worker's turns, worked as tests.
+//!
+//! In a world of two workers gossip comes late, again and in disorder, and both end in the same cells. A batch holds
+//! sixteen entries, and a reply shows a cell exactly where it covers what is required.
 //!
 //! Over plain mail one of two workers is asked, and what it does in each turn is compared with what it is
 //! to do, and so are its cells, its replies and the keys that it tells of. Over rings two workers go to
@@ -9,8 +12,12 @@
 #![tactic(auto)]
 
 #[cfg(test)]
+mod message_tests;
+#[cfg(test)]
 mod scrambled_tests;
 #[cfg(test)]
 mod tests;
 #[cfg(test)]
 mod thread_tests;
+#[cfg(test)]
+mod world_tests;

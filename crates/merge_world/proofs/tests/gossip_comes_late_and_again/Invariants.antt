@@ -1,6 +1,0 @@
-use Rattle.std.proofs.Common.{◌≤◌, length}
-use Rattle.merge_world.proofs.tests.gossip_comes_late_and_again.Given as goal
-
--- there are few messages
-abbrev pub invariant-loop-what : goal.invariant-loop-what
-invariant-loop-what g l = length l.world.pool ≤ l.what-index
