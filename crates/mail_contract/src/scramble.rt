@@ -121,7 +121,8 @@ fn fill<M, R: Rx<M>>(
     Ok(())
 }
 
-/// A box of gossip in disorder, over a box in order: for tests of what stands on gossip.
+/// A box of gossip in disorder, over a box in order: gossip that is overtaken and repeated, as a network may do it,
+/// by a number that says how.
 ///
 /// Up to eight messages of the inner box are held. A draw chooses the one that is handed out, and whether a
 /// copy of it is, after which the message itself is handed out another time. So each message comes once or
